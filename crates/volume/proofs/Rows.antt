@@ -1,0 +1,169 @@
+-- Rows of the tables of samples: a volume is formatted, a run of calls is made on it, and the row says what is then to be
+-- seen. All of it is computed from the definitions of the calls and from nothing else.
+use Prim.Native.Nat.{ℕ, zero, suc, _+_, _*_, _/_}
+use mathlib.Core.Path.{_≡_, refl}
+use mathlib.Core.Bool.{Bool, true, false, cond, not}
+use mathlib.Core.List.{List, [], _∷_, _++_, map}
+use mathlib.Core.Option.{Option, none, some}
+use lib.ListN.{length, replicate}
+use Rattle.volume.specs.declared.state.State.{State}
+use Rattle.volume.specs.declared.state.Phase.{Phase}
+use Rattle.volume.specs.declared.state.Phase.the-variants.{Running, Parked, Cut}
+use Rattle.volume.specs.Bounded.{at, allBelow, anyBelow, countBelow, best, all, elem, distinct, same, isZero, listFrom, tabled}
+use Rattle.volume.specs.Geometry.{piecesFor, usedBytes}
+use Rattle.volume.specs.Word.{wordsOf, bytesOf, wordSum, startsWith, balanced}
+use Rattle.volume.specs.MapSector.{MapSector, kindOf, encoded, branchesFit, valid, decoded}
+use Rattle.volume.specs.Entry.{blank, complemented, needsFlip, stored, entryFor, restored, isEmpty}
+use Rattle.volume.specs.ParkRecord.{parkRecord, isParkRecord, parkedIn}
+use Rattle.volume.specs.Tables.{Memory, sectorAt, bitAt, memory, placesBelow, sectorsBelow, namedBy, usedBy, freeSectors, consistent, pieceEntries, saysPiece, liveValid}
+use Rattle.volume.specs.Answer.{numberOf, storesOf, wayOf, readsOf, judged}
+use Rattle.volume.specs.Store.{After, applied, storesBelow, performed}
+use Rattle.volume.specs.Format.{formatStores, formatTables, formatAction, imageFits, tablesFit, sizeChecks, formatOf}
+use Rattle.volume.specs.Placing.{firstFree, placedUpTo, placeOf}
+use Rattle.volume.specs.Commit.{touches, branchesIn, olderKey, listing, branchesFor, planned, rank, memberPlace, changedEntries, committedTables, member, dataStore, memberStore, commitStores, commitAction}
+use Rattle.volume.specs.Calls.{stateFits, blocksFit, tablesAgree, commitChecks, commitOf, writeChange, dropChange, roomFor, writeBy, dropBy, writeOf, dropOf, entryReadable, readChecks, blockOf, readJudged, readOf, parkChecks, parkAction, parkOf}
+use Rattle.volume.specs.Recover.{numberIn, pieceIn, entryIn, closingNumber, pieceNumber, tablesFrom, targetWaits, targetsRead, walkStep, walkedFor, walkFrom, branchCount, walkedLog, walkComplete, walkFinding, newestClosing, closedUpTo, scanPlace, signedNumbers, scannedLog, scanDamaged, scanStores, scanFinding, walkStarts, findingFrom, recovered, imageView, recoverOf}
+
+-- A call with its arguments.
+abbrev pub Call : Type 0
+Call = State → Memory → After
+
+-- The same memory, with each sector and each element of the shorter tables computed once.
+held : Memory → Memory
+held m =
+    record {
+      lengths = m .lengths;
+      image = tabled [] (m .lengths .image / 512) (m .image);
+      tables = record {
+        entry = m .tables .entry;
+        place = tabled 0 (m .lengths .places) (m .tables .place);
+        number = tabled 0 (m .lengths .numbers) (m .tables .number);
+        isUsed = tabled false (8 * m .lengths .used) (m .tables .isUsed);
+      };
+    }
+
+-- Each call gets state and memory as the last one left them.
+run : List Call → After → After
+run [] a = a
+run (call ∷ calls) a =
+    let b = call (a .outcome .state) (a .memory) in
+    run calls (record { outcome = b .outcome; memory = held (b .memory) })
+
+-- What the format of a row is lent, and handed: anything, of the right lengths.
+lent : ℕ → ℕ → Memory
+lent n l =
+    memory (replicate (512 * n) 0xAA) (replicate l 7) (replicate (piecesFor l) 7) (replicate (piecesFor l) 7)
+    (replicate (usedBytes n) 255)
+
+anyState : State
+anyState = record { n = 1; l = 2; tail = 3; number = 4; phase = Cut }
+
+pub record Formatted : Type 0 where
+  pub n : ℕ
+  pub l : ℕ
+  pub stores : ℕ
+
+-- The volume after a format and a run of calls.
+unfoldable pub outcomeOf : Formatted → List Call → After
+unfolding held run lent anyState
+outcomeOf f calls =
+    let fresh = formatOf anyState (lent (f .n) (f .l)) (f .l) (f .stores) in
+    run calls (record { outcome = fresh .outcome; memory = held (fresh .memory) })
+
+-- The numbers of the last answer, and of the state.
+pub record Result : Type 0 where
+  pub answer : ℕ
+  pub stores : ℕ
+  pub way : ℕ
+  pub reads : ℕ
+  pub tail : ℕ
+  pub number : ℕ
+
+abbrev pub resultOf : After → Result
+resultOf a =
+    let answer = a .outcome .answer in
+    record {
+      answer = numberOf answer;
+      stores = storesOf answer;
+      way = wayOf answer;
+      reads = readsOf answer;
+      tail = a .outcome .state .tail;
+      number = a .outcome .state .number;
+    }
+
+-- All that is to be seen: the result; the free sectors; for each piece the place, number, kind and branches of its live map
+-- sector; each block that has an entry, with it; for each sector its number where it is signed; word 1 of the tail's
+-- sector; and the 512 bytes of a read of the row's block, 238 each where it is refused.
+pub record Report : Type 0 where
+  pub result : Result
+  pub free : List ℕ
+  pub live : List (List ℕ)
+  pub entries : List (List ℕ)
+  pub sectors : List ℕ
+  pub balance : ℕ
+  pub block : List ℕ
+
+pub record Row : Type 0 where
+  pub format : Formatted
+  pub calls : List Call
+  pub block : ℕ
+  pub says : Report
+
+freeIn : Memory → ℕ → ℕ → List ℕ
+freeIn m k zero = []
+freeIn m k (suc n) = let rest = freeIn m (suc k) n in cond (m .tables .isUsed k) rest (k ∷ rest)
+
+entriesIn : Memory → ℕ → ℕ → List (List ℕ)
+entriesIn m b zero = []
+entriesIn m b (suc n) =
+    let rest = entriesIn m (suc b) n in
+    cond (isEmpty (m .tables .entry b)) rest ((b ∷ m .tables .entry b ∷ []) ∷ rest)
+
+seen : ℕ → Option MapSector → List ℕ
+seen k none = k ∷ []
+seen k (some m) = k ∷ m .number ∷ kindOf (m .closing) ∷ m .branches
+
+-- What stands at the live place of a piece.
+unfoldable pub liveSector : Formatted → Memory → ℕ → List ℕ
+unfolding seen
+liveSector f m p = let k = m .tables .place p in seen k (decoded (f .n) (f .l) (m .image k))
+
+abbrev pub full : ℕ → List ℕ
+full byte = replicate 512 byte
+
+unfoldable pub gives : Row → Report
+unfolding allBelow anyBelow countBelow best all elem distinct same listFrom tabled wordsOf bytesOf wordSum startsWith balanced encoded branchesFit valid decoded complemented needsFlip stored entryFor restored parkRecord isParkRecord parkedIn sectorAt bitAt memory placesBelow sectorsBelow namedBy usedBy freeSectors consistent pieceEntries saysPiece liveValid judged applied storesBelow performed formatStores formatTables formatAction imageFits tablesFit sizeChecks formatOf firstFree placedUpTo placeOf touches branchesIn olderKey listing branchesFor planned rank memberPlace changedEntries committedTables member dataStore memberStore commitStores commitAction stateFits blocksFit tablesAgree commitChecks commitOf writeChange dropChange roomFor writeBy dropBy entryReadable readChecks blockOf readJudged readOf parkChecks parkAction parkOf numberIn pieceIn entryIn closingNumber pieceNumber tablesFrom targetWaits targetsRead walkStep walkedFor walkFrom branchCount walkedLog walkComplete walkFinding newestClosing closedUpTo scanPlace signedNumbers scannedLog scanDamaged scanStores scanFinding walkStarts findingFrom recovered imageView recoverOf outcomeOf liveSector freeIn entriesIn
+gives row =
+    let a = outcomeOf (row .format) (row .calls) in
+    let m = a .memory in
+    let s = a .outcome .state in
+    let n = row .format .n in
+    let l = row .format .l in
+    record {
+      result = resultOf a;
+      free = freeIn m 0 n;
+      live = listFrom (liveSector (row .format) m) 0 (piecesFor l);
+      entries = entriesIn m 0 l;
+      sectors = listFrom (λ k. numberIn (decoded n l (m .image k))) 0 n;
+      balance = at (wordsOf (m .image (s .tail))) 1;
+      block = readOf s m (row .block) (full 238) .out;
+    }
+
+-- The calls, with stores enough or fewer. A write fills each of its blocks with one byte.
+abbrev pub enough : ℕ
+enough = 1000
+
+abbrev pub writeBytes : ℕ → List ℕ → List ℕ → ℕ → Call
+writeBytes head blocks bytes allowance s m = writeOf s m head blocks bytes allowance
+
+abbrev pub write : ℕ → List ℕ → ℕ → ℕ → Call
+write head blocks byte = writeBytes head blocks (replicate (512 * length blocks) byte)
+
+abbrev pub drop : ℕ → List ℕ → ℕ → Call
+drop head blocks allowance s m = dropOf s m head blocks allowance
+
+abbrev pub park : ℕ → Call
+park allowance s m = parkOf s m allowance
+
+abbrev pub recover : ℕ → ℕ → Call
+recover l allowance s m = recoverOf s m l allowance

@@ -1,0 +1,148 @@
+-- Document 01, "Calls": write, drop, read and park. Each has its ordered list of refusals and what it does where none applies.
+use Prim.Native.Nat.{ℕ, suc, _+_, _*_, _-_}
+use mathlib.Core.Bool.{Bool, true, not, _&&_, _||_}
+use mathlib.Core.List.{List, [], _∷_}
+use lib.ListN.{length}
+use lib.Dec.{eqb, ltb}
+use Rattle.volume.specs.declared.state.State.{State}
+use Rattle.volume.specs.declared.state.Outcome.{Outcome}
+use Rattle.volume.specs.declared.answer.Answer.the-variants.{Accepted, Refused}
+use Rattle.volume.specs.declared.answer.Refusal.the-variants.{Size, BufferLength, BlockNumbers, WrongPhase, Inconsistent, NoRoom, NumbersUsedUp}
+use Rattle.volume.specs.declared.answer.Verdict.{Verdict}
+use Rattle.volume.specs.declared.answer.Verdict.the-variants.{Pass, Refuse}
+use Rattle.volume.specs.Bounded.{at, within, all, allBelow}
+use Rattle.volume.specs.Geometry.{sectorBytes, piecesFor, geometryFits}
+use Rattle.volume.specs.MapSector.{View, decoded}
+use Rattle.volume.specs.Entry.{isEmpty, sectorOf, stored, entryFor, restored}
+use Rattle.volume.specs.ParkRecord.{parkRecord}
+use Rattle.volume.specs.Tables.{Memory, sectorAt, freeSectors, consistent, liveValid}
+use Rattle.volume.specs.State.{parkedState, cutState, isRunning, isReadable}
+use Rattle.volume.specs.Answer.{Check, judged}
+use Rattle.volume.specs.Store.{Store, After, Action, performed, unlessRefused}
+use Rattle.volume.specs.Format.{tablesFit}
+use Rattle.volume.specs.Placing.{Rules, base}
+use Rattle.volume.specs.Commit.{Change, commitAction}
+
+-- The sectors of an image, read as map sectors.
+abbrev pub viewOf : ℕ → ℕ → (ℕ → List ℕ) → View
+viewOf n l image = λ k. decoded n l (image k)
+
+-- Refusal 1: N and L of the state are in range, and the image has N sectors.
+unfoldable pub stateFits : State → Memory → Bool
+stateFits s m = eqb (m .lengths .image) (sectorBytes * s .n) && geometryFits (s .n) (s .l)
+
+-- Refusal 3: 1 to 64 strictly ascending block numbers below L, and a head below N.
+unfoldable pub blocksFit : ℕ → ℕ → ℕ → List ℕ → Bool
+blocksFit n l head blocks =
+    within 1 64 (length blocks)
+    && allBelow (λ i. ltb (at blocks i) (at blocks (suc i))) (length blocks - 1)
+    && all (λ b. ltb b l) blocks
+    && ltb head n
+
+-- Refusal 5: the tables are sound, and each live place is signed with its piece, number and entries.
+unfoldable pub tablesAgree : State → Memory → Bool
+tablesAgree s m =
+    consistent (s .n) (s .l) (m .tables) (s .tail) (s .number)
+    && liveValid (s .l) (m .tables) (viewOf (s .n) (s .l) (m .image))
+
+-- The refusals of a commit, 1 to 7. A write's bytes have a length, and a write needs room; a drop passes both.
+unfoldable pub commitChecks : Rules → State → Memory → ℕ → List ℕ → Bool → Bool → List Check
+commitChecks rules s m head blocks bytesFit hasRoom =
+    record { applies = not (stateFits s m); refusal = Size }
+    ∷ record { applies = not (tablesFit m (s .n) (s .l) && bytesFit); refusal = BufferLength }
+    ∷ record { applies = not (blocksFit (s .n) (s .l) head blocks); refusal = BlockNumbers }
+    ∷ record { applies = not (isRunning (s .phase)); refusal = WrongPhase }
+    ∷ record { applies = not (tablesAgree s m); refusal = Inconsistent }
+    ∷ record { applies = not hasRoom; refusal = NoRoom }
+    ∷ record { applies = ltb (rules .greatest) (s .number); refusal = NumbersUsedUp }
+    ∷ []
+
+unfoldable pub commitOf : Rules → State → Memory → ℕ → Change → Bool → Bool → ℕ → After
+commitOf rules s m head change bytesFit hasRoom allowance =
+    unlessRefused (judged (commitChecks rules s m head (change .blocks) bytesFit hasRoom)) s m
+    (performed allowance (commitAction rules s (m .tables) (viewOf (s .n) (s .l) (m .image)) head change) m)
+
+-- A write stores each block, flipped where it begins with the mark, and its entry names the place.
+unfoldable pub writeChange : List ℕ → List ℕ → Change
+writeChange blocks bytes =
+    record {
+      blocks = blocks;
+      dataSectors = length blocks;
+      content = λ i. stored (sectorAt bytes i);
+      entry = λ i place. entryFor (sectorAt bytes i) place;
+    }
+
+-- A drop stores no data, and sets the entries to 0.
+unfoldable pub dropChange : List ℕ → Change
+dropChange blocks = record { blocks = blocks; dataSectors = 0; content = λ _. []; entry = λ _ _. 0 }
+
+-- Refusal 6: a write needs free sectors of at least its blocks + P.
+unfoldable pub roomFor : State → Memory → List ℕ → Bool
+roomFor s m blocks = not (ltb (freeSectors (s .n) (m .tables .isUsed)) (length blocks + piecesFor (s .l)))
+
+unfoldable pub writeBy : Rules → State → Memory → ℕ → List ℕ → List ℕ → ℕ → After
+writeBy rules s m head blocks bytes allowance =
+    commitOf rules s m head (writeChange blocks bytes) (eqb (length bytes) (sectorBytes * length blocks)) (roomFor s m blocks)
+    allowance
+
+unfoldable pub dropBy : Rules → State → Memory → ℕ → List ℕ → ℕ → After
+dropBy rules s m head blocks allowance = commitOf rules s m head (dropChange blocks) true true allowance
+
+abbrev pub writeOf : State → Memory → ℕ → List ℕ → List ℕ → ℕ → After
+writeOf = writeBy base
+
+abbrev pub dropOf : State → Memory → ℕ → List ℕ → ℕ → After
+dropOf = dropBy base
+
+-- Read looks only at its own entry: empty, or its sector lies in 1 to N - 1.
+unfoldable pub entryReadable : ℕ → ℕ → Bool
+entryReadable n entry = isEmpty entry || within 1 (n - 1) (sectorOf entry)
+
+unfoldable pub readChecks : State → Memory → ℕ → ℕ → List Check
+readChecks s m block outLength =
+    record { applies = not (stateFits s m); refusal = Size }
+    ∷ record { applies = not (tablesFit m (s .n) (s .l) && eqb outLength sectorBytes); refusal = BufferLength }
+    ∷ record { applies = not (ltb block (s .l)); refusal = BlockNumbers }
+    ∷ record { applies = not (isReadable (s .phase)); refusal = WrongPhase }
+    ∷ record { applies = not (entryReadable (s .n) (m .tables .entry block)); refusal = Inconsistent }
+    ∷ []
+
+-- A block, as the tables and the image have it.
+unfoldable pub blockOf : Memory → ℕ → List ℕ
+blockOf m block = let entry = m .tables .entry block in restored entry (m .image (sectorOf entry))
+
+-- What a read hands back, and its 512 bytes: an accepted read changes only those.
+pub record ReadAfter : Type 0 where
+  pub outcome : Outcome
+  pub memory : Memory
+  pub out : List ℕ
+
+unfoldable pub readJudged : Verdict → State → Memory → ℕ → List ℕ → ReadAfter
+readJudged Pass s m block out = record { outcome = record { answer = Accepted 0; state = s }; memory = m; out = blockOf m block }
+readJudged (Refuse r) s m block out = record { outcome = record { answer = Refused r; state = s }; memory = m; out = out }
+
+unfoldable pub readOf : State → Memory → ℕ → List ℕ → ReadAfter
+readOf s m block out = readJudged (judged (readChecks s m block (length out))) s m block out
+
+unfoldable pub parkChecks : State → Memory → List Check
+parkChecks s m =
+    record { applies = not (stateFits s m); refusal = Size }
+    ∷ record { applies = not (tablesFit m (s .n) (s .l)); refusal = BufferLength }
+    ∷ record { applies = not (isRunning (s .phase)); refusal = WrongPhase }
+    ∷ record { applies = not (tablesAgree s m); refusal = Inconsistent }
+    ∷ []
+
+-- Park stores the record in sector 0.
+unfoldable pub parkAction : State → Memory → Action
+parkAction s m =
+    record {
+      stores = record { sector = 0; bytes = parkRecord (record { number = s .number; tail = s .tail }) } ∷ [];
+      answer = Accepted;
+      state = parkedState s;
+      tables = m .tables;
+      cutState = cutState s;
+      cutTables = m .tables;
+    }
+
+unfoldable pub parkOf : State → Memory → ℕ → After
+parkOf s m allowance = unlessRefused (judged (parkChecks s m)) s m (performed allowance (parkAction s m) m)

@@ -1,0 +1,41 @@
+-- Document 01, "The volume": the sizes of a volume of N sectors that shows L blocks.
+use Prim.Native.Nat.{ℕ, _+_, _*_, _/_, _%_}
+use mathlib.Core.Bool.{Bool, _&&_}
+use Rattle.volume.specs.Bounded.{within}
+
+-- Bytes of a sector, and of a block.
+abbrev pub sectorBytes : ℕ
+sectorBytes = 512
+
+-- Map entries a piece.
+abbrev pub entriesPerPiece : ℕ
+entriesPerPiece = 96
+
+-- Branches that a map sector has room for.
+abbrev pub branchRoom : ℕ
+branchRoom = 24
+
+abbrev pub mostBlocks : ℕ
+mostBlocks = 24576
+
+abbrev pub mostSectors : ℕ
+mostSectors = 65536
+
+-- P: L / 96 rounded up.
+abbrev pub piecesFor : ℕ → ℕ
+piecesFor l = (l + 95) / entriesPerPiece
+
+-- The piece that holds a block's entry, and where in it.
+abbrev pub pieceOf : ℕ → ℕ
+pieceOf block = block / entriesPerPiece
+
+abbrev pub indexOf : ℕ → ℕ
+indexOf block = block % entriesPerPiece
+
+-- Bytes of a used map: one bit a sector.
+abbrev pub usedBytes : ℕ → ℕ
+usedBytes n = (n + 7) / 8
+
+-- L is 1 to 24,576; N is 2P + 2 to 65,536.
+abbrev pub geometryFits : ℕ → ℕ → Bool
+geometryFits n l = within 1 mostBlocks l && within (2 * piecesFor l + 2) mostSectors n

@@ -1,0 +1,16 @@
+-- What a reader must believe of the volume: every definition of document 01, in its order, one file a subject.
+pub mod Bounded
+pub mod Geometry
+pub mod Word
+pub mod MapSector
+pub mod Entry
+pub mod ParkRecord
+pub mod Tables
+pub mod State
+pub mod Answer
+pub mod Store
+pub mod Format
+pub mod Placing
+pub mod Commit
+pub mod Calls
+pub mod Recover

@@ -1,0 +1,231 @@
+-- Document 01, "Recover": the log is found again by a walk from its tail, or by a scan of all sectors.
+use Prim.Native.Nat.{ℕ, zero, suc, _+_, _-_}
+use mathlib.Core.Bool.{Bool, true, false, cond, not, _&&_, _||_}
+use mathlib.Core.List.{List, [], _∷_, _++_}
+use mathlib.Core.Option.{Option, none, some}
+use lib.ListN.{length}
+use lib.Dec.{eqb, leb, ltb}
+use Rattle.volume.specs.declared.state.State.{State}
+use Rattle.volume.specs.declared.answer.Answer.{Answer}
+use Rattle.volume.specs.declared.answer.Answer.the-variants.{Walked, Scanned, Refused}
+use Rattle.volume.specs.declared.answer.Refusal.{Refusal}
+use Rattle.volume.specs.declared.answer.Refusal.the-variants.{NoLog, DamagedLog}
+use Rattle.volume.specs.Bounded.{at, within, allBelow, anyBelow, best, all, distinct, isZero, tabled, updated}
+use Rattle.volume.specs.Geometry.{piecesFor, pieceOf, indexOf}
+use Rattle.volume.specs.MapSector.{MapSector, View, decoded}
+use Rattle.volume.specs.ParkRecord.{Parked, parkedIn}
+use Rattle.volume.specs.Tables.{Tables, Memory, zeroTables, namedBy, usedBy, consistent}
+use Rattle.volume.specs.State.{freshState, lostState}
+use Rattle.volume.specs.Answer.{judged}
+use Rattle.volume.specs.Store.{Store, storesBelow, After, Action, after, memoryWith, performed, unlessRefused}
+use Rattle.volume.specs.Format.{blankStore, sectorsIn, sizeChecks}
+use Rattle.volume.specs.Commit.{branchesIn}
+
+-- What a sector says as a map sector, 0 where it is not signed: its number, its piece, an entry, its number where it is closing, and
+-- its number where it is of piece p and numbered up to c.
+unfoldable pub numberIn : Option MapSector → ℕ
+numberIn none = 0
+numberIn (some m) = m .number
+
+unfoldable pub pieceIn : Option MapSector → ℕ
+pieceIn none = 0
+pieceIn (some m) = m .piece
+
+unfoldable pub entryIn : ℕ → Option MapSector → ℕ
+entryIn i none = 0
+entryIn i (some m) = at (m .entries) i
+
+unfoldable pub closingNumber : Option MapSector → ℕ
+closingNumber none = 0
+closingNumber (some m) = cond (m .closing) (m .number) 0
+
+unfoldable pub pieceNumber : ℕ → ℕ → Option MapSector → ℕ
+pieceNumber c p none = 0
+pieceNumber c p (some m) = cond (eqb (m .piece) p && leb (m .number) c) (m .number) 0
+
+-- The tables that one live map sector a piece gives.
+unfoldable pub tablesFrom : ℕ → View → (ℕ → ℕ) → Tables
+tablesFrom l view live =
+    let pieces = piecesFor l in
+    let entry = tabled 0 l (λ b. entryIn (indexOf b) (view (live (pieceOf b)))) in
+    let place = tabled 0 pieces live in
+    let named = namedBy l entry place in
+    record { entry = entry; place = place; number = tabled 0 pieces (λ p. numberIn (view (live p))); isUsed = usedBy named }
+
+-- A log that was found: its tables, its tail and the tail's number.
+pub record Log : Type 0 where
+  pub tables : Tables
+  pub tail : ℕ
+  pub number : ℕ
+
+abbrev pub isConsistent : ℕ → ℕ → Log → Bool
+isConsistent n l log = consistent n l (log .tables) (log .tail) (log .number)
+
+-- The walk: for each piece the sector that waits, and the one taken where the piece is done; 0 for none.
+pub record Walk : Type 0 where
+  pub waiting : ℕ → ℕ
+  pub taken : ℕ → ℕ
+
+abbrev pub waitingNumber : View → Walk → ℕ → ℕ
+waitingNumber view w p = cond (isZero (w .waiting p)) 0 (numberIn (view (w .waiting p)))
+
+-- A target that was read waits if signed, lower in number than the holder and of a piece not done; for a piece the highest
+-- waits, of equal ones the first read.
+unfoldable pub targetWaits : View → ℕ → Walk → ℕ → Option MapSector → Walk
+targetWaits view holder w target none = w
+targetWaits view holder w target (some m) =
+    cond (ltb (m .number) holder && isZero (w .taken (m .piece)) && ltb (waitingNumber view w (m .piece)) (m .number))
+    (record { waiting = updated (w .waiting) (m .piece) target; taken = w .taken })
+    w
+
+unfoldable pub targetsRead : View → ℕ → Walk → List ℕ → Walk
+targetsRead view holder w [] = w
+targetsRead view holder w (target ∷ targets) = targetsRead view holder (targetWaits view holder w target (view target)) targets
+
+-- The newest waiting sector is taken, its piece is done, and its branches are read. Nothing happens where none waits.
+unfoldable pub walkStep : ℕ → View → Walk → Walk
+walkStep pieces view w =
+    let p = best (waitingNumber view w) pieces in
+    let k = w .waiting p in
+    let done : Walk = record { waiting = updated (w .waiting) p 0; taken = updated (w .taken) p k } in
+    let read = targetsRead view (numberIn (view k)) done (branchesIn (view k)) in
+    cond (isZero (waitingNumber view w p)) w read
+
+unfoldable pub walkedFor : ℕ → View → Walk → ℕ → Walk
+walkedFor pieces view w zero = w
+walkedFor pieces view w (suc steps) = walkStep pieces view (walkedFor pieces view w steps)
+
+-- From the tail on, at most P sectors are taken.
+unfoldable pub walkFrom : ℕ → View → ℕ → ℕ → ℕ
+walkFrom pieces view tail =
+    let start : Walk = record { waiting = updated (λ _. 0) (pieceIn (view tail)) tail; taken = λ _. 0 } in
+    walkedFor pieces view start pieces .taken
+
+-- The sectors that a walk reads: 2, and the branches of the P live sectors.
+unfoldable pub branchCount : View → (ℕ → ℕ) → ℕ → ℕ
+branchCount view place zero = 0
+branchCount view place (suc p) = branchCount view place p + length (branchesIn (view (place p)))
+
+-- A log that a walk or a scan found, the answer that goes with it, and the sectors to be zeroed.
+pub data Finding : Type 0 where
+  found : Log → (ℕ → Answer) → List Store → Finding
+  missing : Refusal → Finding
+
+-- Sector 0 is zero already.
+abbrev pub isBlank : List ℕ → Bool
+isBlank bytes = all isZero bytes
+
+-- Zeros finally go to sector 0 unless it is zero already.
+abbrev pub parkSectorCleared : Bool → List Store
+parkSectorCleared done = cond done [] (blankStore 0 ∷ [])
+
+-- The walk answers where all P pieces are done and the tables are sound; otherwise the scan does.
+unfoldable pub walkedLog : ℕ → View → Parked → Log
+walkedLog l view parked =
+    record {
+      tables = tablesFrom l view (walkFrom (piecesFor l) view (parked .tail));
+      tail = parked .tail;
+      number = parked .number;
+    }
+
+unfoldable pub walkComplete : ℕ → ℕ → Log → Bool
+walkComplete n l log = allBelow (λ p. not (isZero (log .tables .place p))) (piecesFor l) && isConsistent n l log
+
+unfoldable pub walkFinding : ℕ → ℕ → View → List ℕ → Log → Finding → Finding
+walkFinding n l view sector0 log scan =
+    let reads = 2 + branchCount view (log .tables .place) (piecesFor l) in
+    let walk = found log (Walked reads) (parkSectorCleared (isBlank sector0)) in
+    cond (walkComplete n l log) walk scan
+
+-- The scan. The newest signed closing sector, and C: its number, the highest on a signed closing sector; 0 where there is none.
+unfoldable pub newestClosing : ℕ → View → ℕ
+newestClosing n view = best (λ k. closingNumber (view k)) n
+
+unfoldable pub closedUpTo : ℕ → View → ℕ
+closedUpTo n view = closingNumber (view (newestClosing n view))
+
+-- Each piece's sector is its highest number up to C.
+unfoldable pub scanPlace : ℕ → View → ℕ → ℕ → ℕ
+scanPlace n view c p = best (λ k. pieceNumber c p (view k)) n
+
+-- The numbers of the signed ones of sectors 0 to k - 1.
+unfoldable pub signedNumbers : View → ℕ → List ℕ
+signedNumbers view zero = []
+signedNumbers view (suc k) =
+    let before = signedNumbers view k in
+    cond (isZero (numberIn (view k))) before (numberIn (view k) ∷ before)
+
+unfoldable pub scannedLog : ℕ → ℕ → View → ℕ → Log
+scannedLog n l view c =
+    record {
+      tables = tablesFrom l view (scanPlace n view c);
+      tail = newestClosing n view;
+      number = c;
+    }
+
+-- Two signed sectors with one number, a piece missing, or the tables not sound.
+unfoldable pub scanDamaged : ℕ → ℕ → View → ℕ → Log → Bool
+scanDamaged n l view c log =
+    not (distinct (signedNumbers view n))
+    || anyBelow (λ p. isZero (pieceNumber c p (view (scanPlace n view c p)))) (piecesFor l)
+    || not (isConsistent n l log)
+
+-- A signed sector numbered above C: a member of a commit that never closed.
+abbrev pub isUncommitted : View → ℕ → ℕ → Bool
+isUncommitted view c k = ltb c (numberIn (view k))
+
+-- Zeros over those, ascending, and finally over sector 0 unless it is zero by then.
+unfoldable pub scanStores : ℕ → View → List ℕ → ℕ → List Store
+scanStores n view sector0 c =
+    storesBelow (isUncommitted view c) blankStore n ++ parkSectorCleared (isBlank sector0 || isUncommitted view c 0)
+
+-- 8 is judged before 9.
+unfoldable pub scanFinding : ℕ → ℕ → View → List ℕ → Finding
+scanFinding n l view sector0 =
+    let c = closedUpTo n view in
+    let log = scannedLog n l view c in
+    let scan = found log (Scanned n) (scanStores n view sector0 c) in
+    let judged9 = cond (scanDamaged n l view c log) (missing DamagedLog) scan in
+    cond (isZero c) (missing NoLog) judged9
+
+-- It walks when the park record is laid out as it must be, its tail is a sector from 1 to N - 1, and that sector is signed,
+-- closing and has the record's number.
+unfoldable pub walkStarts : ℕ → Parked → Option MapSector → Bool
+walkStarts n parked none = false
+walkStarts n parked (some m) = within 1 (n - 1) (parked .tail) && m .closing && eqb (m .number) (parked .number)
+
+unfoldable pub findingFrom : ℕ → ℕ → View → List ℕ → Option Parked → Finding
+findingFrom n l view sector0 none = scanFinding n l view sector0
+findingFrom n l view sector0 (some parked) =
+    let scan = scanFinding n l view sector0 in
+    let walk = walkFinding n l view sector0 (walkedLog l view parked) scan in
+    cond (walkStarts n parked (view (parked .tail))) walk scan
+
+abbrev pub findingOf : ℕ → ℕ → View → List ℕ → Finding
+findingOf n l view sector0 = findingFrom n l view sector0 (parkedIn sector0)
+
+-- 8 and 9 leave the image and fill the tables with zeros.
+unfoldable pub recovered : ℕ → ℕ → ℕ → Memory → Finding → After
+recovered n l allowance m (found log answer stores) =
+    performed allowance
+    (record {
+      stores = stores;
+      answer = answer;
+      state = freshState n l (log .tail) (log .number);
+      tables = log .tables;
+      cutState = lostState n l;
+      cutTables = zeroTables;
+    })
+    m
+recovered n l allowance m (missing refusal) =
+    after (record { answer = Refused refusal; state = lostState n l }) (memoryWith m (m .image) zeroTables)
+
+-- An image read as map sectors, each decoded once.
+unfoldable pub imageView : ℕ → ℕ → (ℕ → List ℕ) → View
+imageView n l image = tabled none n (λ k. decoded n l (image k))
+
+unfoldable pub recoverOf : State → Memory → ℕ → ℕ → After
+recoverOf s m l allowance =
+    let n = sectorsIn m in
+    unlessRefused (judged (sizeChecks m l)) s m
+    (recovered n l allowance m (findingOf n l (imageView n l (m .image)) (m .image 0)))
