@@ -1,25 +1,18 @@
 -- What the ten samples leave open, as a second table with a theorem of the same kind: flipping, wrapping, listing, folding,
 -- room, every refusal, the order of zeroing, cuts in a recovery, and images that no history leaves.
-use Prim.Native.Nat.{ℕ, zero, suc, _+_, _*_, _-_, _%_, _^_}
+use Prim.Native.Nat.{ℕ, zero, _+_, _*_, _-_}
 use mathlib.Core.Path.{_≡_, refl}
-use mathlib.Core.Bool.{Bool, true, false, cond}
+use mathlib.Core.Bool.{Bool, true, false}
 use mathlib.Core.List.{List, [], _∷_, map}
-use lib.ListN.{length, replicate, set}
-use lib.Dec.{eqb}
-use Rattle.volume.specs.declared.state.State.{State}
-use Rattle.volume.specs.declared.answer.Answer.the-variants.{Accepted}
+use lib.ListN.{replicate, set}
+use Rattle.types.specs.declared.answer.Answer.the-variants.{Accepted}
 use Rattle.volume.specs.Bounded.{at, listFrom, updated}
-use Rattle.volume.specs.Word.{wordsOf, bytesOf, wordSum}
-use Rattle.volume.specs.MapSector.{MapSector, encoded, decoded}
+use Rattle.volume.specs.MapSector.{encoded}
 use Rattle.volume.specs.Entry.{blank}
 use Rattle.volume.specs.ParkRecord.{parkRecord}
-use Rattle.volume.specs.Tables.{Memory}
-use Rattle.volume.specs.State.{freshState}
-use Rattle.volume.specs.Answer.{numberOf}
-use Rattle.volume.specs.Store.{After, after, memoryWith}
-use Rattle.volume.specs.Calls.{readOf}
-use Rattle.volume.specs.Recover.{numberIn}
-use Rattle.volume.proofs.Rows.{Call, Formatted, Result, resultOf, Row, Report, gives, outcomeOf, liveSector, full, enough, writeBytes, write, drop, park, recover}
+use Rattle.types.specs.State.{freshState}
+use Rattle.volume.specs.Store.{after, memoryWith}
+use Rattle.volume.proofs.Rows.{Call, Formatted, Result, resultOf, Row, gives, outcomeOf, liveSector, full, enough, writeBytes, write, drop, park, recover}
 
 -- What no call does: the image changed by hand, and a volume whose numbers are nearly used up.
 overwritten : ℕ → List ℕ → Call
@@ -32,7 +25,7 @@ copied : ℕ → ℕ → Call
 copied from to s m = overwritten to (m .image from) s m
 
 -- A map sector of volume B with entries zero.
-signed : ℕ → ℕ → Bool → List ℕ → List ℕ
+unfoldable pub signed : ℕ → ℕ → Bool → List ℕ → List ℕ
 signed number piece closing branches =
     encoded 200
     (record { number = number; piece = piece; closing = closing; branches = branches; entries = replicate 96 0 })
@@ -89,12 +82,12 @@ flipped =
       };
     }
 
--- A search from the last sector goes on at 1, where 1 to 3 are used.
+-- A search from the last sector goes on at 1, where 1 to 3 are used. Two stores are just enough.
 wraps : Row
 wraps =
     record {
       format = record { n = 12; l = 200; stores = enough };
-      calls = write 11 (5 ∷ []) 7 enough ∷ [];
+      calls = write 11 (5 ∷ []) 7 2 ∷ [];
       block = 5;
       says = record {
         result = record { answer = 0; stores = 2; way = 0; reads = 0; tail = 4; number = 4 };
@@ -508,14 +501,14 @@ doneAlready : Row
 doneAlready =
     record {
       format = record { n = 12; l = 200; stores = enough };
-      calls = blankAt 1 ∷ blankAt 2 ∷ blankAt 3 ∷ signedAt 7 10 2 true (6 ∷ 5 ∷ []) ∷ signedAt 6 8 0 false [] ∷ signedAt 5 6 1 false (4 ∷ []) ∷ signedAt 4 5 0 false [] ∷ parkedAt 10 7 ∷ recover 200 enough ∷ [];
+      calls = blankAt 1 ∷ blankAt 2 ∷ blankAt 3 ∷ signedAt 7 10 2 true (6 ∷ 5 ∷ []) ∷ signedAt 6 8 0 false (4 ∷ []) ∷ signedAt 5 6 1 false [] ∷ signedAt 4 7 0 false [] ∷ parkedAt 10 7 ∷ recover 200 enough ∷ [];
       block = 5;
       says = record {
         result = record { answer = 0; stores = 1; way = 1; reads = 5; tail = 7; number = 10 };
         free = 1 ∷ 2 ∷ 3 ∷ 4 ∷ 8 ∷ 9 ∷ 10 ∷ 11 ∷ [];
-        live = (6 ∷ 8 ∷ 0 ∷ []) ∷ (5 ∷ 6 ∷ 0 ∷ 4 ∷ []) ∷ (7 ∷ 10 ∷ 1 ∷ 6 ∷ 5 ∷ []) ∷ [];
+        live = (6 ∷ 8 ∷ 0 ∷ 4 ∷ []) ∷ (5 ∷ 6 ∷ 0 ∷ []) ∷ (7 ∷ 10 ∷ 1 ∷ 6 ∷ 5 ∷ []) ∷ [];
         entries = [];
-        sectors = 0 ∷ 0 ∷ 0 ∷ 0 ∷ 5 ∷ 6 ∷ 8 ∷ 10 ∷ 0 ∷ 0 ∷ 0 ∷ 0 ∷ [];
+        sectors = 0 ∷ 0 ∷ 0 ∷ 0 ∷ 7 ∷ 6 ∷ 8 ∷ 10 ∷ 0 ∷ 0 ∷ 0 ∷ 0 ∷ [];
         balance = 0xCEB2B2C8;
         block = blank;
       };
@@ -643,92 +636,3 @@ wide = listed24 ∷ folded25 ∷ []
 wide-holds : map wideGives wide ≡ map (λ w. w .says) wide
 unfolding wideGives wide listed24 folded25
 wide-holds = refl
-
--- Reads, with the length of what they are lent to fill: the number that each answers.
-record Reading : Type 0 where
-  calls : List Call
-  block : ℕ
-  lent : ℕ
-  says : ℕ
-
-readGives : Reading → ℕ
-unfolding gives
-readGives r =
-    let a = outcomeOf (record { n = 12; l = 200; stores = enough }) (r .calls) in
-    numberOf (readOf (a .outcome .state) (a .memory) (r .block) (replicate (r .lent) 238) .outcome .answer)
-
--- The entry of block 5 changed by hand.
-entryIs : ℕ → Call
-entryIs word s m =
-    after (record { answer = Accepted 0; state = s })
-    (memoryWith m (m .image)
-    (record {
-      entry = updated (m .tables .entry) 5 word;
-      place = m .tables .place;
-      number = m .tables .number;
-      isUsed = m .tables .isUsed;
-    }))
-
-readings : List Reading
-readings =
-    record { calls = []; block = 199; lent = 512; says = 0 }
-    ∷ record { calls = park enough ∷ []; block = 5; lent = 512; says = 0 }
-    ∷ record { calls = []; block = 5; lent = 511; says = 2 }
-    ∷ record { calls = []; block = 200; lent = 512; says = 3 }
-    ∷ record { calls = park 0 ∷ []; block = 5; lent = 512; says = 4 }
-    ∷ record { calls = entryIs 12 ∷ []; block = 5; lent = 512; says = 5 }
-    ∷ record { calls = entryIs 0x80000000 ∷ []; block = 5; lent = 512; says = 5 }
-    ∷ record { calls = entryIs 0x8000000B ∷ []; block = 5; lent = 512; says = 0 }
-    ∷ []
-
-readings-hold : map readGives readings ≡ map (λ r. r .says) readings
-unfolding readGives readings entryIs
-readings-hold = refl
-
--- Every condition of "signed". A map sector of volume B (L 200, N 12, three pieces; the last has 8 entries) is signed, and
--- with one word changed, in balance again, it is or is not: the sector's number then, or 0.
-record Altered : Type 0 where
-  word : ℕ
-  value : ℕ
-  says : ℕ
-
--- The bytes of the sector with a word changed. Word 1 takes up the difference, unless it is the one changed.
-altered : Altered → List ℕ
-altered a =
-    let ws = set (wordsOf (signed 5 2 true (7 ∷ []))) (a .word) (a .value) in
-    let rest = wordSum (set ws 1 0) in
-    cond (eqb (a .word) 1) (bytesOf ws) (bytesOf (set ws 1 ((2 ^ 32 - rest) % 2 ^ 32)))
-
-alteredGives : Altered → ℕ
-unfolding gives altered signed
-alteredGives a = numberIn (decoded 12 200 (altered a))
-
-alterations : List Altered
-alterations =
-    record { word = 2; value = 5; says = 5 }
-    ∷ record { word = 0; value = 0x314D4C57; says = 0 }
-    ∷ record { word = 1; value = 1; says = 0 }
-    ∷ record { word = 2; value = 0; says = 0 }
-    ∷ record { word = 2; value = 4294967295; says = 4294967295 }
-    ∷ record { word = 3; value = 1; says = 0 }
-    ∷ record { word = 4; value = 3; says = 0 }
-    ∷ record { word = 4; value = 1; says = 5 }
-    ∷ record { word = 5; value = 0; says = 5 }
-    ∷ record { word = 5; value = 2; says = 0 }
-    ∷ record { word = 6; value = 0; says = 0 }
-    ∷ record { word = 6; value = 2; says = 0 }
-    ∷ record { word = 6; value = 25; says = 0 }
-    ∷ record { word = 7; value = 201; says = 0 }
-    ∷ record { word = 8; value = 0; says = 0 }
-    ∷ record { word = 8; value = 11; says = 5 }
-    ∷ record { word = 8; value = 12; says = 0 }
-    ∷ record { word = 9; value = 1; says = 0 }
-    ∷ record { word = 31; value = 1; says = 0 }
-    ∷ record { word = 39; value = 4294967295; says = 5 }
-    ∷ record { word = 40; value = 1; says = 0 }
-    ∷ record { word = 127; value = 1; says = 0 }
-    ∷ []
-
-alterations-hold : map alteredGives alterations ≡ map (λ a. a .says) alterations
-unfolding alteredGives alterations
-alterations-hold = refl

@@ -1,3 +1,5 @@
+-- The samples of document 01 as theorems, and the rows that pin what they leave open.
 pub mod Rows
 pub mod Samples
 pub mod Corners
+pub mod Conditions

@@ -1,22 +1,21 @@
 -- Rows of the tables of samples: a volume is formatted, a run of calls is made on it, and the row says what is then to be
 -- seen. All of it is computed from the definitions of the calls and from nothing else.
-use Prim.Native.Nat.{ℕ, zero, suc, _+_, _*_, _/_}
-use mathlib.Core.Path.{_≡_, refl}
-use mathlib.Core.Bool.{Bool, true, false, cond, not}
-use mathlib.Core.List.{List, [], _∷_, _++_, map}
+use Prim.Native.Nat.{ℕ, zero, suc, _*_, _/_}
+use mathlib.Core.Bool.{false, cond}
+use mathlib.Core.List.{List, [], _∷_, map}
 use mathlib.Core.Option.{Option, none, some}
 use lib.ListN.{length, replicate}
-use Rattle.volume.specs.declared.state.State.{State}
-use Rattle.volume.specs.declared.state.Phase.{Phase}
-use Rattle.volume.specs.declared.state.Phase.the-variants.{Running, Parked, Cut}
-use Rattle.volume.specs.Bounded.{at, allBelow, anyBelow, countBelow, best, all, elem, distinct, same, isZero, listFrom, tabled}
-use Rattle.volume.specs.Geometry.{piecesFor, usedBytes}
+use Rattle.types.specs.declared.state.State.{State}
+use Rattle.types.specs.declared.state.Phase.the-variants.{Cut}
+use Rattle.volume.specs.Bounded.{at, allBelow, anyBelow, countBelow, best, all, elem, distinct, same, listFrom, tabled}
+use Rattle.types.specs.Geometry.{piecesFor, usedBytes}
 use Rattle.volume.specs.Word.{wordsOf, bytesOf, wordSum, startsWith, balanced}
 use Rattle.volume.specs.MapSector.{MapSector, kindOf, encoded, branchesFit, valid, decoded}
-use Rattle.volume.specs.Entry.{blank, complemented, needsFlip, stored, entryFor, restored, isEmpty}
+use Rattle.volume.specs.Entry.{complemented, needsFlip, stored, entryFor, restored, isEmpty}
 use Rattle.volume.specs.ParkRecord.{parkRecord, isParkRecord, parkedIn}
 use Rattle.volume.specs.Tables.{Memory, sectorAt, bitAt, memory, placesBelow, sectorsBelow, namedBy, usedBy, freeSectors, consistent, pieceEntries, saysPiece, liveValid}
-use Rattle.volume.specs.Answer.{numberOf, storesOf, wayOf, readsOf, judged}
+use Rattle.volume.specs.Refusals.{judged}
+use Rattle.types.specs.Answer.{numberOf, storesOf, wayOf, readsOf}
 use Rattle.volume.specs.Store.{After, applied, storesBelow, performed}
 use Rattle.volume.specs.Format.{formatStores, formatTables, formatAction, imageFits, tablesFit, sizeChecks, formatOf}
 use Rattle.volume.specs.Placing.{firstFree, placedUpTo, placeOf}

@@ -2,17 +2,13 @@
 -- each says what a loop that counts upwards has found so far.
 use Prim.Native.Nat.{ℕ, zero, suc}
 use mathlib.Core.Bool.{Bool, true, false, cond, not, _&&_, _||_}
-use mathlib.Core.List.{List, [], _∷_, _++_}
+use mathlib.Core.List.{List, [], _∷_}
 use lib.ListN.{getD}
-use lib.Dec.{eqb, leb, ltb}
+use lib.Dec.{eqb, ltb}
 
 -- The number at an index, 0 past the end.
 abbrev pub at : List ℕ → ℕ → ℕ
 at xs i = getD xs i 0
-
--- low ≤ x ≤ high.
-abbrev pub within : ℕ → ℕ → ℕ → Bool
-within low high x = leb low x && leb x high
 
 unfoldable pub allBelow : (ℕ → Bool) → ℕ → Bool
 allBelow test zero = true

@@ -4,21 +4,21 @@ use mathlib.Core.Bool.{Bool, true, not, _&&_, _||_}
 use mathlib.Core.List.{List, [], _∷_}
 use lib.ListN.{length}
 use lib.Dec.{eqb, ltb}
-use Rattle.volume.specs.declared.state.State.{State}
-use Rattle.volume.specs.declared.state.Outcome.{Outcome}
-use Rattle.volume.specs.declared.answer.Answer.the-variants.{Accepted, Refused}
-use Rattle.volume.specs.declared.answer.Refusal.the-variants.{Size, BufferLength, BlockNumbers, WrongPhase, Inconsistent, NoRoom, NumbersUsedUp}
-use Rattle.volume.specs.declared.answer.Verdict.{Verdict}
-use Rattle.volume.specs.declared.answer.Verdict.the-variants.{Pass, Refuse}
-use Rattle.volume.specs.Bounded.{at, within, all, allBelow}
-use Rattle.volume.specs.Geometry.{sectorBytes, piecesFor, geometryFits}
+use Rattle.types.specs.declared.state.State.{State}
+use Rattle.types.specs.declared.state.Outcome.{Outcome}
+use Rattle.types.specs.declared.answer.Answer.the-variants.{Accepted, Refused}
+use Rattle.types.specs.declared.answer.Refusal.the-variants.{Size, BufferLength, BlockNumbers, WrongPhase, Inconsistent, NoRoom, NumbersUsedUp}
+use Rattle.types.specs.declared.answer.Verdict.{Verdict}
+use Rattle.types.specs.declared.answer.Verdict.the-variants.{Pass, Refuse}
+use Rattle.volume.specs.Bounded.{at, all, allBelow}
+use Rattle.types.specs.Geometry.{within, sectorBytes, piecesFor, geometryFits}
 use Rattle.volume.specs.MapSector.{View, decoded}
 use Rattle.volume.specs.Entry.{isEmpty, sectorOf, stored, entryFor, restored}
 use Rattle.volume.specs.ParkRecord.{parkRecord}
 use Rattle.volume.specs.Tables.{Memory, sectorAt, freeSectors, consistent, liveValid}
-use Rattle.volume.specs.State.{parkedState, cutState, isRunning, isReadable}
-use Rattle.volume.specs.Answer.{Check, judged}
-use Rattle.volume.specs.Store.{Store, After, Action, performed, unlessRefused}
+use Rattle.types.specs.State.{parkedState, cutState, isRunning, isReadable}
+use Rattle.volume.specs.Refusals.{Check, judged}
+use Rattle.volume.specs.Store.{After, Action, performed, unlessRefused}
 use Rattle.volume.specs.Format.{tablesFit}
 use Rattle.volume.specs.Placing.{Rules, base}
 use Rattle.volume.specs.Commit.{Change, commitAction}

@@ -5,7 +5,7 @@ use mathlib.Core.List.{List, [], _∷_}
 use lib.ListN.{replicate}
 use lib.Dec.{leb}
 use Rattle.volume.specs.Bounded.{isZero}
-use Rattle.volume.specs.Geometry.{sectorBytes}
+use Rattle.types.specs.Geometry.{sectorBytes}
 use Rattle.volume.specs.Word.{startsWith}
 use Rattle.volume.specs.MapSector.{mapMark}
 

@@ -1,19 +1,19 @@
 -- Document 01, "Format".
-use Prim.Native.Nat.{ℕ, suc, _+_, _*_, _/_, _%_}
-use mathlib.Core.Bool.{Bool, true, false, cond, not, _&&_}
+use Prim.Native.Nat.{ℕ, suc, _+_, _/_, _%_}
+use mathlib.Core.Bool.{Bool, true, cond, not, _&&_}
 use mathlib.Core.List.{List, [], _∷_, _++_}
 use lib.ListN.{length, replicate}
 use lib.Dec.{eqb}
-use Rattle.volume.specs.declared.state.State.{State}
-use Rattle.volume.specs.declared.answer.Answer.the-variants.{Accepted}
-use Rattle.volume.specs.declared.answer.Refusal.the-variants.{Size, BufferLength}
+use Rattle.types.specs.declared.state.State.{State}
+use Rattle.types.specs.declared.answer.Answer.the-variants.{Accepted}
+use Rattle.types.specs.declared.answer.Refusal.the-variants.{Size, BufferLength}
 use Rattle.volume.specs.Bounded.{tabled, isZero}
-use Rattle.volume.specs.Geometry.{sectorBytes, piecesFor, entriesPerPiece, usedBytes, geometryFits}
+use Rattle.types.specs.Geometry.{sectorBytes, piecesFor, entriesPerPiece, usedBytes, geometryFits}
 use Rattle.volume.specs.MapSector.{MapSector, encoded}
 use Rattle.volume.specs.Entry.{blank}
-use Rattle.volume.specs.Tables.{Tables, Lengths, Memory, zeroTables, namedBy, usedBy}
-use Rattle.volume.specs.State.{freshState, lostState}
-use Rattle.volume.specs.Answer.{Check, judged}
+use Rattle.volume.specs.Tables.{Tables, Memory, zeroTables, namedBy, usedBy}
+use Rattle.types.specs.State.{freshState, lostState}
+use Rattle.volume.specs.Refusals.{Check, judged}
 use Rattle.volume.specs.Store.{Store, storesBelow, After, Action, performed, unlessRefused}
 
 -- Zeros over a sector.

@@ -1,13 +1,11 @@
 -- What a reader must believe of the volume: every definition of document 01, in its order, one file a subject.
 pub mod Bounded
-pub mod Geometry
 pub mod Word
 pub mod MapSector
 pub mod Entry
 pub mod ParkRecord
 pub mod Tables
-pub mod State
-pub mod Answer
+pub mod Refusals
 pub mod Store
 pub mod Format
 pub mod Placing

@@ -1,12 +1,12 @@
 -- Document 01, "Map sector": how one is made, and when a sector is one ("signed").
-use Prim.Native.Nat.{ℕ, _+_, _*_, _-_}
+use Prim.Native.Nat.{ℕ, _*_, _-_}
 use mathlib.Core.Bool.{Bool, cond, _&&_}
 use mathlib.Core.List.{List, [], _∷_, _++_}
 use mathlib.Core.Option.{Option, none, some}
 use lib.ListN.{length, take, drop, replicate}
 use lib.Dec.{eqb, leb, ltb}
-use Rattle.volume.specs.Bounded.{at, all, isZero, within}
-use Rattle.volume.specs.Geometry.{piecesFor, entriesPerPiece, branchRoom}
+use Rattle.volume.specs.Bounded.{at, all, isZero}
+use Rattle.types.specs.Geometry.{within, piecesFor, entriesPerPiece, branchRoom}
 use Rattle.volume.specs.Word.{wordsOf, wordSum, startsWith, balanced}
 
 -- Bytes 56 4C 4D 31 hexadecimal: "VLM1".

@@ -1,23 +1,23 @@
 -- Document 01, "Recover": the log is found again by a walk from its tail, or by a scan of all sectors.
 use Prim.Native.Nat.{ℕ, zero, suc, _+_, _-_}
-use mathlib.Core.Bool.{Bool, true, false, cond, not, _&&_, _||_}
+use mathlib.Core.Bool.{Bool, false, cond, not, _&&_, _||_}
 use mathlib.Core.List.{List, [], _∷_, _++_}
 use mathlib.Core.Option.{Option, none, some}
 use lib.ListN.{length}
 use lib.Dec.{eqb, leb, ltb}
-use Rattle.volume.specs.declared.state.State.{State}
-use Rattle.volume.specs.declared.answer.Answer.{Answer}
-use Rattle.volume.specs.declared.answer.Answer.the-variants.{Walked, Scanned, Refused}
-use Rattle.volume.specs.declared.answer.Refusal.{Refusal}
-use Rattle.volume.specs.declared.answer.Refusal.the-variants.{NoLog, DamagedLog}
-use Rattle.volume.specs.Bounded.{at, within, allBelow, anyBelow, best, all, distinct, isZero, tabled, updated}
-use Rattle.volume.specs.Geometry.{piecesFor, pieceOf, indexOf}
+use Rattle.types.specs.declared.state.State.{State}
+use Rattle.types.specs.declared.answer.Answer.{Answer}
+use Rattle.types.specs.declared.answer.Answer.the-variants.{Walked, Scanned, Refused}
+use Rattle.types.specs.declared.answer.Refusal.{Refusal}
+use Rattle.types.specs.declared.answer.Refusal.the-variants.{NoLog, DamagedLog}
+use Rattle.volume.specs.Bounded.{at, allBelow, anyBelow, best, all, distinct, isZero, tabled, updated}
+use Rattle.types.specs.Geometry.{within, piecesFor, pieceOf, indexOf}
 use Rattle.volume.specs.MapSector.{MapSector, View, decoded}
 use Rattle.volume.specs.ParkRecord.{Parked, parkedIn}
 use Rattle.volume.specs.Tables.{Tables, Memory, zeroTables, namedBy, usedBy, consistent}
-use Rattle.volume.specs.State.{freshState, lostState}
-use Rattle.volume.specs.Answer.{judged}
-use Rattle.volume.specs.Store.{Store, storesBelow, After, Action, after, memoryWith, performed, unlessRefused}
+use Rattle.types.specs.State.{freshState, lostState}
+use Rattle.volume.specs.Refusals.{judged}
+use Rattle.volume.specs.Store.{Store, storesBelow, After, after, memoryWith, performed, unlessRefused}
 use Rattle.volume.specs.Format.{blankStore, sectorsIn, sizeChecks}
 use Rattle.volume.specs.Commit.{branchesIn}
 
@@ -47,10 +47,10 @@ pieceNumber c p (some m) = cond (eqb (m .piece) p && leb (m .number) c) (m .numb
 unfoldable pub tablesFrom : ℕ → View → (ℕ → ℕ) → Tables
 tablesFrom l view live =
     let pieces = piecesFor l in
-    let entry = tabled 0 l (λ b. entryIn (indexOf b) (view (live (pieceOf b)))) in
     let place = tabled 0 pieces live in
+    let entry = tabled 0 l (λ b. entryIn (indexOf b) (view (place (pieceOf b)))) in
     let named = namedBy l entry place in
-    record { entry = entry; place = place; number = tabled 0 pieces (λ p. numberIn (view (live p))); isUsed = usedBy named }
+    record { entry = entry; place = place; number = tabled 0 pieces (λ p. numberIn (view (place p))); isUsed = usedBy named }
 
 -- A log that was found: its tables, its tail and the tail's number.
 pub record Log : Type 0 where

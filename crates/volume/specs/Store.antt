@@ -4,13 +4,13 @@ use mathlib.Core.Bool.{Bool, cond}
 use mathlib.Core.List.{List, [], _∷_, _++_}
 use lib.ListN.{length, take}
 use lib.Dec.{ltb}
-use Rattle.volume.specs.declared.state.State.{State}
-use Rattle.volume.specs.declared.state.Outcome.{Outcome}
-use Rattle.volume.specs.declared.answer.Refusal.{Refusal}
-use Rattle.volume.specs.declared.answer.Answer.{Answer}
-use Rattle.volume.specs.declared.answer.Answer.the-variants.{Refused, PowerFailed}
-use Rattle.volume.specs.declared.answer.Verdict.{Verdict}
-use Rattle.volume.specs.declared.answer.Verdict.the-variants.{Pass, Refuse}
+use Rattle.types.specs.declared.state.State.{State}
+use Rattle.types.specs.declared.state.Outcome.{Outcome}
+use Rattle.types.specs.declared.answer.Refusal.{Refusal}
+use Rattle.types.specs.declared.answer.Answer.{Answer}
+use Rattle.types.specs.declared.answer.Answer.the-variants.{Refused, PowerFailed}
+use Rattle.types.specs.declared.answer.Verdict.{Verdict}
+use Rattle.types.specs.declared.answer.Verdict.the-variants.{Pass, Refuse}
 use Rattle.volume.specs.Bounded.{updated}
 use Rattle.volume.specs.Tables.{Tables, Memory}
 

@@ -1,12 +1,12 @@
 -- Document 01, "Tables": what a caller lends, seen as functions, and when tables are sound ("consistent" here).
-use Prim.Native.Nat.{ℕ, zero, suc, _+_, _*_, _-_, _/_, _%_, _^_}
-use mathlib.Core.Bool.{Bool, true, false, cond, not, _&&_, _||_, Bool·beq}
+use Prim.Native.Nat.{ℕ, zero, suc, _*_, _-_, _/_, _%_, _^_}
+use mathlib.Core.Bool.{Bool, false, cond, not, _&&_, _||_, Bool·beq}
 use mathlib.Core.List.{List, [], _∷_}
 use mathlib.Core.Option.{Option, none, some}
 use lib.ListN.{length, take, drop}
 use lib.Dec.{eqb, leb}
-use Rattle.volume.specs.Bounded.{at, within, allBelow, countBelow, best, all, elem, distinct, same, listFrom}
-use Rattle.volume.specs.Geometry.{sectorBytes, piecesFor, entriesPerPiece, usedBytes}
+use Rattle.volume.specs.Bounded.{at, allBelow, countBelow, best, all, elem, distinct, same, listFrom}
+use Rattle.types.specs.Geometry.{within, sectorBytes, piecesFor, entriesPerPiece, usedBytes}
 use Rattle.volume.specs.MapSector.{MapSector, View}
 use Rattle.volume.specs.Entry.{isEmpty, sectorOf}
 

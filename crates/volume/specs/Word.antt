@@ -1,9 +1,8 @@
 -- Document 01, "The volume": words of 32 bits, little-endian, and their sum with wrapping at 2^32.
 use Prim.Native.Nat.{ℕ, _+_, _*_, _-_, _/_, _%_, _^_}
-use mathlib.Core.Bool.{Bool, _&&_}
+use mathlib.Core.Bool.{Bool}
 use mathlib.Core.List.{List, [], _∷_, _++_}
-use lib.Dec.{eqb}
-use Rattle.volume.specs.Bounded.{same, isZero}
+use Rattle.volume.specs.Bounded.{same}
 use lib.ListN.{length, take}
 
 abbrev pub word : ℕ → ℕ → ℕ → ℕ → ℕ

@@ -1,4 +1,1 @@
-// The types of the virtual log volume: its geometry, the state that every call hands back, and the answers.
-pub mod answer;
-pub mod geometry;
-pub mod state;
+// The definitions of the virtual log volume, and what is proved of them: specs/ and proofs/ hold all of it, and there is no code.

@@ -3,9 +3,9 @@ use Prim.Native.Nat.{_+_, _*_, _<_, _≤_}
 use native.Mathlib.Omega.{arith}
 use borrow.Author.Needs.{needs}
 use borrow.Author.Tests.{le-leb, lt-leb}
-use Rattle.volume.specs.Geometry.{piecesFor}
-use Rattle.volume.proofs.geometry.Geometry.fits.Statement.{statement}
-use Rattle.volume.proofs.geometry.Geometry.fits.Tie as tie
+use Rattle.types.specs.Geometry.{piecesFor}
+use Rattle.types.proofs.geometry.Geometry.fits.Statement.{statement}
+use Rattle.types.proofs.geometry.Geometry.fits.Tie as tie
 
 returns : tie.Need-returns
 returns c = simp (lt-leb _ _ (c .if1 .taken))

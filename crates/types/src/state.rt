@@ -1,7 +1,7 @@
 // The state of a volume. It goes into every call by value, and every call hands it back.
 use crate::answer::Answer;
 ghost use mathlib.Core.Path.{_≡_};
-ghost use Rattle.volume.specs.State.{parkedState, cutState, committedState, freshState, lostState, isRunning, isReadable};
+ghost use Rattle.types.specs.State.{parkedState, cutState, committedState, freshState, lostState, isRunning, isReadable};
 
 pub enum Phase {
     Running,

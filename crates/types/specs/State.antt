@@ -1,9 +1,9 @@
 -- Document 01: the state that every call hands back, and its phases.
 use Prim.Native.Nat.{ℕ}
 use mathlib.Core.Bool.{Bool, true, false}
-use Rattle.volume.specs.declared.state.State.{State}
-use Rattle.volume.specs.declared.state.Phase.{Phase}
-use Rattle.volume.specs.declared.state.Phase.the-variants.{Running, Parked, Cut}
+use Rattle.types.specs.declared.state.State.{State}
+use Rattle.types.specs.declared.state.Phase.{Phase}
+use Rattle.types.specs.declared.state.Phase.the-variants.{Running, Parked, Cut}
 
 -- The state with another phase.
 abbrev pub inPhase : State → Phase → State

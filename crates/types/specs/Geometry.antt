@@ -1,7 +1,11 @@
 -- Document 01, "The volume": the sizes of a volume of N sectors that shows L blocks.
 use Prim.Native.Nat.{ℕ, _+_, _*_, _/_, _%_}
 use mathlib.Core.Bool.{Bool, _&&_}
-use Rattle.volume.specs.Bounded.{within}
+use lib.Dec.{leb}
+
+-- low ≤ x ≤ high.
+abbrev pub within : ℕ → ℕ → ℕ → Bool
+within low high x = leb low x && leb x high
 
 -- Bytes of a sector, and of a block.
 abbrev pub sectorBytes : ℕ

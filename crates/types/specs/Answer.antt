@@ -1,14 +1,9 @@
--- Document 01, "Numbers a call turns back with": the number and the values that each answer stands for, and the rule that
--- the lowest refusal that applies is the one returned.
+-- Document 01, "Numbers a call turns back with": the number and the values that each answer stands for.
 use Prim.Native.Nat.{ℕ}
-use mathlib.Core.Bool.{Bool, true, false, cond}
-use mathlib.Core.List.{List, [], _∷_}
-use Rattle.volume.specs.declared.answer.Refusal.{Refusal}
-use Rattle.volume.specs.declared.answer.Refusal.the-variants.{Size, BufferLength, BlockNumbers, WrongPhase, Inconsistent, NoRoom, NumbersUsedUp, NoLog, DamagedLog}
-use Rattle.volume.specs.declared.answer.Answer.{Answer}
-use Rattle.volume.specs.declared.answer.Answer.the-variants.{Accepted, Walked, Scanned, Refused, PowerFailed}
-use Rattle.volume.specs.declared.answer.Verdict.{Verdict}
-use Rattle.volume.specs.declared.answer.Verdict.the-variants.{Pass, Refuse}
+use Rattle.types.specs.declared.answer.Refusal.{Refusal}
+use Rattle.types.specs.declared.answer.Refusal.the-variants.{Size, BufferLength, BlockNumbers, WrongPhase, Inconsistent, NoRoom, NumbersUsedUp, NoLog, DamagedLog}
+use Rattle.types.specs.declared.answer.Answer.{Answer}
+use Rattle.types.specs.declared.answer.Answer.the-variants.{Accepted, Walked, Scanned, Refused, PowerFailed}
 
 -- 1 to 3 and 4 are the caller's, 5 the tables', 6 to 9 the volume's.
 abbrev pub refusalNumber : Refusal → ℕ
@@ -53,13 +48,3 @@ readsOf (Walked read stores) = read
 readsOf (Scanned read stores) = read
 readsOf (Refused r) = 0
 readsOf (PowerFailed stores) = 0
-
--- One refusal of a call: when it applies, and which it is.
-pub record Check : Type 0 where
-  pub applies : Bool
-  pub refusal : Refusal
-
--- The first of the list that applies.
-unfoldable pub judged : List Check → Verdict
-judged [] = Pass
-judged (c ∷ cs) = cond (c .applies) (Refuse (c .refusal)) (judged cs)

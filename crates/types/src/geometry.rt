@@ -1,6 +1,6 @@
 // The geometry of a volume: N sectors, of which the host sees L blocks through a map of P pieces.
 ghost use mathlib.Core.Path.{_≡_};
-ghost use Rattle.volume.specs.Geometry.{piecesFor, pieceOf, indexOf, usedBytes, geometryFits};
+ghost use Rattle.types.specs.Geometry.{piecesFor, pieceOf, indexOf, usedBytes, geometryFits};
 
 pub struct Geometry {
     pub n: u32,

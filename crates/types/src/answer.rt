@@ -1,6 +1,6 @@
 // The answers of the calls, and the numbers that document 01 gives them.
 ghost use mathlib.Core.Path.{_≡_};
-ghost use Rattle.volume.specs.Answer.{refusalNumber, numberOf, storesOf, wayOf, readsOf};
+ghost use Rattle.types.specs.Answer.{refusalNumber, numberOf, storesOf, wayOf, readsOf};
 
 // Why a call was turned back: 1 to 9. (10, the power, is an answer of its own, since it counts stores.)
 pub enum Refusal {
