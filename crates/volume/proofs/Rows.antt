@@ -7,13 +7,13 @@ use mathlib.Core.Option.{Option, none, some}
 use lib.ListN.{length, replicate}
 use Rattle.types.specs.declared.state.State.{State}
 use Rattle.types.specs.declared.state.Phase.the-variants.{Cut}
-use Rattle.volume.specs.Bounded.{at, allBelow, anyBelow, countBelow, best, all, elem, distinct, same, listFrom, tabled}
+use Rattle.volume.specs.Bounded.{at, allBelow, anyBelow, countBelow, best, all, elem, distinct, same, listFrom, tabled, gathered}
 use Rattle.types.specs.Geometry.{piecesFor, usedBytes}
 use Rattle.volume.specs.Word.{wordsOf, bytesOf, wordSum, startsWith, balanced}
 use Rattle.volume.specs.MapSector.{MapSector, kindOf, encoded, branchesFit, valid, decoded}
 use Rattle.volume.specs.Entry.{complemented, needsFlip, stored, entryFor, restored, isEmpty}
 use Rattle.volume.specs.ParkRecord.{parkRecord, isParkRecord, parkedIn}
-use Rattle.volume.specs.Tables.{Memory, sectorAt, bitAt, memory, placesBelow, sectorsBelow, namedBy, usedBy, freeSectors, consistent, pieceEntries, saysPiece, liveValid}
+use Rattle.volume.specs.Tables.{Memory, sectorAt, bitAt, memory, namedBy, usedBy, freeSectors, consistent, pieceEntries, saysPiece, liveValid}
 use Rattle.volume.specs.Refusals.{judged}
 use Rattle.types.specs.Answer.{numberOf, storesOf, wayOf, readsOf}
 use Rattle.volume.specs.Store.{After, applied, storesBelow, performed}
@@ -131,7 +131,7 @@ abbrev pub full : ℕ → List ℕ
 full byte = replicate 512 byte
 
 unfoldable pub gives : Row → Report
-unfolding allBelow anyBelow countBelow best all elem distinct same listFrom tabled wordsOf bytesOf wordSum startsWith balanced encoded branchesFit valid decoded complemented needsFlip stored entryFor restored parkRecord isParkRecord parkedIn sectorAt bitAt memory placesBelow sectorsBelow namedBy usedBy freeSectors consistent pieceEntries saysPiece liveValid judged applied storesBelow performed formatStores formatTables formatAction imageFits tablesFit sizeChecks formatOf firstFree placedUpTo placeOf touches branchesIn olderKey listing branchesFor planned rank memberPlace changedEntries committedTables member dataStore memberStore commitStores commitAction stateFits blocksFit tablesAgree commitChecks commitOf writeChange dropChange roomFor writeBy dropBy entryReadable readChecks blockOf readJudged readOf parkChecks parkAction parkOf numberIn pieceIn entryIn closingNumber pieceNumber tablesFrom targetWaits targetsRead walkStep walkedFor walkFrom branchCount walkedLog walkComplete walkFinding newestClosing closedUpTo scanPlace signedNumbers scannedLog scanDamaged scanStores scanFinding walkStarts findingFrom recovered imageView recoverOf outcomeOf liveSector freeIn entriesIn
+unfolding gathered allBelow anyBelow countBelow best all elem distinct same listFrom tabled wordsOf bytesOf wordSum startsWith balanced encoded branchesFit valid decoded complemented needsFlip stored entryFor restored parkRecord isParkRecord parkedIn sectorAt bitAt memory namedBy usedBy freeSectors consistent pieceEntries saysPiece liveValid judged applied storesBelow performed formatStores formatTables formatAction imageFits tablesFit sizeChecks formatOf firstFree placedUpTo placeOf touches branchesIn olderKey listing branchesFor planned rank memberPlace changedEntries committedTables member dataStore memberStore commitStores commitAction stateFits blocksFit tablesAgree commitChecks commitOf writeChange dropChange roomFor writeBy dropBy entryReadable readChecks blockOf readJudged readOf parkChecks parkAction parkOf numberIn pieceIn entryIn closingNumber pieceNumber tablesFrom targetWaits targetsRead walkStep walkedFor walkFrom branchCount walkedLog walkComplete walkFinding newestClosing closedUpTo scanPlace signedNumbers scannedLog scanDamaged scanStores scanFinding walkStarts findingFrom recovered imageView recoverOf outcomeOf liveSector freeIn entriesIn
 gives row =
     let a = outcomeOf (row .format) (row .calls) in
     let m = a .memory in

@@ -48,6 +48,16 @@ same [] (y ∷ ys) = false
 same (x ∷ xs) [] = false
 same (x ∷ xs) (y ∷ ys) = eqb x y && same xs ys
 
+abbrev pub always : ℕ → Bool
+always k = true
+
+-- `others`, and in front of them the values of those of 0 to n - 1 that pass the test.
+unfoldable pub gathered : (ℕ → Bool) → (ℕ → ℕ) → List ℕ → ℕ → List ℕ
+gathered test value others zero = others
+gathered test value others (suc n) =
+    let before = gathered test value others n in
+    cond (test n) (value n ∷ before) before
+
 abbrev pub isZero : ℕ → Bool
 isZero x = eqb x 0
 

@@ -7,13 +7,12 @@ use lib.ListN.{length}
 use lib.Dec.{eqb, ltb}
 use Rattle.types.specs.declared.state.State.{State}
 use Rattle.types.specs.declared.answer.Answer.the-variants.{Accepted}
-use Rattle.volume.specs.Bounded.{at, anyBelow, countBelow, best, elem, isZero, listFrom, tabled, updated}
+use Rattle.volume.specs.Bounded.{at, anyBelow, countBelow, best, elem, isZero, listFrom, tabled, updated, always}
 use Rattle.types.specs.Geometry.{piecesFor, pieceOf}
 use Rattle.volume.specs.MapSector.{MapSector, View, encoded}
 use Rattle.volume.specs.Tables.{Tables, namedBy, usedBy, pieceEntries}
 use Rattle.types.specs.State.{committedState, cutState}
 use Rattle.volume.specs.Store.{Store, storesBelow, Action}
-use Rattle.volume.specs.Format.{always}
 use Rattle.volume.specs.Placing.{Rules, placeOf}
 
 -- What a commit does to the blocks it names: how many data sectors it stores and what stands in each, and the entry that

@@ -7,7 +7,7 @@ use lib.Dec.{eqb}
 use Rattle.types.specs.declared.state.State.{State}
 use Rattle.types.specs.declared.answer.Answer.the-variants.{Accepted}
 use Rattle.types.specs.declared.answer.Refusal.the-variants.{Size, BufferLength}
-use Rattle.volume.specs.Bounded.{tabled, isZero}
+use Rattle.volume.specs.Bounded.{tabled, isZero, always}
 use Rattle.types.specs.Geometry.{sectorBytes, piecesFor, entriesPerPiece, usedBytes, geometryFits}
 use Rattle.volume.specs.MapSector.{MapSector, encoded}
 use Rattle.volume.specs.Entry.{blank}
@@ -34,9 +34,6 @@ freshPiece l p =
 
 abbrev pub pieceStore : ℕ → ℕ → Store
 pieceStore l p = record { sector = suc p; bytes = encoded l (freshPiece l p) }
-
-abbrev pub always : ℕ → Bool
-always k = true
 
 -- Zeros in every sector, ascending, then the pieces.
 unfoldable pub formatStores : ℕ → ℕ → List Store

@@ -10,7 +10,7 @@ use Rattle.types.specs.declared.answer.Answer.{Answer}
 use Rattle.types.specs.declared.answer.Answer.the-variants.{Walked, Scanned, Refused}
 use Rattle.types.specs.declared.answer.Refusal.{Refusal}
 use Rattle.types.specs.declared.answer.Refusal.the-variants.{NoLog, DamagedLog}
-use Rattle.volume.specs.Bounded.{at, allBelow, anyBelow, best, all, distinct, isZero, tabled, updated}
+use Rattle.volume.specs.Bounded.{at, allBelow, anyBelow, best, all, distinct, isZero, tabled, updated, gathered}
 use Rattle.types.specs.Geometry.{within, piecesFor, pieceOf, indexOf}
 use Rattle.volume.specs.MapSector.{MapSector, View, decoded}
 use Rattle.volume.specs.ParkRecord.{Parked, parkedIn}
@@ -148,12 +148,9 @@ closedUpTo n view = closingNumber (view (newestClosing n view))
 unfoldable pub scanPlace : ℕ → View → ℕ → ℕ → ℕ
 scanPlace n view c p = best (λ k. pieceNumber c p (view k)) n
 
--- The numbers of the signed ones of sectors 0 to k - 1.
+-- The numbers of all signed sectors.
 unfoldable pub signedNumbers : View → ℕ → List ℕ
-signedNumbers view zero = []
-signedNumbers view (suc k) =
-    let before = signedNumbers view k in
-    cond (isZero (numberIn (view k))) before (numberIn (view k) ∷ before)
+signedNumbers view n = gathered (λ k. not (isZero (numberIn (view k)))) (λ k. numberIn (view k)) [] n
 
 unfoldable pub scannedLog : ℕ → ℕ → View → ℕ → Log
 scannedLog n l view c =

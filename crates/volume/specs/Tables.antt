@@ -1,11 +1,11 @@
 -- Document 01, "Tables": what a caller lends, seen as functions, and when tables are sound ("consistent" here).
-use Prim.Native.Nat.{ℕ, zero, suc, _*_, _-_, _/_, _%_, _^_}
+use Prim.Native.Nat.{ℕ, _*_, _-_, _/_, _%_, _^_}
 use mathlib.Core.Bool.{Bool, false, cond, not, _&&_, _||_, Bool·beq}
 use mathlib.Core.List.{List, [], _∷_}
 use mathlib.Core.Option.{Option, none, some}
 use lib.ListN.{length, take, drop}
 use lib.Dec.{eqb, leb}
-use Rattle.volume.specs.Bounded.{at, allBelow, countBelow, best, all, elem, distinct, same, listFrom}
+use Rattle.volume.specs.Bounded.{at, allBelow, countBelow, best, all, elem, distinct, same, listFrom, always, gathered}
 use Rattle.types.specs.Geometry.{within, sectorBytes, piecesFor, entriesPerPiece, usedBytes}
 use Rattle.volume.specs.MapSector.{MapSector, View}
 use Rattle.volume.specs.Entry.{isEmpty, sectorOf}
@@ -58,21 +58,10 @@ memory image map places numbers used =
 abbrev pub zeroTables : Tables
 zeroTables = record { entry = λ _. 0; place = λ _. 0; number = λ _. 0; isUsed = λ _. false }
 
--- The live places of pieces 0 to p - 1.
-unfoldable pub placesBelow : (ℕ → ℕ) → ℕ → List ℕ
-placesBelow place zero = []
-placesBelow place (suc p) = place p ∷ placesBelow place p
-
--- `others`, and the sectors of the non-zero entries of blocks 0 to b - 1.
-unfoldable pub sectorsBelow : List ℕ → (ℕ → ℕ) → ℕ → List ℕ
-sectorsBelow others entry zero = others
-sectorsBelow others entry (suc b) =
-    let before = sectorsBelow others entry b in
-    cond (isEmpty (entry b)) before (sectorOf (entry b) ∷ before)
-
 -- Every sector that the tables name: the live places, and the sectors of all non-zero entries.
 unfoldable pub namedBy : ℕ → (ℕ → ℕ) → (ℕ → ℕ) → List ℕ
-namedBy l entry place = sectorsBelow (placesBelow place (piecesFor l)) entry l
+namedBy l entry place =
+    gathered (λ b. not (isEmpty (entry b))) (λ b. sectorOf (entry b)) (gathered always place [] (piecesFor l)) l
 
 -- The used map of such tables: exactly sector 0 and the sectors they name.
 unfoldable pub usedBy : List ℕ → ℕ → Bool
@@ -94,7 +83,7 @@ consistent n l t tail number =
     && distinct named
     && allBelow (λ k. Bool·beq (t .isUsed k) (usedBy named k)) (8 * usedBytes n)
     && leb p (freeSectors n (t .isUsed))
-    && distinct (placesBelow (t .number) p)
+    && distinct (gathered always (t .number) [] p)
     && allBelow (λ q. leb 1 (t .number q)) p
     && eqb tail (t .place newest)
     && eqb number (t .number newest)
