@@ -1,6 +1,7 @@
 -- The samples of document 01 as theorems, and the rows that pin what they leave open.
 pub mod Bounded
 pub mod Codec
+pub mod Names
 pub mod Rows
 pub mod Samples
 pub mod Corners
