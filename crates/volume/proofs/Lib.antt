@@ -2,6 +2,7 @@
 pub mod Bounded
 pub mod Codec
 pub mod Names
+pub mod Placing
 pub mod Rows
 pub mod Samples
 pub mod Corners
