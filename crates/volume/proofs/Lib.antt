@@ -3,6 +3,7 @@ pub mod Bounded
 pub mod Codec
 pub mod Names
 pub mod Placing
+pub mod Stores
 pub mod Rows
 pub mod Samples
 pub mod Corners
