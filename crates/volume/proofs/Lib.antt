@@ -4,6 +4,7 @@ pub mod Codec
 pub mod Names
 pub mod Placing
 pub mod Stores
+pub mod Invariant
 pub mod Rows
 pub mod Samples
 pub mod Corners

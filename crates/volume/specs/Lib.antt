@@ -12,3 +12,4 @@ pub mod Placing
 pub mod Commit
 pub mod Calls
 pub mod Recover
+pub mod History
