@@ -5,6 +5,7 @@ pub mod Names
 pub mod Placing
 pub mod Stores
 pub mod Invariant
+pub mod Scan
 pub mod Rows
 pub mod Samples
 pub mod Corners
