@@ -6,6 +6,7 @@ pub mod Placing
 pub mod Stores
 pub mod Invariant
 pub mod Scan
+pub mod Clearing
 pub mod Rows
 pub mod Samples
 pub mod Corners

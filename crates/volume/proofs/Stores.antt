@@ -57,7 +57,7 @@ among-cut s (suc k) (x ∷ xs) r h a =
     (λ b. later (among-cut s k xs r (le-of-suc-le-suc h) b)) (among-cases s x (take k (xs ++ (r ∷ []))) a)
 
 -- A sector is as it was and no store goes there, or it holds what some store of the list brings.
-pub Outcome : List Store → (ℕ → List ℕ) → ℕ → Type 0
+unfoldable pub Outcome : List Store → (ℕ → List ℕ) → ℕ → Type 0
 Outcome ss image k =
     ((applied ss image k ≡ image k) × ((s : Store) → Among s ss → s .sector ≡ k → ⊥))
     ⊎ ((s : Store) × Among s ss × (s .sector ≡ k) × (applied ss image k ≡ s .bytes))
