@@ -233,6 +233,22 @@ module _ (test other : ℕ → Bool) where
       ⊎-elim (λ (y : test n ≡ true). rw (count-hit test n y, count-hit other n (f n (omega arith) y)) (omega arith))
       (λ (y : test n ≡ false). rw (count-miss test n y) (omega arith)) (bool? (test n))
 
+  -- And one that passes the other does not pass the one.
+  pub count-less : (n b : ℕ) → ((k : ℕ) → k < n → test k ≡ true → other k ≡ true) → b < n → test b ≡ false → other b ≡ true
+    → countBelow test n < countBelow other n
+  unfolding countBelow
+  count-less zero b f h e g = absurd (not-suc-le-zero h)
+  count-less (suc n) b f h e g =
+      ⊎-elim (λ (z : b ≡ n).
+        let r = count-fewer n (λ k i. f k (omega arith)) in
+        rw (count-miss test n (ap test (sym z) ∙ e), count-hit other n (ap other (sym z) ∙ g)) (omega arith))
+      (λ (z : b < n).
+        let r = count-less n b (λ k i. f k (omega arith)) z e g in
+        let m = count-grows other n (suc n) (omega arith) in
+        ⊎-elim (λ (y : test n ≡ true). rw (count-hit test n y, count-hit other n (f n (omega arith) y)) (omega arith))
+        (λ (y : test n ≡ false). rw (count-miss test n y) (omega arith)) (bool? (test n)))
+      (suc-cases h)
+
 -- The greatest key.
 
 module _ (key : ℕ → ℕ) where

@@ -7,6 +7,7 @@ pub mod Stores
 pub mod Invariant
 pub mod Scan
 pub mod Clearing
+pub mod Listing
 pub mod Rows
 pub mod Samples
 pub mod Corners
