@@ -9,7 +9,7 @@ use native.Mathlib.Omega.{arith}
 use lib.ListN.{length, getD}
 use lib.Dec.{leb, ltb, eqb}
 use borrow.Author.Tests.{ltb-true, ltb-false, lt-ltb, le-ltb, eqb-true, eqb-false, eq-eqb, ne-eqb}
-use Rattle.volume.specs.Bounded.{allBelow, anyBelow, countBelow, best, all, elem, distinct, gathered, listFrom, tabled, updated}
+use Rattle.volume.specs.Bounded.{allBelow, anyBelow, countBelow, best, all, elem, distinct, gathered, listFrom, tabled, updated, updates}
 
 -- Deciding.
 
@@ -83,6 +83,31 @@ module _ {A : Type 0} where
 
   pub updated-other : (f : ℕ → A) (k j : ℕ) (v : A) → (j ≡ k → ⊥) → updated f k v j ≡ f j
   updated-other f k j v h = cond-false (eqb j k) v (f j) (ne-eqb j k h)
+
+  pub updates-other : (f : ℕ → A) (place : ℕ → ℕ) (value : ℕ → A) (n k : ℕ) → ((i : ℕ) → i < n → place i ≡ k → ⊥) → updates f place value n k ≡ f k
+  unfolding updates
+  updates-other f place value zero k h = refl
+  updates-other f place value (suc n) k h =
+      updated-other (updates f place value n) (place n) k (value n) (λ (e : k ≡ place n). h n (omega arith) (sym e))
+      ∙ updates-other f place value n k (λ i b. h i (omega arith))
+
+  pub updates-at : (f : ℕ → A) (place : ℕ → ℕ) (value : ℕ → A) (n i : ℕ) → i < n
+    → ((j k : ℕ) → j < k → k < n → place j ≡ place k → ⊥) → updates f place value n (place i) ≡ value i
+  unfolding updates
+  updates-at f place value zero i h apart = absurd (not-suc-le-zero h)
+  updates-at f place value (suc n) i h apart =
+      ⊎-elim (λ (z : i ≡ n).
+        rw z (updated-here (updates f place value n) (place n) (value n)))
+      (λ (z : i < n).
+        updated-other (updates f place value n) (place n) (place i) (value n) (apart i n z (omega arith))
+        ∙ updates-at f place value n i z (λ j k a b. apart j k a (omega arith)))
+      (suc-cases h)
+
+  pub listFrom-same : (f g : ℕ → A) (from n : ℕ) → ((k : ℕ) → from ≤ k → k < from + n → f k ≡ g k) → listFrom f from n ≡ listFrom g from n
+  unfolding listFrom
+  listFrom-same f g from zero h = refl
+  listFrom-same f g from (suc n) h =
+      λ i. _∷_ (h from (omega arith) (omega arith) i) (listFrom-same f g (suc from) n (λ k a b. h k (omega arith) (omega arith)) i)
 
   pub length-listFrom : (f : ℕ → A) (from n : ℕ) → length (listFrom f from n) ≡ n
   unfolding listFrom

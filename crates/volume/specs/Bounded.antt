@@ -74,3 +74,8 @@ module _ {A : Type 0} where
   -- f with another value at one place.
   abbrev pub updated : (ℕ → A) → ℕ → A → ℕ → A
   updated f place value k = cond (eqb k place) value (f k)
+
+  -- f with the values of 0 to n - 1 put at their places, in order.
+  unfoldable pub updates : (ℕ → A) → (ℕ → ℕ) → (ℕ → A) → ℕ → ℕ → A
+  updates f place value zero = f
+  updates f place value (suc n) = updated (updates f place value n) (place n) (value n)

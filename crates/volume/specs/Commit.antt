@@ -7,7 +7,7 @@ use lib.ListN.{length}
 use lib.Dec.{eqb, ltb}
 use Rattle.types.specs.declared.state.State.{State}
 use Rattle.types.specs.declared.answer.Answer.the-variants.{Accepted}
-use Rattle.volume.specs.Bounded.{at, anyBelow, countBelow, best, elem, isZero, listFrom, tabled, updated, always}
+use Rattle.volume.specs.Bounded.{at, anyBelow, countBelow, best, elem, isZero, listFrom, tabled, updates, always}
 use Rattle.types.specs.Geometry.{piecesFor, pieceOf}
 use Rattle.volume.specs.MapSector.{MapSector, View, encoded}
 use Rattle.volume.specs.Tables.{Tables, namedBy, usedBy, pieceEntries}
@@ -93,16 +93,15 @@ rank plan p = countBelow (plan .written) p
 unfoldable pub memberPlace : Plan → ℕ → ℕ
 memberPlace plan j = at (plan .places) (plan .dataSectors + j)
 
--- The entries after the commit: those of the first i named blocks are changed.
-unfoldable pub changedEntries : Plan → Change → (ℕ → ℕ) → ℕ → ℕ → ℕ
-changedEntries plan change entry zero = entry
-changedEntries plan change entry (suc i) =
-    updated (changedEntries plan change entry i) (at (change .blocks) i) ((change .entry) i (at (plan .places) i))
+-- The entries after the commit: each named block has its new one.
+unfoldable pub changedEntries : Plan → Change → (ℕ → ℕ) → ℕ → ℕ
+changedEntries plan change entry =
+    updates entry (at (change .blocks)) (λ i. (change .entry) i (at (plan .places) i)) (length (change .blocks))
 
 -- The tables that a whole commit leaves.
 unfoldable pub committedTables : State → Tables → Plan → Change → Tables
 committedTables s t plan change =
-    let entry = changedEntries plan change (t .entry) (length (change .blocks)) in
+    let entry = changedEntries plan change (t .entry) in
     let place : ℕ → ℕ = λ p. cond (plan .written p) (memberPlace plan (rank plan p)) (t .place p) in
     let named = namedBy (s .l) entry place in
     record {

@@ -1,5 +1,5 @@
 -- Document 01, "Whole histories": lists of calls, the plain disk, and what is live in an image.
-use Prim.Native.Nat.{ℕ, zero, suc, _<_}
+use Prim.Native.Nat.{ℕ, _<_}
 use mathlib.Core.Path.{_≡_}
 use mathlib.Core.Bool.{Bool, true, false, cond}
 use mathlib.Core.List.{List, [], _∷_}
@@ -7,7 +7,7 @@ use mathlib.Core.Option.{Option, some}
 use lib.ListN.{length}
 use Rattle.types.specs.declared.state.State.{State}
 use Rattle.types.specs.Answer.{numberOf}
-use Rattle.volume.specs.Bounded.{at, elem, isZero, updated}
+use Rattle.volume.specs.Bounded.{at, elem, isZero, updates}
 use Rattle.volume.specs.MapSector.{MapSector, View}
 use Rattle.volume.specs.Entry.{blank}
 use Rattle.volume.specs.Tables.{Memory, sectorAt, namedBy}
@@ -52,15 +52,14 @@ Disk = ℕ → List ℕ
 abbrev pub zeroDisk : Disk
 zeroDisk b = blank
 
--- The first i of the named blocks hold this.
-unfoldable pub putBlocks : Disk → List ℕ → (ℕ → List ℕ) → ℕ → Disk
-putBlocks disk blocks content zero = disk
-putBlocks disk blocks content (suc i) = updated (putBlocks disk blocks content i) (at blocks i) (content i)
+-- The named blocks hold this.
+unfoldable pub putBlocks : Disk → List ℕ → (ℕ → List ℕ) → Disk
+putBlocks disk blocks content = updates disk (at blocks) content (length blocks)
 
 -- It sees of a call only its kind, block numbers, bytes and whether it was accepted.
 unfoldable pub diskAfter : Call → Bool → Disk → Disk
-diskAfter (write head blocks bytes allowance) ok disk = cond ok (putBlocks disk blocks (sectorAt bytes) (length blocks)) disk
-diskAfter (drop head blocks allowance) ok disk = cond ok (putBlocks disk blocks (λ _. blank) (length blocks)) disk
+diskAfter (write head blocks bytes allowance) ok disk = cond ok (putBlocks disk blocks (sectorAt bytes)) disk
+diskAfter (drop head blocks allowance) ok disk = cond ok (putBlocks disk blocks (λ _. blank)) disk
 diskAfter (read block out) ok disk = disk
 diskAfter (park allowance) ok disk = disk
 diskAfter (recover allowance) ok disk = disk
