@@ -8,6 +8,7 @@ pub mod Invariant
 pub mod Scan
 pub mod Clearing
 pub mod Listing
+pub mod Room
 pub mod Rows
 pub mod Samples
 pub mod Corners
