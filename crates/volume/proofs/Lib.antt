@@ -9,6 +9,7 @@ pub mod Scan
 pub mod Clearing
 pub mod Listing
 pub mod Room
+pub mod Plan
 pub mod Rows
 pub mod Samples
 pub mod Corners
