@@ -218,6 +218,17 @@ module _ (test : ℕ → Bool) where
       let s = count-hit m e in
       omega arith
 
+  -- Each number below the count is the count before some hit.
+  pub count-nth : (n j : ℕ) → j < countBelow test n → (p : ℕ) × (p < n) × (test p ≡ true) × (countBelow test p ≡ j)
+  unfolding countBelow
+  count-nth zero j h = absurd (not-suc-le-zero h)
+  count-nth (suc n) j h =
+      let lower : j < countBelow test n → (p : ℕ) × (p < suc n) × (test p ≡ true) × (countBelow test p ≡ j) =
+          λ b. let w = count-nth n j b in (w .0, omega arith, w .2, w .3) in
+      ⊎-elim (λ (z : test n ≡ true).
+        ⊎-elim (λ (y : j ≡ countBelow test n). (n, omega arith, z, sym y)) lower (suc-cases (rw (count-hit n z) at h)))
+      (λ (z : test n ≡ false). lower (rw (count-miss n z) at h)) (bool? (test n))
+
 -- Two tests compared.
 
 module _ (test other : ℕ → Bool) where

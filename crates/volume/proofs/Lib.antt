@@ -10,6 +10,8 @@ pub mod Clearing
 pub mod Listing
 pub mod Room
 pub mod Plan
+pub mod Members
+pub mod CutCommit
 pub mod Rows
 pub mod Samples
 pub mod Corners
