@@ -54,7 +54,7 @@ module _ (g : Start) where
   stores-are = refl
 
   -- A store of the commit: a data sector, or a member that is allowed.
-  pub Kind : (ℕ → Type 0) → Store → Type 0
+  unfoldable pub Kind : (ℕ → Type 0) → Store → Type 0
   Kind Allowed r =
       ((i : ℕ) × (i < change .dataSectors) × (r ≡ dataOf i)) ⊎ ((p : ℕ) × (plan g .written p ≡ true) × Allowed p × (r ≡ mapOf p))
 

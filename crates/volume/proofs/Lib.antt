@@ -12,6 +12,7 @@ pub mod Room
 pub mod Plan
 pub mod Members
 pub mod CutCommit
+pub mod WholeCommit
 pub mod Rows
 pub mod Samples
 pub mod Corners

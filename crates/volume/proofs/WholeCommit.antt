@@ -1,0 +1,297 @@
+-- A whole commit: its tables are sound, its image says so, and from its tail every live map sector is reached.
+use Prim.Native.Nat.{ℕ, zero, suc, _+_, _*_, _-_, _^_, min, _≤_, _<_}
+use mathlib.Core.Path.{_≡_, refl, sym, _∙_, ap, subst}
+use mathlib.Core.Logic.{_⊎_, inl, inr, ⊎-elim}
+use mathlib.Core.Bool.{Bool, true, false, cond, not, _||_, true≢false}
+use mathlib.Core.List.{List, [], _∷_, _++_}
+use mathlib.Core.Option.{Option, none, some}
+use native.Mathlib.Omega.{arith}
+use lib.ListN.{length}
+use lib.Dec.{eqb, ltb}
+use borrow.Author.Tests.{eq-eqb, eqb-true}
+use Rattle.types.specs.Geometry.{piecesFor, usedBytes}
+use Rattle.volume.specs.Bounded.{at, always, best, countBelow, elem, distinct, tabled, updates}
+use Rattle.volume.specs.MapSector.{MapSector, View, decoded, encoded}
+use Rattle.volume.specs.Entry.{blank, isEmpty, sectorOf, restored}
+use Rattle.volume.specs.Tables.{Tables, namedBy, usedBy, freeSectors, pieceEntries}
+use Rattle.volume.specs.Store.{Store, applied, storesBelow}
+use Rattle.volume.specs.Commit.{Plan, Change, touches, branchesIn, listing, branchesFor, rank, memberPlace, changedEntries, committedTables, commitStores}
+use Rattle.volume.specs.Calls.{viewOf}
+use Rattle.volume.specs.Recover.{imageView}
+use Rattle.volume.specs.History.{Disk, Reaches, itself, through}
+use Rattle.volume.proofs.Bounded.{bool?, lt?, eq?, clash, or-l, or-left, or-right, not-is, not-of, cond-true, cond-false, elem-here, best-unique, best-below, count-le, count-same, count-nth, tabled-at, tabled-past, updates-at, updates-other}
+use Rattle.volume.proofs.Names.{Name, piece, block, Named, sectorNamed, Sound, named-elem, elem-named, named-distinct}
+use Rattle.volume.proofs.Room.{free-count, named-length, full-count}
+use Rattle.volume.proofs.Stores.{Among, among-append, among-left, among-right, applied-at, below-has, below-own, below-last}
+use Rattle.volume.proofs.Placing.{Choosing}
+use Rattle.volume.proofs.Invariant.{Fits, Ground, Committed, Settled, some-pieces, view-at, view-below, view-same}
+use Rattle.volume.proofs.Scan.{number-most}
+use Rattle.volume.proofs.Listing.{Linked, direct, via, listing-covers}
+use Rattle.volume.proofs.Plan.{Given, Start, plan, listed, members-is, members-some, members-few, written-is, written-past, written-below, rank-below, rank-once, at-below, at-free, at-low, at-once, at-word, named-used, member-place}
+use Rattle.volume.proofs.Members.{tables′, named?, entry-named, entry-other, entry-stored, entry-dropped, entry-word′, place-written, place-unwritten, number-written, number-unwritten, used-exact, entries-kept, fold-is, branches-is, memberOf, member-number, member-piece, member-closing, member-entries, member-first, member-later, member-signed}
+use Rattle.volume.proofs.CutCommit.{dataOf, mapOf, data-sector, data-bytes, map-sector, map-bytes, stores-are, Kind, old-number, kept, blank-kept, signed-cases, apart-after}
+
+module _ (g : Start) where
+  open Start g using (rules, law, s, t, image, disk, head, change, after, given)
+
+  abbrev pieces : ℕ
+  pieces = piecesFor (s .l)
+
+  abbrev stores : List Store
+  stores = commitStores s t (plan g) change
+
+  abbrev pub image′ : ℕ → List ℕ
+  image′ = applied (commitStores s t (plan g) change) image
+
+  abbrev pub tail′ : ℕ
+  tail′ = memberPlace (plan g) (plan g .members - 1)
+
+  abbrev pub number′ : ℕ
+  number′ = s .number + plan g .members
+
+  abbrev pub disk′ : Disk
+  disk′ = updates disk (at (change .blocks)) after (length (change .blocks))
+
+  abbrev Any : ℕ → Type 0
+  Any p = Unit {0}
+
+  kinds : (r : Store) → Among r (commitStores s t (plan g) change) → Kind g Any r
+  unfolding Kind
+  kinds r a =
+      ⊎-elim (λ x. let w = below-has always (dataOf g) (change .dataSectors) r x in inl (w .0, w .1, w .3))
+      (λ x. let w = below-has (plan g .written) (mapOf g) (piecesFor (s .l)) r x in inr (w .0, w .2, tt, w .3))
+      (among-append r (storesBelow always (dataOf g) (change .dataSectors)) (storesBelow (plan g .written) (mapOf g) (piecesFor (s .l)))
+      (subst (Among r) (stores-are g) a))
+
+  -- What stands at the new places.
+  data-stands : (i : ℕ) → i < change .dataSectors → image′ (at (plan g .places) i) ≡ change .content i
+  unfolding Kind
+  data-stands i h =
+      let mine : Among (dataOf g i) (commitStores s t (plan g) change) =
+          subst (Among (dataOf g i)) (sym (stores-are g))
+          (among-left (storesBelow (plan g .written) (mapOf g) (piecesFor (s .l))) (below-own always (dataOf g) (change .dataSectors) i h refl)) in
+      subst (λ (k : ℕ). image′ k ≡ change .content i) (data-sector g i)
+      (applied-at (commitStores s t (plan g) change) image (dataOf g i) mine
+      (λ r a e.
+        ⊎-elim (λ w.
+          let same = at-once g (w .0) i (let x = w .1 in omega arith) (omega arith)
+              (sym (data-sector g (w .0)) ∙ ap (λ (x : Store). x .sector) (sym (w .2)) ∙ e ∙ data-sector g i) in
+          ap (λ (x : Store). x .bytes) (w .2 ∙ ap (dataOf g) same))
+        (λ w.
+          let b = rank-below g (w .0) (w .1) in
+          let same = at-once g (change .dataSectors + rank (plan g) (w .0)) i (omega arith) (omega arith)
+              (sym (map-sector g (w .0)) ∙ ap (λ (x : Store). x .sector) (sym (w .3)) ∙ e ∙ data-sector g i) in
+          absurd (omega arith))
+        (kinds r a))
+      ∙ data-bytes g i)
+
+  map-stands : (p : ℕ) → plan g .written p ≡ true → image′ (at (plan g .places) (change .dataSectors + rank (plan g) p)) ≡ encoded (s .l) (memberOf g p)
+  unfolding Kind
+  map-stands p e =
+      let r0 = rank-below g p e in
+      let mine : Among (mapOf g p) (commitStores s t (plan g) change) =
+          subst (Among (mapOf g p)) (sym (stores-are g))
+          (among-right (storesBelow always (dataOf g) (change .dataSectors)) (below-own (plan g .written) (mapOf g) (piecesFor (s .l)) p (written-below g p e) e)) in
+      subst (λ (k : ℕ). image′ k ≡ encoded (s .l) (memberOf g p)) (map-sector g p)
+      (applied-at (commitStores s t (plan g) change) image (mapOf g p) mine
+      (λ r a z.
+        ⊎-elim (λ w.
+          let same = at-once g (w .0) (change .dataSectors + rank (plan g) p) (let x = w .1 in omega arith) (omega arith)
+              (sym (data-sector g (w .0)) ∙ ap (λ (x : Store). x .sector) (sym (w .2)) ∙ z ∙ map-sector g p) in
+          let x = w .1 in
+          absurd (omega arith))
+        (λ w.
+          let b = rank-below g (w .0) (w .1) in
+          let same = at-once g (change .dataSectors + rank (plan g) (w .0)) (change .dataSectors + rank (plan g) p) (omega arith) (omega arith)
+              (sym (map-sector g (w .0)) ∙ ap (λ (x : Store). x .sector) (sym (w .3)) ∙ z ∙ map-sector g p) in
+          ap (λ (x : Store). x .bytes) (w .3 ∙ ap (mapOf g) (rank-once g (w .0) p (w .1) e (omega arith))))
+        (kinds r a))
+      ∙ map-bytes g p)
+
+  -- The view at a written piece's place, and at an unwritten one's.
+  pub view-written : (p : ℕ) → plan g .written p ≡ true → imageView (s .n) (s .l) image′ (tables′ g .place p) ≡ some (memberOf g p)
+  view-written p e =
+      let r = rank-below g p e in
+      let k = at (plan g .places) (change .dataSectors + rank (plan g) p) in
+      subst (λ (x : ℕ). imageView (s .n) (s .l) image′ x ≡ some (memberOf g p)) (sym (place-written g p e))
+      (view-at (s .n) (s .l) image′ k (at-below g (change .dataSectors + rank (plan g) p) (omega arith))
+      ∙ ap (decoded (s .n) (s .l)) (map-stands p e) ∙ member-signed g p e)
+
+  view-unwritten : (p : ℕ) → p < piecesFor (s .l) → plan g .written p ≡ false
+    → imageView (s .n) (s .l) image′ (tables′ g .place p) ≡ imageView (s .n) (s .l) image (t .place p)
+  view-unwritten p h e =
+      ap (imageView (s .n) (s .l) image′) (place-unwritten g p e)
+      ∙ view-same (s .n) (s .l) image′ image (t .place p) (kept g (commitStores s t (plan g) change) Any kinds (piece p) h)
+
+  -- The last member is the tail.
+  last-written : (q : ℕ) × (plan g .written q ≡ true) × (plan g .members ≡ suc (rank (plan g) q))
+  unfolding rank
+  last-written =
+      let w = below-last (plan g .written) (mapOf g) (piecesFor (s .l)) (let m = members-some g in let i = members-is g in omega arith) in
+      (w .0, w .2, members-is g ∙ w .4)
+
+  tail-place : (q : ℕ) → plan g .written q ≡ true → plan g .members ≡ suc (rank (plan g) q) → tables′ g .place q ≡ tail′
+  tail-place q e m =
+      let x : plan g .members - 1 ≡ rank (plan g) q = omega arith in
+      place-written g q e ∙ sym (member-place g (rank (plan g) q)) ∙ ap (memberPlace (plan g)) (sym x)
+
+  number-high : (p : ℕ) → p < piecesFor (s .l) → t .number p ≤ s .number
+  number-high p h = number-most (s .n) (s .l) image t (s .tail) (s .number) disk (given .fit) (given .settled .committed) p h
+
+  -- Whose sector it is, in the new tables: a new place, or one kept.
+  abbrev Owner : ℕ → Name → Type 0
+  Owner j (piece p) = (plan g .written p ≡ true) × (j ≡ change .dataSectors + rank (plan g) p)
+  Owner j (block b) = (j < change .dataSectors) × (at (change .blocks) j ≡ b)
+
+  abbrev New : Name → Type 0
+  New x = Named (s .l) (tables′ g .entry) (tables′ g .place) x
+
+  abbrev newSector : Name → ℕ
+  newSector x = sectorNamed (s .l) (tables′ g .entry) (tables′ g .place) x
+
+  Source : Name → Type 0
+  Source x =
+      ((j : ℕ) × (j < change .dataSectors + plan g .members) × (newSector x ≡ at (plan g .places) j) × Owner j x)
+      ⊎ (Named (s .l) (t .entry) (t .place) x × (newSector x ≡ sectorNamed (s .l) (t .entry) (t .place) x))
+
+  source : (x : Name) → New x → Source x
+  unfolding Source
+  source (piece p) h =
+      ⊎-elim (λ (e : plan g .written p ≡ true).
+        inl (change .dataSectors + rank (plan g) p, let r = rank-below g p e in omega arith, place-written g p e, (e, refl)))
+      (λ (e : plan g .written p ≡ false). inr (h, place-unwritten g p e)) (bool? (plan g .written p))
+  source (block b) h =
+      ⊎-elim (λ w.
+        ⊎-elim (λ (z : w .0 < change .dataSectors).
+          inl (w .0, omega arith,
+            subst (λ (c : ℕ). sectorOf (tables′ g .entry c) ≡ at (plan g .places) (w .0)) (w .2) (entry-stored g (w .0) z .1), (z, w .2)))
+        (λ (z : change .dataSectors ≤ w .0).
+          let e = entry-dropped g (w .0) z (w .1) in
+          clash (isEmpty (tables′ g .entry b)) (subst (λ (c : ℕ). isEmpty (tables′ g .entry c) ≡ true) (w .2) (ap isEmpty e)) (h .1))
+        (lt? (w .0) (change .dataSectors)))
+      (λ w.
+        let e = entry-other g b w in
+        inr ((h .0, ap isEmpty (sym e) ∙ h .1), ap sectorOf e))
+      (named? g b)
+
+  owner-once : (j : ℕ) (x y : Name) → Owner j x → Owner j y → x ≡ y
+  owner-once j (piece p) (piece q) a b = ap piece (rank-once g p q (a .0) (b .0) (let u = a .1 in let v = b .1 in omega arith))
+  owner-once j (piece p) (block c) a b = absurd (let u = a .1 in let v = b .0 in omega arith)
+  owner-once j (block b) (piece p) a c = absurd (let u = c .1 in let v = a .0 in omega arith)
+  owner-once j (block b) (block c) a d = ap block (sym (a .1) ∙ d .1)
+
+  once′ : (x y : Name) → New x → New y → newSector x ≡ newSector y → x ≡ y
+  unfolding Source
+  once′ x y h k e =
+      ⊎-elim (λ a.
+        ⊎-elim (λ b.
+          let j = at-once g (a .0) (b .0) (a .1) (b .1) (sym (a .2) ∙ e ∙ b .2) in
+          owner-once (a .0) x y (a .3) (subst (λ (i : ℕ). Owner i y) (sym j) (b .3)))
+        (λ b.
+          clash (t .isUsed (sectorNamed (s .l) (t .entry) (t .place) y)) (named-used g y (b .0))
+          (subst (λ (k : ℕ). t .isUsed k ≡ false) (sym (a .2) ∙ e ∙ b .1) (at-free g (a .0) (a .1))))
+        (source y k))
+      (λ a.
+        ⊎-elim (λ b.
+          clash (t .isUsed (sectorNamed (s .l) (t .entry) (t .place) x)) (named-used g x (a .0))
+          (subst (λ (k : ℕ). t .isUsed k ≡ false) (sym (b .2) ∙ sym e ∙ a .1) (at-free g (b .0) (b .1))))
+        (λ b. given .settled .committed .ground .sound .once x y (a .0) (b .0) (sym (a .1) ∙ e ∙ b .1)) (source y k))
+      (source x h)
+
+  low′ : (x : Name) → New x → 1 ≤ newSector x
+  unfolding Source
+  low′ x h =
+      ⊎-elim (λ a. rw (a .2) (at-low g (a .0) (a .1))) (λ a. rw (a .1) (given .settled .committed .ground .sound .low x (a .0))) (source x h)
+
+  high′ : (x : Name) → New x → newSector x ≤ s .n - 1
+  unfolding Source
+  high′ x h =
+      ⊎-elim (λ a. rw (a .2) (let b = at-below g (a .0) (a .1) in omega arith))
+      (λ a. rw (a .1) (given .settled .committed .ground .sound .high x (a .0))) (source x h)
+
+  -- At most as many blocks more are full as data sectors are stored.
+  entries-grow : countBelow (λ b. not (isEmpty (tables′ g .entry b))) (s .l)
+    ≤ countBelow (λ b. not (isEmpty (t .entry b))) (s .l) + min (length (change .blocks)) (change .dataSectors)
+  unfolding tables′ committedTables changedEntries
+  entries-grow =
+      full-count (s .l) (t .entry) (at (change .blocks)) (λ i. (change .entry) i (at (plan g .places) i)) (change .dataSectors)
+      (length (change .blocks)) (λ j a b. given .gone j (at (plan g .places) j) a b)
+
+  -- P sectors are free again.
+  room′ : piecesFor (s .l) ≤ freeSectors (s .n) (tables′ g .isUsed)
+  unfolding freeSectors
+  room′ =
+      let sound = given .settled .committed .ground .sound in
+      let least = given .fit .least in
+      let old = namedBy (s .l) (t .entry) (t .place) in
+      let new = namedBy (s .l) (tables′ g .entry) (tables′ g .place) in
+      let before = free-count (s .n) old (omega arith)
+          (λ k e. let w = elem-named (s .l) (t .entry) (t .place) k e in
+            (rw (← (w .2)) (sound .low (w .0) (w .1)), let z = sound .high (w .0) (w .1) in let y = w .2 in omega arith))
+          (named-distinct (s .l) (t .entry) (t .place) (sound .once)) in
+      let now = free-count (s .n) new (omega arith)
+          (λ k e. let w = elem-named (s .l) (tables′ g .entry) (tables′ g .place) k e in
+            (rw (← (w .2)) (low′ (w .0) (w .1)), let z = high′ (w .0) (w .1) in let y = w .2 in omega arith))
+          (named-distinct (s .l) (tables′ g .entry) (tables′ g .place) once′) in
+      let same = count-same (λ k. not (t .isUsed k)) (λ k. not (usedBy old k)) (s .n)
+          (λ k h. ap not (given .settled .committed .ground .used-all k)) in
+      let exact = count-same (λ k. not (tables′ g .isUsed k)) (λ k. not (usedBy new k)) (s .n) (λ k h. ap not (used-exact g k)) in
+      let l1 = named-length (s .l) (t .entry) (t .place) in
+      let l2 = named-length (s .l) (tables′ g .entry) (tables′ g .place) in
+      let more = entries-grow in
+      let room = given .room in
+      omega arith
+
+  numbers′ : (p q : ℕ) → p < piecesFor (s .l) → q < piecesFor (s .l) → tables′ g .number p ≡ tables′ g .number q → p ≡ q
+  numbers′ p q h k e =
+      let hp = number-high p h in
+      let hq = number-high q k in
+      ⊎-elim (λ (a : plan g .written p ≡ true).
+        let x = number-written g p a in
+        ⊎-elim (λ (b : plan g .written q ≡ true). let y = number-written g q b in rank-once g p q a b (omega arith))
+        (λ (b : plan g .written q ≡ false). let y = number-unwritten g q b in absurd (omega arith)) (bool? (plan g .written q)))
+      (λ (a : plan g .written p ≡ false).
+        let x = number-unwritten g p a in
+        ⊎-elim (λ (b : plan g .written q ≡ true). let y = number-written g q b in absurd (omega arith))
+        (λ (b : plan g .written q ≡ false).
+          let y = number-unwritten g q b in
+          given .settled .committed .ground .sound .numbers p q h k (omega arith))
+        (bool? (plan g .written q)))
+      (bool? (plan g .written p))
+
+  from1′ : (p : ℕ) → p < piecesFor (s .l) → 1 ≤ tables′ g .number p
+  from1′ p h =
+      ⊎-elim (λ (a : plan g .written p ≡ true). rw (number-written g p a) (omega arith))
+      (λ (a : plan g .written p ≡ false). rw (number-unwritten g p a) (given .settled .committed .ground .sound .from1 p h))
+      (bool? (plan g .written p))
+
+  newest′ : (q : ℕ) → plan g .written q ≡ true → plan g .members ≡ suc (rank (plan g) q) → best (tables′ g .number) (piecesFor (s .l)) ≡ q
+  newest′ q e m =
+      best-unique (tables′ g .number) (piecesFor (s .l)) q (written-below g q e)
+      (λ p h d.
+        let x = number-written g q e in
+        let hp = number-high p h in
+        ⊎-elim (λ (a : plan g .written p ≡ true).
+          let y = number-written g p a in
+          let r = rank-below g p a in
+          ⊎-elim (λ (z : rank (plan g) p ≡ rank (plan g) q). absurd (d (rank-once g p q a e z)))
+          (λ (z : rank (plan g) p ≡ rank (plan g) q → ⊥). omega arith) (eq? (rank (plan g) p) (rank (plan g) q)))
+        (λ (a : plan g .written p ≡ false). let y = number-unwritten g p a in omega arith) (bool? (plan g .written p)))
+
+  sound′ : Sound (s .n) (s .l) (tables′ g) tail′ number′
+  sound′ =
+      let w = last-written in
+      let top = newest′ (w .0) (w .1) (w .2) in
+      record {
+        low = low′;
+        high = high′;
+        once = once′;
+        used = λ k h. used-exact g k;
+        room = room′;
+        numbers = numbers′;
+        from1 = from1′;
+        tail-is = sym (tail-place (w .0) (w .1) (w .2)) ∙ ap (tables′ g .place) (sym top);
+        number-is =
+          (let x = number-written g (w .0) (w .1) in let y = w .2 in let z : number′ ≡ tables′ g .number (w .0) = omega arith in z)
+          ∙ ap (tables′ g .number) (sym top)
+      }
