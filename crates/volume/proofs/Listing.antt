@@ -19,6 +19,16 @@ pub data Linked (pieces : ℕ) (t : Tables) (view : View) (remaining : ℕ → B
   via : {q p : ℕ} → Linked pieces t view remaining listed q → p < pieces → remaining p ≡ true
     → elem (t .place p) (branchesIn (view (t .place q))) ≡ true → t .number p < t .number q → Linked pieces t view remaining listed p
 
+pub linked-below : {pieces : ℕ} {t : Tables} {view : View} {remaining : ℕ → Bool} {listed : List ℕ} {p : ℕ}
+  → Linked pieces t view remaining listed p → p < pieces
+linked-below (direct h r e) = h
+linked-below (via l h r e lt) = h
+
+pub linked-remaining : {pieces : ℕ} {t : Tables} {view : View} {remaining : ℕ → Bool} {listed : List ℕ} {p : ℕ}
+  → Linked pieces t view remaining listed p → remaining p ≡ true
+linked-remaining (direct h r e) = r
+linked-remaining (via l h r e lt) = r
+
 module _ (t : Tables) (remaining : ℕ → Bool) (bound q : ℕ) where
   key-is : remaining q ≡ true → t .number q < bound → olderKey t remaining bound q ≡ t .number q
   unfolding olderKey

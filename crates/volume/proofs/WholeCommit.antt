@@ -2,7 +2,7 @@
 use Prim.Native.Nat.{ℕ, zero, suc, _+_, _*_, _-_, _^_, min, _≤_, _<_}
 use mathlib.Core.Path.{_≡_, refl, sym, _∙_, ap, subst}
 use mathlib.Core.Logic.{_⊎_, inl, inr, ⊎-elim}
-use mathlib.Core.Bool.{Bool, true, false, cond, not, _||_, true≢false}
+use mathlib.Core.Bool.{Bool, true, false, cond, not, _&&_, _||_, true≢false}
 use mathlib.Core.List.{List, [], _∷_, _++_}
 use mathlib.Core.Option.{Option, none, some}
 use native.Mathlib.Omega.{arith}
@@ -26,7 +26,7 @@ use Rattle.volume.proofs.Stores.{Among, among-append, among-left, among
 use Rattle.volume.proofs.Placing.{Choosing}
 use Rattle.volume.proofs.Invariant.{Fits, Ground, Committed, Settled, some-pieces, view-at, view-below, view-same}
 use Rattle.volume.proofs.Scan.{number-most}
-use Rattle.volume.proofs.Listing.{Linked, direct, via, listing-covers}
+use Rattle.volume.proofs.Listing.{Linked, direct, via, linked-below, linked-remaining, listing-covers}
 use Rattle.volume.proofs.Plan.{Given, Start, plan, listed, members-is, members-some, members-few, written-is, written-past, written-below, rank-below, rank-once, at-below, at-free, at-low, at-once, at-word, named-used, member-place}
 use Rattle.volume.proofs.Members.{tables′, named?, entry-named, entry-other, entry-stored, entry-dropped, entry-word′, place-written, place-unwritten, number-written, number-unwritten, used-exact, entries-kept, fold-is, branches-is, memberOf, member-number, member-piece, member-closing, member-entries, member-first, member-later, member-signed}
 use Rattle.volume.proofs.CutCommit.{dataOf, mapOf, data-sector, data-bytes, map-sector, map-bytes, stores-are, Kind, old-number, kept, blank-kept, signed-cases, apart-after}
@@ -295,3 +295,215 @@ module _ (g : Start) where
           (let x = number-written g (w .0) (w .1) in let y = w .2 in let z : number′ ≡ tables′ g .number (w .0) = omega arith in z)
           ∙ ap (tables′ g .number) (sym top)
       }
+
+  -- The chain: from the tail down the members, and from the first member to what remains.
+  abbrev Reached : ℕ → Type 0
+  Reached p = Reaches (imageView (s .n) (s .l) image′) (tables′ g .place) (piecesFor (s .l)) tail′ p
+
+  member-reached : (k p : ℕ) → plan g .written p ≡ true → rank (plan g) p + suc k ≡ plan g .members → Reached p
+  unfolding rank elem
+  member-reached zero p e m = itself (written-below g p e) (tail-place p e (let x : plan g .members ≡ suc (rank (plan g) p) = omega arith in x))
+  member-reached (suc k) p e m =
+      let w = count-nth (plan g .written) (piecesFor (s .l)) (suc (rank (plan g) p)) (let i = members-is g in omega arith) in
+      let q = w .0 in
+      let r : rank (plan g) q ≡ suc (rank (plan g) p) = w .3 in
+      let here = place-written g p e in
+      through (member-reached k q (w .2) (omega arith)) (view-written q (w .2)) (written-below g p e)
+      (subst (λ (xs : List ℕ). elem (tables′ g .place p) xs ≡ true) (sym (member-later g q (rank (plan g) p) r))
+      (rw here (elem-here (at (plan g .places) (change .dataSectors + rank (plan g) p)) [])))
+      (view-written p e) (let a = member-number g p in let b = member-number g q in omega arith)
+
+  written-reached : (p : ℕ) → plan g .written p ≡ true → Reached p
+  written-reached p e =
+      let r = rank-below g p e in
+      member-reached (plan g .members - suc (rank (plan g) p)) p e (omega arith)
+
+  abbrev remaining : ℕ → Bool
+  remaining = tabled false (piecesFor (s .l)) (λ q. not (touches (change .blocks) q))
+
+  remaining-unwritten : plan g .fold ≡ false → (p : ℕ) → p < piecesFor (s .l) → remaining p ≡ true → plan g .written p ≡ false
+  remaining-unwritten f p h r =
+      let x = not-of (touches (change .blocks) p) (sym (tabled-at false (piecesFor (s .l)) (λ q. not (touches (change .blocks) q)) p h) ∙ r) in
+      written-is g p h ∙ rw (f, x) refl
+
+  unwritten-remaining : (p : ℕ) → p < piecesFor (s .l) → plan g .written p ≡ false → (plan g .fold ≡ false) × (remaining p ≡ true)
+  unwritten-remaining p h e =
+      let x = sym (written-is g p h) ∙ e in
+      (or-left (plan g .fold) (touches (change .blocks) p) x,
+        tabled-at false (piecesFor (s .l)) (λ q. not (touches (change .blocks) q)) p h
+        ∙ not-is (touches (change .blocks) p) (or-right (plan g .fold) (touches (change .blocks) p) x))
+
+  -- The view at an unwritten piece.
+  kept-says : (p : ℕ) → p < piecesFor (s .l) → plan g .written p ≡ false
+    → (m : MapSector) × (imageView (s .n) (s .l) image′ (tables′ g .place p) ≡ some m) × (m .number ≡ t .number p)
+    × (branchesIn (viewOf (s .n) (s .l) image (t .place p)) ≡ m .branches)
+  unfolding branchesIn
+  kept-says p h e =
+      let w = given .settled .committed .ground .live p h in
+      (w .0, view-unwritten p h e ∙ w .1, w .3,
+        ap branchesIn (sym (view-at (s .n) (s .l) image (t .place p) (view-below (s .n) (s .l) image (t .place p) (w .0) (w .1))) ∙ w .1))
+
+  linked-reached : plan g .fold ≡ false → (p : ℕ) → Linked (piecesFor (s .l)) t (viewOf (s .n) (s .l) image) remaining (listed g) p → Reached p
+  unfolding rank
+  linked-reached f p (direct h r e) =
+      let u = remaining-unwritten f p h r in
+      let w = count-nth (plan g .written) (piecesFor (s .l)) 0 (let i = members-is g in let m = members-some g in omega arith) in
+      let q = w .0 in
+      let rank0 : rank (plan g) q ≡ 0 = w .3 in
+      let k = kept-says p h u in
+      let bs : memberOf g q .branches ≡ listed g = member-first g q rank0 ∙ branches-is g ∙ cond-false (plan g .fold) [] (listed g) f in
+      through (written-reached q (w .2)) (view-written q (w .2)) h
+      (rw (bs, place-unwritten g p u) e) (k .1) (let a = member-number g q in let b = number-high p h in let c = k .2 in omega arith)
+  linked-reached f p (via {q = q} l h r e lt) =
+      let uq = remaining-unwritten f q (linked-below l) (linked-remaining l) in
+      let up = remaining-unwritten f p h r in
+      let kq = kept-says q (linked-below l) uq in
+      let kp = kept-says p h up in
+      through (linked-reached f q l) (kq .1) h
+      (rw (place-unwritten g p up) (subst (λ (xs : List ℕ). elem (t .place p) xs ≡ true) (kq .3) e)) (kp .1)
+      (let a = kq .2 in let b = kp .2 in omega arith)
+
+  abbrev noneReached : ℕ → Bool
+  noneReached q = false
+
+  all-linked : (p : ℕ) → p < piecesFor (s .l) → remaining p ≡ true → Linked (piecesFor (s .l)) t (viewOf (s .n) (s .l) image) remaining (listed g) p
+  unfolding listed branchesFor
+  all-linked p h r =
+      listing-covers (piecesFor (s .l)) t (viewOf (s .n) (s .l) image) remaining (some-pieces (s .l) (given .fit .some))
+      (given .settled .committed .ground .sound .numbers) (listed g) (piecesFor (s .l)) (suc (s .number)) noneReached
+      (λ k e. e) (λ q i u e. absurd (true≢false (sym e)))
+      (count-le (λ q. remaining q && ltb (t .number q) (suc (s .number))) (piecesFor (s .l))) p h r (given .settled .committed .ground .sound .from1 p h)
+      (let b = number-high p h in omega arith)
+
+  chain′ : (p : ℕ) → p < piecesFor (s .l) → Reached p
+  chain′ p h =
+      ⊎-elim (λ (e : plan g .written p ≡ true). written-reached p e)
+      (λ (e : plan g .written p ≡ false).
+        let w = unwritten-remaining p h e in
+        linked-reached (w .0) p (all-linked p h (w .1)))
+      (bool? (plan g .written p))
+
+  -- What the image then says.
+  live′ : (p : ℕ) → p < piecesFor (s .l)
+    → (m : MapSector) × (imageView (s .n) (s .l) image′ (tables′ g .place p) ≡ some m) × (m .piece ≡ p) × (m .number ≡ tables′ g .number p)
+    × (m .entries ≡ pieceEntries (s .l) (tables′ g .entry) p)
+  live′ p h =
+      ⊎-elim (λ (e : plan g .written p ≡ true).
+        (memberOf g p, view-written p e, member-piece g p, member-number g p ∙ sym (number-written g p e), member-entries g p))
+      (λ (e : plan g .written p ≡ false).
+        let w = given .settled .committed .ground .live p h in
+        (w .0, view-unwritten p h e ∙ w .1, w .2, w .3 ∙ sym (number-unwritten g p e), w .4 ∙ sym (entries-kept g p e)))
+      (bool? (plan g .written p))
+
+  closes′ : (m : MapSector) → imageView (s .n) (s .l) image′ tail′ ≡ some m → m .closing ≡ true
+  closes′ m e =
+      let w = last-written in
+      let v = subst (λ (k : ℕ). imageView (s .n) (s .l) image′ k ≡ some (memberOf g (w .0))) (tail-place (w .0) (w .1) (w .2)) (view-written (w .0) (w .1)) in
+      let same : m ≡ memberOf g (w .0) = cc in
+      ap (λ (x : MapSector). x .closing) same ∙ member-closing g (w .0) ∙ eq-eqb (suc (rank (plan g) (w .0))) (plan g .members) (sym (w .2))
+
+  disk-named : (i : ℕ) → i < length (change .blocks) → disk′ (at (change .blocks) i) ≡ after i
+  disk-named i h = updates-at disk (at (change .blocks)) after (length (change .blocks)) i h (given .apart)
+
+  disk-other : (b : ℕ) → ((i : ℕ) → i < length (change .blocks) → at (change .blocks) i ≡ b → ⊥) → disk′ b ≡ disk b
+  disk-other b h = updates-other disk (at (change .blocks)) after (length (change .blocks)) b h
+
+  abbrev Holds : ℕ → Type 0
+  Holds b =
+      ((isEmpty (tables′ g .entry b) ≡ true) × (disk′ b ≡ blank))
+      ⊎ ((isEmpty (tables′ g .entry b) ≡ false) × (restored (tables′ g .entry b) (image′ (sectorOf (tables′ g .entry b))) ≡ disk′ b)
+      × (imageView (s .n) (s .l) image′ (sectorOf (tables′ g .entry b)) ≡ none))
+
+  named-holds : (i : ℕ) → i < length (change .blocks) → Holds (at (change .blocks) i)
+  named-holds i h =
+      ⊎-elim (λ (z : i < change .dataSectors).
+        let e = entry-stored g i z in
+        let low = at-low g i (omega arith) in
+        let high = at-word g i (omega arith) in
+        let stands = data-stands i z in
+        inr (e .0,
+          rw (e .1, stands, entry-named g i h, disk-named i h) (given .back i (at (plan g .places) i) z low high),
+          rw (e .1)
+          (view-at (s .n) (s .l) image′ (at (plan g .places) i) (at-below g i (omega arith)) ∙ ap (decoded (s .n) (s .l)) stands
+          ∙ given .unsigned i z)))
+      (λ (z : change .dataSectors ≤ i).
+        inl (ap isEmpty (entry-dropped g i z h), disk-named i h ∙ given .emptied i z h))
+      (lt? i (change .dataSectors))
+
+  other-holds : (b : ℕ) → b < s .l → ((i : ℕ) → i < length (change .blocks) → at (change .blocks) i ≡ b → ⊥) → Holds b
+  other-holds b h f =
+      let e = entry-other g b f in
+      let d = disk-other b f in
+      let ground = given .settled .committed .ground in
+      ⊎-elim (λ (z : isEmpty (t .entry b) ≡ true). inl (ap isEmpty e ∙ z, d ∙ ground .empty b h z))
+      (λ (z : isEmpty (t .entry b) ≡ false).
+        let same = kept g (commitStores s t (plan g) change) Any kinds (block b) (h, z) in
+        inr (ap isEmpty e ∙ z, rw (e, same, d) (ground .full b h z),
+          rw e (view-same (s .n) (s .l) image′ image (sectorOf (t .entry b)) same ∙ ground .unsigned b h z)))
+      (bool? (isEmpty (t .entry b)))
+
+  holds′ : (b : ℕ) → b < s .l → Holds b
+  holds′ b h = ⊎-elim (λ w. subst Holds (w .2) (named-holds (w .0) (w .1))) (λ w. other-holds b h w) (named? g b)
+
+  ground′ : Ground (s .n) (s .l) image′ (tables′ g) tail′ number′ disk′
+  ground′ =
+      let ground = given .settled .committed .ground in
+      record {
+        sound = sound′;
+        high = let a = given .numbers in let b = law .numbers in let c = members-few g in let m = given .fit .most in omega arith;
+        words = entry-word′ g;
+        live = live′;
+        closes = closes′;
+        chain = chain′;
+        empty = λ b h e.
+          ⊎-elim (λ w. w .1) (λ w. clash (isEmpty (tables′ g .entry b)) e (w .0)) (holds′ b h);
+        full = λ b h e.
+          ⊎-elim (λ w. clash (isEmpty (tables′ g .entry b)) (w .0) e) (λ w. w .1) (holds′ b h);
+        unsigned = λ b h e.
+          ⊎-elim (λ w. clash (isEmpty (tables′ g .entry b)) (w .0) e) (λ w. w .2) (holds′ b h);
+        places-past = λ p h. place-unwritten g p (written-past g p h) ∙ ground .places-past p h;
+        numbers-past = λ p h. number-unwritten g p (written-past g p h) ∙ ground .numbers-past p h;
+        entries-past = λ b h.
+          entry-other g b (λ i k z. let x = given .blocks i k in omega arith) ∙ ground .entries-past b h;
+        used-all = used-exact g
+      }
+
+  above′ : (k : ℕ) (a : MapSector) → imageView (s .n) (s .l) image′ k ≡ some a → a .number ≤ number′
+  above′ k a e =
+      ⊎-elim (λ x. let o = old-number g k a x in omega arith)
+      (λ x.
+        let q = ap (λ (m : MapSector). m .number) (x .4) ∙ member-number g (x .0) in
+        let r = rank-below g (x .0) (x .1) in
+        omega arith)
+      (signed-cases g (commitStores s t (plan g) change) Any kinds k a e)
+
+  latest′ : (k : ℕ) (a : MapSector) → imageView (s .n) (s .l) image′ k ≡ some a → a .number ≤ number′ → a .number ≤ tables′ g .number (a .piece)
+  latest′ k a e h =
+      ⊎-elim (λ x.
+        let o = old-number g k a x in
+        let old = given .settled .committed .latest k a x o in
+        ⊎-elim (λ (z : plan g .written (a .piece) ≡ true). rw (number-written g (a .piece) z) (omega arith))
+        (λ (z : plan g .written (a .piece) ≡ false). rw (number-unwritten g (a .piece) z) old) (bool? (plan g .written (a .piece))))
+      (λ x.
+        let piece-is : a .piece ≡ x .0 = ap (λ (m : MapSector). m .piece) (x .4) ∙ member-piece g (x .0) in
+        let q = ap (λ (m : MapSector). m .number) (x .4) ∙ member-number g (x .0) in
+        let w = number-written g (x .0) (x .1) in
+        rw piece-is (omega arith))
+      (signed-cases g (commitStores s t (plan g) change) Any kinds k a e)
+
+  -- Nothing is lost, and what was written is there.
+  pub whole-commit : Settled (s .n) (s .l) image′ (tables′ g) tail′ number′ disk′
+  whole-commit =
+      record {
+        committed = record {
+          ground = ground′;
+          apart = apart-after g (commitStores s t (plan g) change) Any kinds;
+          latest = latest′;
+          unclosed = λ k a e h. let o = above′ k a e in absurd (omega arith);
+          park = inl (blank-kept g (commitStores s t (plan g) change) Any kinds)
+        };
+        none-above = above′
+      }
+
+  pub whole-blank : image′ 0 ≡ blank
+  whole-blank = blank-kept g (commitStores s t (plan g) change) Any kinds
