@@ -13,6 +13,7 @@ pub mod Plan
 pub mod Members
 pub mod CutCommit
 pub mod WholeCommit
+pub mod Fresh
 pub mod Rows
 pub mod Samples
 pub mod Corners
