@@ -14,6 +14,7 @@ pub mod Members
 pub mod CutCommit
 pub mod WholeCommit
 pub mod Fresh
+pub mod Walk
 pub mod Rows
 pub mod Samples
 pub mod Corners
