@@ -127,7 +127,7 @@ module _ (n l : ℕ) (image : ℕ → List ℕ) (t : Tables) (tail number : ℕ)
             (λ (z : a .number ≤ number). z) (lt? number (a .number))
         }
 
-  park-not-blank : (p : Parked) → isBlank (parkRecord p) ≡ false
+  pub park-not-blank : (p : Parked) → isBlank (parkRecord p) ≡ false
   unfolding parkRecord balanced all
   park-not-blank p = refl
 

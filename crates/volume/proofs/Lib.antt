@@ -15,6 +15,7 @@ pub mod CutCommit
 pub mod WholeCommit
 pub mod Fresh
 pub mod Walk
+pub mod Recovery
 pub mod Rows
 pub mod Samples
 pub mod Corners
