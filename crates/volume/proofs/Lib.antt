@@ -16,6 +16,7 @@ pub mod WholeCommit
 pub mod Fresh
 pub mod Walk
 pub mod Recovery
+pub mod Steps
 pub mod Rows
 pub mod Samples
 pub mod Corners
