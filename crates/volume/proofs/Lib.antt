@@ -17,6 +17,7 @@ pub mod Fresh
 pub mod Walk
 pub mod Recovery
 pub mod Steps
+pub mod Calls
 pub mod Rows
 pub mod Samples
 pub mod Corners
