@@ -22,14 +22,14 @@ use Rattle.volume.specs.Bounded.{at, all, allBelow, elem, isZero, update
 use Rattle.volume.specs.MapSector.{MapSector, decoded}
 use Rattle.volume.specs.Entry.{blank, isEmpty, sectorOf, stored, entryFor, restored}
 use Rattle.volume.specs.ParkRecord.{parkRecord}
-use Rattle.volume.specs.Tables.{Tables, Memory, sectorAt, freeSectors}
+use Rattle.volume.specs.Tables.{Tables, Memory, zeroTables, sectorAt, freeSectors}
 use Rattle.volume.specs.Refusals.{Check, judged}
 use Rattle.volume.specs.Store.{Store, After, applied, performed, unlessRefused, refused, memoryWith, after}
 use Rattle.volume.specs.Format.{sectorsIn, tablesFit, sizeChecks}
 use Rattle.volume.specs.Placing.{Rules}
 use Rattle.volume.specs.Commit.{Change, commitAction}
 use Rattle.volume.specs.Calls.{viewOf, stateFits, blocksFit, tablesAgree, commitChecks, commitOf, writeChange, dropChange, roomFor, writeBy, dropBy, entryReadable, readChecks, blockOf, readJudged, readOf, parkChecks, parkAction, parkOf}
-use Rattle.volume.specs.Recover.{found, findingOf, imageView, recovered, recoverOf}
+use Rattle.volume.specs.Recover.{Log, found, findingOf, imageView, recoveryAction, recovered, recoverOf}
 use Rattle.volume.specs.History.{World, worldOf, accepted, Disk, CommitKept, putBlocks}
 use Rattle.volume.proofs.Bounded.{bool?, lt?, eq?, clash, and-l, and-r, and-i, or-r, or-l, not-is, not-of, cond-true, cond-false, updated-here, updated-other, allBelow-at, suc-cases}
 use Rattle.volume.proofs.Codec.{park-unsigned, stored-unsigned, restored-stored, restored-empty, entry-sector, entry-full, entry-word}
@@ -206,3 +206,183 @@ module _ (rules : Rules) (law : Choosing rules) (n l : ℕ) (fit : Fits n l) whe
             numbers = c .numbers
           })
         allowance
+
+-- A park record over a blank sector 0.
+module _ (n l : ℕ) (fit : Fits n l) (image : ℕ → List ℕ) (t : Tables) (tail number : ℕ) (disk : Disk)
+  (settled : Settled n l image t tail number disk) where
+  abbrev parkImage : ℕ → List ℕ
+  parkImage = updated image 0 (parkRecord (record { number = number; tail = tail }))
+
+  was : (k : ℕ) (a : MapSector) → imageView n l parkImage k ≡ some a → imageView n l image k ≡ some a
+  was k a e =
+      ⊎-elim (λ (z : k ≡ 0).
+        absurd (view-parked n l parkImage 0 (record { number = number; tail = tail })
+        (updated-here image 0 (parkRecord (record { number = number; tail = tail }))) a (subst (λ (x : ℕ). imageView n l parkImage x ≡ some a) z e)))
+      (λ (z : k ≡ 0 → ⊥).
+        view-same n l image parkImage k (sym (updated-other image 0 k (parkRecord (record { number = number; tail = tail })) z)) ∙ e)
+      (eq? k 0)
+
+  parked-settles : Settled n l parkImage t tail number disk
+  parked-settles =
+      let c = settled .committed in
+      let above : (k : ℕ) (a : MapSector) → imageView n l parkImage k ≡ some a → a .number ≤ number = λ k a e. settled .none-above k a (was k a e) in
+      record {
+        committed = record {
+          ground = ground-moves parkImage fit
+            (λ x h.
+              updated-other image 0 (sectorNamed l (t .entry) (t .place) x) (parkRecord (record { number = number; tail = tail }))
+              (λ (z : sectorNamed l (t .entry) (t .place) x ≡ 0). let low = c .ground .sound .low x h in omega arith))
+            (c .ground);
+          apart = λ j k a b e f. c .apart j k a b (was j a e) (was k b f);
+          latest = λ k a e. c .latest k a (was k a e);
+          unclosed = λ k a e. c .unclosed k a (was k a e);
+          park = inr (updated-here image 0 (parkRecord (record { number = number; tail = tail })), above)
+        };
+        none-above = above
+      }
+
+-- How a world stands after a call that changes no block.
+pub record Stays (n l : ℕ) (r : After) (disk : Disk) : Type 0 where
+  pub stands : Standing n l (worldOf r) disk
+  pub sized : Sized n l (r .memory)
+
+refused-stays : (n l : ℕ) (s : State) (m : Memory) (r : Refusal) (disk : Disk) → Sized n l m → Standing n l (record { state = s; memory = m }) disk
+  → Stays n l (refused r s m) disk
+refused-stays n l s m r disk size stands = record { stands = stands; sized = size }
+
+module _ (n l : ℕ) (fit : Fits n l) (s : State) (m : Memory) (size : Sized n l m) (disk : Disk)
+  (stands : Standing n l (record { state = s; memory = m }) disk) where
+  park-running : (judged (parkChecks s m) ≡ Pass) → isRunning (s .phase) ≡ true
+  unfolding parkChecks
+  park-running e = not-false (isRunning (s .phase)) (passes-first _ _ (passes-rest _ _ (passes-rest _ _ e)))
+
+  park-performed : (tail number allowance : ℕ) → Settled n l (m .image) (m .tables) tail number disk
+    → Stays n l (performed allowance (parkAction (freshState n l tail number) m) m) disk
+  unfolding parkAction applied
+  park-performed tail number zero settled =
+      subst (λ (r : After). Stays n l r disk) (sym (performed-cut 0 (parkAction (freshState n l tail number) m) m (omega arith)))
+      (record { stands = cut refl (m .tables) tail number (settled .committed); sized = sized-with n l m (m .image) (m .tables) size })
+  park-performed tail number (suc allowance) settled =
+      subst (λ (r : After). Stays n l r disk) (sym (performed-whole (suc allowance) (parkAction (freshState n l tail number) m) m (omega arith)))
+      (record {
+        stands = parked tail number refl (parked-settles n l fit (m .image) (m .tables) tail number disk settled);
+        sized = sized-with n l m (parkImage n l fit (m .image) (m .tables) tail number disk settled) (m .tables) size
+      })
+
+  park-passed : (allowance : ℕ) → judged (parkChecks s m) ≡ Pass → Standing n l (record { state = s; memory = m }) disk
+    → Stays n l (performed allowance (parkAction s m) m) disk
+  park-passed allowance e (running tail number q settled unparked) =
+      subst (λ (x : State). Stays n l (performed allowance (parkAction x m) m) disk) (sym q) (park-performed tail number allowance settled)
+  park-passed allowance e (parked tail number q settled) =
+      absurd (true≢false (sym (park-running e) ∙ ap (λ (x : State). isRunning (x .phase)) q))
+  park-passed allowance e (cut q t tail number committed) = absurd (true≢false (sym (park-running e) ∙ ap isRunning q))
+
+  pub park-stays : (allowance : ℕ) → Stays n l (parkOf s m allowance) disk
+  unfolding parkOf
+  park-stays allowance =
+      ⊎-elim (λ (e : judged (parkChecks s m) ≡ Pass). rw e (park-passed allowance e stands))
+      (λ v. rw (v .1) (refused-stays n l s m (v .0) disk size stands)) (verdict? (judged (parkChecks s m)))
+
+  -- Some tables are committed, however the volume stands.
+  pub committed-some : Standing n l (record { state = s; memory = m }) disk
+    → (t : Tables) × (tail : ℕ) × (number : ℕ) × Committed n l (m .image) t tail number disk
+  committed-some (running tail number q settled unparked) = (m .tables, tail, number, settled .committed)
+  committed-some (parked tail number q settled) = (m .tables, tail, number, settled .committed)
+  committed-some (cut q t tail number committed) = (t, tail, number, committed)
+
+  pub sectors-is : sectorsIn m ≡ n
+  sectors-is = ap (λ (x : ℕ). x / 512) (size .image) ∙ (let q : 512 * n / 512 ≡ n = omega arith in q)
+
+  recovery-performed : (t : Tables) (tail number allowance : ℕ) → Finds n l (m .image) t tail number disk
+    → Stays n l (recovered n l allowance m (findingOf n l (imageView n l (m .image)) (m .image 0))) disk
+  unfolding recovered
+  recovery-performed t tail number allowance f =
+      let log : Log = record { tables = t; tail = tail; number = number } in
+      let action = recoveryAction n l log (f .answer) (f .stores) in
+      rw (f .finding)
+      (⊎-elim (λ (h : allowance < length (f .stores)).
+        subst (λ (r : After). Stays n l r disk) (sym (performed-cut allowance action m h))
+        (record {
+          stands = cut refl t tail number (f .cut allowance);
+          sized = sized-with n l m (applied (take allowance (f .stores)) (m .image)) zeroTables size
+        }))
+      (λ (h : length (f .stores) ≤ allowance).
+        subst (λ (r : After). Stays n l r disk) (sym (performed-whole allowance action m h))
+        (record { stands = running tail number refl (f .whole) (f .blanks); sized = sized-with n l m (applied (f .stores) (m .image)) t size }))
+      (lt? allowance (length (f .stores))))
+
+  pub recover-stays : (allowance : ℕ) → Stays n l (recoverOf s m l allowance) disk
+  unfolding recoverOf
+  recover-stays allowance =
+      let c = committed-some stands in
+      ⊎-elim (λ (e : judged (sizeChecks m l) ≡ Pass).
+        rw (e, sectors-is)
+        (recovery-performed (c .0) (c .1) (c .2) allowance (recovers n l (m .image) (c .0) (c .1) (c .2) disk fit (c .3))))
+      (λ v. rw (v .1) (refused-stays n l s m (v .0) disk size stands)) (verdict? (judged (sizeChecks m l)))
+
+  -- Reads.
+
+  pub read-world : (b : ℕ) (out : List ℕ)
+    → worldOf (after (readOf s m b out .outcome) (readOf s m b out .memory)) ≡ record { state = s; memory = m }
+  unfolding readOf readJudged
+  read-world b out =
+      ⊎-elim (λ (e : judged (readChecks s m b (length out)) ≡ Pass). rw e refl) (λ v. rw (v .1) refl)
+      (verdict? (judged (readChecks s m b (length out))))
+
+  -- A block of a volume whose tables are in hand.
+  pub block-is : (t : Tables) (tail number : ℕ) → Settled n l (m .image) t tail number disk → m .tables ≡ t
+    → (b : ℕ) → b < l → blockOf m b ≡ disk b
+  unfolding blockOf
+  block-is t tail number settled q b h =
+      let ground = settled .committed .ground in
+      rw q
+      (⊎-elim (λ (z : isEmpty (t .entry b) ≡ true).
+        ap (λ (x : ℕ). restored x (m .image (sectorOf x))) (eqb-true (t .entry b) 0 z) ∙ restored-empty (m .image (sectorOf 0)) ∙ sym (ground .empty b h z))
+      (λ (z : isEmpty (t .entry b) ≡ false). ground .full b h z) (bool? (isEmpty (t .entry b))))
+
+  read-passed : (b : ℕ) (out : List ℕ) → judged (readChecks s m b (length out)) ≡ Pass → (isReadable (s .phase) ≡ true) × (b < s .l)
+  unfolding readChecks
+  read-passed b out e =
+      let e3 = passes-rest _ _ (passes-rest _ _ e) in
+      (not-false (isReadable (s .phase)) (passes-first _ _ (passes-rest _ _ e3)),
+        ltb-true b (s .l) (not-false (ltb b (s .l)) (passes-first _ _ e3)))
+
+  readable-block : (b : ℕ) → (isReadable (s .phase) ≡ true) × (b < s .l) → Standing n l (record { state = s; memory = m }) disk → blockOf m b ≡ disk b
+  readable-block b r (running tail number q settled unparked) =
+      block-is (m .tables) tail number settled refl b (subst (λ (x : State). b < x .l) q (r .1))
+  readable-block b r (parked tail number q settled) =
+      block-is (m .tables) tail number settled refl b (subst (λ (x : State). b < x .l) q (r .1))
+  readable-block b r (cut q t tail number committed) = absurd (true≢false (sym (r .0) ∙ ap isReadable q))
+
+  -- An accepted read gives its block as the plain disk has it.
+  pub read-gives : (b : ℕ) (out : List ℕ) → accepted (after (readOf s m b out .outcome) (readOf s m b out .memory)) ≡ true
+    → readOf s m b out .out ≡ disk b
+  unfolding readOf readJudged
+  read-gives b out a =
+      ⊎-elim (λ (e : judged (readChecks s m b (length out)) ≡ Pass).
+        rw e (readable-block b (read-passed b out e) stands))
+      (λ v. clash (accepted (refused (v .0) s m)) (rw (v .1) at a) (refused-not (v .0) s m))
+      (verdict? (judged (readChecks s m b (length out))))
+
+-- A read of a running volume with its lengths right is accepted.
+module _ (n l : ℕ) (fit : Fits n l) (m : Memory) (size : Sized n l m) (tail number : ℕ) (disk : Disk)
+  (settled : Settled n l (m .image) (m .tables) tail number disk) where
+  entry-readable : (b : ℕ) → b < l → entryReadable n (m .tables .entry b) ≡ true
+  unfolding entryReadable
+  entry-readable b h =
+      let sound = settled .committed .ground .sound in
+      ⊎-elim (λ (z : isEmpty (m .tables .entry b) ≡ true). or-l (isEmpty (m .tables .entry b)) _ z)
+      (λ (z : isEmpty (m .tables .entry b) ≡ false).
+        or-r (isEmpty (m .tables .entry b)) (within 1 (n - 1) (sectorOf (m .tables .entry b)))
+        (within-is 1 (n - 1) (sectorOf (m .tables .entry b)) (sound .low (block b) (h, z)) (sound .high (block b) (h, z))))
+      (bool? (isEmpty (m .tables .entry b)))
+
+  state-fits : stateFits (freshState n l tail number) m ≡ true
+  unfolding stateFits
+  state-fits =
+      rw (eq-eqb (m .lengths .image) (512 * n) (size .image), within-is 1 24576 l (fit .some) (fit .most))
+      (within-is (2 * piecesFor l + 2) 65536 n (fit .least) (fit .sectors))
+
+  pub read-passes : (b : ℕ) (out : List ℕ) → b < l → length out ≡ 512 → judged (readChecks (freshState n l tail number) m b (length out)) ≡ Pass
+  unfolding readChecks judged
+  read-passes b out h len = rw (state-fits, size .tables, eq-eqb (length out) 512 len, lt-ltb b l h, entry-readable b h) refl

@@ -18,6 +18,7 @@ pub mod Walk
 pub mod Recovery
 pub mod Steps
 pub mod Calls
+pub mod History
 pub mod Rows
 pub mod Samples
 pub mod Corners

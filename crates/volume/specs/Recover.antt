@@ -17,7 +17,7 @@ use Rattle.volume.specs.ParkRecord.{Parked, parkedIn}
 use Rattle.volume.specs.Tables.{Tables, Memory, zeroTables, namedBy, usedBy, consistent}
 use Rattle.types.specs.State.{freshState, lostState}
 use Rattle.volume.specs.Refusals.{judged}
-use Rattle.volume.specs.Store.{Store, storesBelow, After, after, memoryWith, performed, unlessRefused}
+use Rattle.volume.specs.Store.{Store, storesBelow, After, Action, after, memoryWith, performed, unlessRefused}
 use Rattle.volume.specs.Format.{blankStore, sectorsIn, sizeChecks}
 use Rattle.volume.specs.Commit.{branchesIn}
 
@@ -201,19 +201,21 @@ findingFrom n l view sector0 (some parked) =
 abbrev pub findingOf : ℕ → ℕ → View → List ℕ → Finding
 findingOf n l view sector0 = findingFrom n l view sector0 (parkedIn sector0)
 
--- 8 and 9 leave the image and fill the tables with zeros.
-unfoldable pub recovered : ℕ → ℕ → ℕ → Memory → Finding → After
-recovered n l allowance m (found log answer stores) =
-    performed allowance
-    (record {
+-- A log that was found is taken, and the volume runs.
+abbrev pub recoveryAction : ℕ → ℕ → Log → (ℕ → Answer) → List Store → Action
+recoveryAction n l log answer stores =
+    record {
       stores = stores;
       answer = answer;
       state = freshState n l (log .tail) (log .number);
       tables = log .tables;
       cutState = lostState n l;
       cutTables = zeroTables;
-    })
-    m
+    }
+
+-- 8 and 9 leave the image and fill the tables with zeros.
+unfoldable pub recovered : ℕ → ℕ → ℕ → Memory → Finding → After
+recovered n l allowance m (found log answer stores) = performed allowance (recoveryAction n l log answer stores) m
 recovered n l allowance m (missing refusal) =
     after (record { answer = Refused refusal; state = lostState n l }) (memoryWith m (m .image) zeroTables)
 
