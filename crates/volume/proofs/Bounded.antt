@@ -3,12 +3,12 @@ use Prim.Native.Nat.{ℕ, zero, suc, _+_, _≤_, _<_}
 use mathlib.Core.Path.{_≡_, refl, sym, _∙_, ap, subst}
 use mathlib.Core.Logic.{_⊎_, inl, inr, ⊎-elim}
 use mathlib.Core.Bool.{Bool, true, false, cond, not, _&&_, _||_, true≢false}
-use mathlib.Core.List.{List, [], _∷_, _++_}
+use mathlib.Core.List.{List, [], _∷_}
 use native.Mathlib.Nat.{le-of-suc-le-suc, not-suc-le-zero, eq-or-lt-of-le}
 use native.Mathlib.Omega.{arith}
 use lib.ListN.{length, getD}
-use lib.Dec.{leb, ltb, eqb}
-use borrow.Author.Tests.{ltb-true, ltb-false, lt-ltb, le-ltb, eqb-true, eqb-false, eq-eqb, ne-eqb}
+use lib.Dec.{ltb, eqb}
+use borrow.Author.Tests.{ltb-true, ltb-false, eqb-true, eqb-false, eq-eqb, ne-eqb}
 use Rattle.volume.specs.Bounded.{allBelow, anyBelow, countBelow, best, all, elem, distinct, gathered, listFrom, tabled, updated, updates}
 
 -- Deciding.
@@ -92,15 +92,15 @@ module _ {A : Type 0} where
       ∙ updates-other f place value n k (λ i b. h i (omega arith))
 
   pub updates-at : (f : ℕ → A) (place : ℕ → ℕ) (value : ℕ → A) (n i : ℕ) → i < n
-    → ((j k : ℕ) → j < k → k < n → place j ≡ place k → ⊥) → updates f place value n (place i) ≡ value i
+      → ((j k : ℕ) → j < k → k < n → place j ≡ place k → ⊥) → updates f place value n (place i) ≡ value i
   unfolding updates
   updates-at f place value zero i h apart = absurd (not-suc-le-zero h)
   updates-at f place value (suc n) i h apart =
       ⊎-elim (λ (z : i ≡ n).
-        rw z (updated-here (updates f place value n) (place n) (value n)))
+      rw z (updated-here (updates f place value n) (place n) (value n)))
       (λ (z : i < n).
-        updated-other (updates f place value n) (place n) (place i) (value n) (apart i n z (omega arith))
-        ∙ updates-at f place value n i z (λ j k a b. apart j k a (omega arith)))
+      updated-other (updates f place value n) (place n) (place i) (value n) (apart i n z (omega arith))
+      ∙ updates-at f place value n i z (λ j k a b. apart j k a (omega arith)))
       (suc-cases h)
 
   pub listFrom-same : (f g : ℕ → A) (from n : ℕ) → ((k : ℕ) → from ≤ k → k < from + n → f k ≡ g k) → listFrom f from n ≡ listFrom g from n
@@ -195,8 +195,8 @@ module _ (test : ℕ → Bool) where
   count-some (suc n) h =
       ⊎-elim (λ (z : test n ≡ true). (n, omega arith, z))
       (λ (z : test n ≡ false).
-        let w = count-some n (rw (count-miss n z) at h) in
-        (w .0, omega arith, w .2))
+      let w = count-some n (rw (count-miss n z) at h) in
+      (w .0, omega arith, w .2))
       (bool? (test n))
 
   pub count-grows : (m n : ℕ) → m ≤ n → countBelow test m ≤ countBelow test n
@@ -206,9 +206,9 @@ module _ (test : ℕ → Bool) where
   count-grows m (suc n) h =
       ⊎-elim (λ (z : m ≡ suc n). subst (λ (x : ℕ). countBelow test m ≤ countBelow test x) z (omega arith))
       (λ (z : m < suc n).
-        let r = count-grows m n (le-of-suc-le-suc z) in
-        ⊎-elim (λ (y : test n ≡ true). rw (count-hit n y) (omega arith))
-        (λ (y : test n ≡ false). rw (count-miss n y) (omega arith)) (bool? (test n)))
+      let r = count-grows m n (le-of-suc-le-suc z) in
+      ⊎-elim (λ (y : test n ≡ true). rw (count-hit n y) (omega arith))
+      (λ (y : test n ≡ false). rw (count-miss n y) (omega arith)) (bool? (test n)))
       (eq-or-lt-of-le h)
 
   -- The count before a hit is lower than after it.
@@ -224,9 +224,9 @@ module _ (test : ℕ → Bool) where
   count-nth zero j h = absurd (not-suc-le-zero h)
   count-nth (suc n) j h =
       let lower : j < countBelow test n → (p : ℕ) × (p < suc n) × (test p ≡ true) × (countBelow test p ≡ j) =
-          λ b. let w = count-nth n j b in (w .0, omega arith, w .2, w .3) in
+      λ b. let w = count-nth n j b in (w .0, omega arith, w .2, w .3) in
       ⊎-elim (λ (z : test n ≡ true).
-        ⊎-elim (λ (y : j ≡ countBelow test n). (n, omega arith, z, sym y)) lower (suc-cases (rw (count-hit n z) at h)))
+      ⊎-elim (λ (y : j ≡ countBelow test n). (n, omega arith, z, sym y)) lower (suc-cases (rw (count-hit n z) at h)))
       (λ (z : test n ≡ false). lower (rw (count-miss n z) at h)) (bool? (test n))
 
 -- Two tests compared.
@@ -249,14 +249,14 @@ module _ (test other : ℕ → Bool) where
       let r = count-near n b f in
       let m = count-le other n in
       ⊎-elim (λ (z : n ≡ b).
-        let s = count-same n (λ k h. f k (λ (w : k ≡ b). omega arith)) in
-        let g = count-grows other n (suc n) (omega arith) in
-        ⊎-elim (λ (y : test n ≡ true). rw (count-hit test n y) (omega arith))
-        (λ (y : test n ≡ false). rw (count-miss test n y) (omega arith)) (bool? (test n)))
+      let s = count-same n (λ k h. f k (λ (w : k ≡ b). omega arith)) in
+      let g = count-grows other n (suc n) (omega arith) in
+      ⊎-elim (λ (y : test n ≡ true). rw (count-hit test n y) (omega arith))
+      (λ (y : test n ≡ false). rw (count-miss test n y) (omega arith)) (bool? (test n)))
       (λ (z : n ≡ b → ⊥).
-        let e = f n z in
-        ⊎-elim (λ (y : test n ≡ true). rw (count-hit test n y, count-hit other n (sym e ∙ y)) (omega arith))
-        (λ (y : test n ≡ false). rw (count-miss test n y, count-miss other n (sym e ∙ y)) (omega arith)) (bool? (test n)))
+      let e = f n z in
+      ⊎-elim (λ (y : test n ≡ true). rw (count-hit test n y, count-hit other n (sym e ∙ y)) (omega arith))
+      (λ (y : test n ≡ false). rw (count-miss test n y, count-miss other n (sym e ∙ y)) (omega arith)) (bool? (test n)))
       (eq? n b)
 
   -- What passes the one passes the other.
@@ -271,25 +271,25 @@ module _ (test other : ℕ → Bool) where
 
   -- And one that passes the other does not pass the one.
   pub count-less : (n b : ℕ) → ((k : ℕ) → k < n → test k ≡ true → other k ≡ true) → b < n → test b ≡ false → other b ≡ true
-    → countBelow test n < countBelow other n
+      → countBelow test n < countBelow other n
   unfolding countBelow
   count-less zero b f h e g = absurd (not-suc-le-zero h)
   count-less (suc n) b f h e g =
       ⊎-elim (λ (z : b ≡ n).
-        let r = count-fewer n (λ k i. f k (omega arith)) in
-        rw (count-miss test n (ap test (sym z) ∙ e), count-hit other n (ap other (sym z) ∙ g)) (omega arith))
+      let r = count-fewer n (λ k i. f k (omega arith)) in
+      rw (count-miss test n (ap test (sym z) ∙ e), count-hit other n (ap other (sym z) ∙ g)) (omega arith))
       (λ (z : b < n).
-        let r = count-less n b (λ k i. f k (omega arith)) z e g in
-        let m = count-grows other n (suc n) (omega arith) in
-        ⊎-elim (λ (y : test n ≡ true). rw (count-hit test n y, count-hit other n (f n (omega arith) y)) (omega arith))
-        (λ (y : test n ≡ false). rw (count-miss test n y) (omega arith)) (bool? (test n)))
+      let r = count-less n b (λ k i. f k (omega arith)) z e g in
+      let m = count-grows other n (suc n) (omega arith) in
+      ⊎-elim (λ (y : test n ≡ true). rw (count-hit test n y, count-hit other n (f n (omega arith) y)) (omega arith))
+      (λ (y : test n ≡ false). rw (count-miss test n y) (omega arith)) (bool? (test n)))
       (suc-cases h)
 
 -- The greatest key.
 
 module _ (key : ℕ → ℕ) where
   best-step :
-    (n : ℕ) → ((best key (suc n) ≡ n) × (key (best key n) < key n)) ⊎ ((best key (suc n) ≡ best key n) × (key n ≤ key (best key n)))
+      (n : ℕ) → ((best key (suc n) ≡ n) × (key (best key n) < key n)) ⊎ ((best key (suc n) ≡ best key n) × (key n ≤ key (best key n)))
   unfolding best
   best-step n =
       ⊎-elim (λ (z : ltb (key (best key n)) (key n) ≡ true). inl (cond-true (ltb (key (best key n)) (key n)) n (best key n) z, ltb-true _ _ z))
@@ -300,11 +300,11 @@ module _ (key : ℕ → ℕ) where
   best-most zero k h = absurd (not-suc-le-zero h)
   best-most (suc n) k h =
       ⊎-elim (λ w.
-        ⊎-elim (λ (z : k ≡ n). rw (w .0, z) (omega arith))
-        (λ (z : k < n). let r = best-most n k z in let s = w .1 in rw (w .0) (omega arith)) (suc-cases h))
+      ⊎-elim (λ (z : k ≡ n). rw (w .0, z) (omega arith))
+      (λ (z : k < n). let r = best-most n k z in let s = w .1 in rw (w .0) (omega arith)) (suc-cases h))
       (λ w.
-        ⊎-elim (λ (z : k ≡ n). let s = w .1 in rw (w .0, z) s)
-        (λ (z : k < n). let r = best-most n k z in rw (w .0) r) (suc-cases h))
+      ⊎-elim (λ (z : k ≡ n). let s = w .1 in rw (w .0, z) s)
+      (λ (z : k < n). let r = best-most n k z in rw (w .0) r) (suc-cases h))
       (best-step n)
 
   best-none : (n : ℕ) → n ≤ 0 → best key n ≡ 0
@@ -317,8 +317,8 @@ module _ (key : ℕ → ℕ) where
   best-below (suc n) h =
       ⊎-elim (λ w. rw (w .0) (omega arith))
       (λ w.
-        ⊎-elim (λ (z : 0 < n). let r = best-below n z in rw (w .0) (omega arith))
-        (λ (z : n ≤ 0). rw (w .0, best-none n z) (omega arith)) (lt? 0 n))
+      ⊎-elim (λ (z : 0 < n). let r = best-below n z in rw (w .0) (omega arith))
+      (λ (z : n ≤ 0). rw (w .0, best-none n z) (omega arith)) (lt? 0 n))
       (best-step n)
 
   -- The only one with so great a key.
@@ -326,9 +326,9 @@ module _ (key : ℕ → ℕ) where
   best-unique n k h f =
       ⊎-elim (λ (z : best key n ≡ k). z)
       (λ (z : best key n ≡ k → ⊥).
-        let a = best-most n k h in
-        let b = f (best key n) (best-below n (omega arith)) z in
-        absurd (omega arith))
+      let a = best-most n k h in
+      let b = f (best key n) (best-below n (omega arith)) z in
+      absurd (omega arith))
       (eq? (best key n) k)
 
 -- Lists: membership, distinctness, and lists gathered over a bound.
@@ -370,16 +370,16 @@ module _ (test : ℕ → Bool) (value : ℕ → ℕ) (others : List ℕ) where
   gathered-miss n e = cond-false (test n) (value n ∷ gathered test value others n) (gathered test value others n) e
 
   pub gathered-has : (n k : ℕ) → elem k (gathered test value others n) ≡ true
-    → (elem k others ≡ true) ⊎ ((i : ℕ) × (i < n) × (test i ≡ true) × (value i ≡ k))
+      → (elem k others ≡ true) ⊎ ((i : ℕ) × (i < n) × (test i ≡ true) × (value i ≡ k))
   unfolding gathered
   gathered-has zero k e = inl e
   gathered-has (suc n) k e =
       let later : elem k (gathered test value others n) ≡ true
-          → (elem k others ≡ true) ⊎ ((i : ℕ) × (i < suc n) × (test i ≡ true) × (value i ≡ k)) =
-          λ y. ⊎-elim inl (λ w. inr (w .0, omega arith, w .2, w .3)) (gathered-has n k y) in
+      → (elem k others ≡ true) ⊎ ((i : ℕ) × (i < suc n) × (test i ≡ true) × (value i ≡ k)) =
+      λ y. ⊎-elim inl (λ w. inr (w .0, omega arith, w .2, w .3)) (gathered-has n k y) in
       ⊎-elim (λ (z : test n ≡ true).
-        ⊎-elim (λ (y : k ≡ value n). inr (n, omega arith, z, sym y)) later
-        (elem-cons k (value n) (gathered test value others n) (rw (gathered-hit n z) at e)))
+      ⊎-elim (λ (y : k ≡ value n). inr (n, omega arith, z, sym y)) later
+      (elem-cons k (value n) (gathered test value others n) (rw (gathered-hit n z) at e)))
       (λ (z : test n ≡ false). later (rw (gathered-miss n z) at e)) (bool? (test n))
 
   pub gathered-other : (n k : ℕ) → elem k others ≡ true → elem k (gathered test value others n) ≡ true
@@ -395,31 +395,31 @@ module _ (test : ℕ → Bool) (value : ℕ → ℕ) (others : List ℕ) where
   gathered-own zero i h e = absurd (not-suc-le-zero h)
   gathered-own (suc n) i h e =
       ⊎-elim (λ (z : i ≡ n).
-        rw (gathered-hit n (ap test (sym z) ∙ e), z) (elem-here (value n) (gathered test value others n)))
+      rw (gathered-hit n (ap test (sym z) ∙ e), z) (elem-here (value n) (gathered test value others n)))
       (λ (z : i < n).
-        let r = gathered-own n i z e in
-        ⊎-elim (λ (y : test n ≡ true). rw (gathered-hit n y) (elem-there (value i) (value n) (gathered test value others n) r))
-        (λ (y : test n ≡ false). rw (gathered-miss n y) r) (bool? (test n)))
+      let r = gathered-own n i z e in
+      ⊎-elim (λ (y : test n ≡ true). rw (gathered-hit n y) (elem-there (value i) (value n) (gathered test value others n) r))
+      (λ (y : test n ≡ false). rw (gathered-miss n y) r) (bool? (test n)))
       (suc-cases h)
 
   -- Distinct: the others are, the values are, and no value is among the others.
   pub gathered-distinct : (n : ℕ) → distinct others ≡ true
-    → ((i : ℕ) → i < n → test i ≡ true → elem (value i) others ≡ false)
-    → ((i j : ℕ) → i < n → j < n → test i ≡ true → test j ≡ true → value i ≡ value j → i ≡ j)
-    → distinct (gathered test value others n) ≡ true
+      → ((i : ℕ) → i < n → test i ≡ true → elem (value i) others ≡ false)
+      → ((i j : ℕ) → i < n → j < n → test i ≡ true → test j ≡ true → value i ≡ value j → i ≡ j)
+      → distinct (gathered test value others n) ≡ true
   unfolding gathered
   gathered-distinct zero d apart inj = d
   gathered-distinct (suc n) d apart inj =
       let r = gathered-distinct n d (λ i h. apart i (omega arith)) (λ i j h g. inj i j (omega arith) (omega arith)) in
       ⊎-elim (λ (z : test n ≡ true).
-        rw (gathered-hit n z)
-        (distinct-cons (value n) (gathered test value others n)
-        (not-elem (value n) (gathered test value others n)
-        (λ (e : elem (value n) (gathered test value others n) ≡ true).
-          ⊎-elim (λ (y : elem (value n) others ≡ true). clash (elem (value n) others) y (apart n (omega arith) z))
-          (λ w. let q = inj (w .0) n (omega arith) (omega arith) (w .2) z (w .3) in omega arith)
-          (gathered-has n (value n) e)))
-        r))
+      rw (gathered-hit n z)
+      (distinct-cons (value n) (gathered test value others n)
+      (not-elem (value n) (gathered test value others n)
+      (λ (e : elem (value n) (gathered test value others n) ≡ true).
+      ⊎-elim (λ (y : elem (value n) others ≡ true). clash (elem (value n) others) y (apart n (omega arith) z))
+      (λ w. let q = inj (w .0) n (omega arith) (omega arith) (w .2) z (w .3) in omega arith)
+      (gathered-has n (value n) e)))
+      r))
       (λ (z : test n ≡ false). rw (gathered-miss n z) r) (bool? (test n))
 
   pub gathered-rest : (n : ℕ) → distinct (gathered test value others n) ≡ true → distinct others ≡ true
@@ -427,53 +427,53 @@ module _ (test : ℕ → Bool) (value : ℕ → ℕ) (others : List ℕ) where
   gathered-rest zero d = d
   gathered-rest (suc n) d =
       ⊎-elim (λ (z : test n ≡ true).
-        gathered-rest n (distinct-rest (value n) (gathered test value others n) (rw (gathered-hit n z) at d)))
+      gathered-rest n (distinct-rest (value n) (gathered test value others n) (rw (gathered-hit n z) at d)))
       (λ (z : test n ≡ false). gathered-rest n (rw (gathered-miss n z) at d)) (bool? (test n))
 
   pub gathered-apart : (n : ℕ) → distinct (gathered test value others n) ≡ true
-    → (i : ℕ) → i < n → test i ≡ true → elem (value i) others ≡ false
+      → (i : ℕ) → i < n → test i ≡ true → elem (value i) others ≡ false
   unfolding gathered
   gathered-apart zero d i h e = absurd (not-suc-le-zero h)
   gathered-apart (suc n) d i h e =
       ⊎-elim (λ (z : test n ≡ true).
-        let d′ = rw (gathered-hit n z) at d in
-        ⊎-elim (λ (y : i ≡ n).
-          not-elem (value i) others
-          (λ (o : elem (value i) others ≡ true).
-            clash (elem (value n) (gathered test value others n)) (rw y at (gathered-other n (value i) o))
-            (distinct-head (value n) (gathered test value others n) d′)))
-        (λ (y : i < n). gathered-apart n (distinct-rest (value n) (gathered test value others n) d′) i y e)
-        (suc-cases h))
+      let d′ = rw (gathered-hit n z) at d in
+      ⊎-elim (λ (y : i ≡ n).
+      not-elem (value i) others
+      (λ (o : elem (value i) others ≡ true).
+      clash (elem (value n) (gathered test value others n)) (rw y at (gathered-other n (value i) o))
+      (distinct-head (value n) (gathered test value others n) d′)))
+      (λ (y : i < n). gathered-apart n (distinct-rest (value n) (gathered test value others n) d′) i y e)
+      (suc-cases h))
       (λ (z : test n ≡ false).
-        ⊎-elim (λ (y : i ≡ n). clash (test i) e (ap test y ∙ z))
-        (λ (y : i < n). gathered-apart n (rw (gathered-miss n z) at d) i y e) (suc-cases h))
+      ⊎-elim (λ (y : i ≡ n). clash (test i) e (ap test y ∙ z))
+      (λ (y : i < n). gathered-apart n (rw (gathered-miss n z) at d) i y e) (suc-cases h))
       (bool? (test n))
 
   pub gathered-injective : (n : ℕ) → distinct (gathered test value others n) ≡ true
-    → (i j : ℕ) → i < j → j < n → test i ≡ true → test j ≡ true → value i ≡ value j → ⊥
+      → (i j : ℕ) → i < j → j < n → test i ≡ true → test j ≡ true → value i ≡ value j → ⊥
   unfolding gathered
   gathered-injective zero d i j h g e f q = absurd (not-suc-le-zero g)
   gathered-injective (suc n) d i j h g e f q =
       ⊎-elim (λ (y : j ≡ n).
-        let z = ap test (sym y) ∙ f in
-        let v = q ∙ ap value y in
-        let here = gathered-own n i (omega arith) e in
-        clash (elem (value n) (gathered test value others n)) (rw v at here)
-        (distinct-head (value n) (gathered test value others n) (rw (gathered-hit n z) at d)))
+      let z = ap test (sym y) ∙ f in
+      let v = q ∙ ap value y in
+      let here = gathered-own n i (omega arith) e in
+      clash (elem (value n) (gathered test value others n)) (rw v at here)
+      (distinct-head (value n) (gathered test value others n) (rw (gathered-hit n z) at d)))
       (λ (y : j < n).
-        ⊎-elim (λ (z : test n ≡ true).
-          gathered-injective n (distinct-rest (value n) (gathered test value others n) (rw (gathered-hit n z) at d)) i j h y e f q)
-        (λ (z : test n ≡ false). gathered-injective n (rw (gathered-miss n z) at d) i j h y e f q) (bool? (test n)))
+      ⊎-elim (λ (z : test n ≡ true).
+      gathered-injective n (distinct-rest (value n) (gathered test value others n) (rw (gathered-hit n z) at d)) i j h y e f q)
+      (λ (z : test n ≡ false). gathered-injective n (rw (gathered-miss n z) at d) i j h y e f q) (bool? (test n)))
       (suc-cases g)
 
   pub gathered-all : (check : ℕ → Bool) (n : ℕ) → all check others ≡ true
-    → ((i : ℕ) → i < n → test i ≡ true → check (value i) ≡ true) → all check (gathered test value others n) ≡ true
+      → ((i : ℕ) → i < n → test i ≡ true → check (value i) ≡ true) → all check (gathered test value others n) ≡ true
   unfolding gathered all
   gathered-all check zero o f = o
   gathered-all check (suc n) o f =
       let r = gathered-all check n o (λ i h. f i (omega arith)) in
       ⊎-elim (λ (z : test n ≡ true).
-        rw (gathered-hit n z) (and-i (check (value n)) (all check (gathered test value others n)) (f n (omega arith) z) r))
+      rw (gathered-hit n z) (and-i (check (value n)) (all check (gathered test value others n)) (f n (omega arith) z) r))
       (λ (z : test n ≡ false). rw (gathered-miss n z) r) (bool? (test n))
 
   pub gathered-length : (n : ℕ) → length (gathered test value others n) ≡ countBelow test n + length others

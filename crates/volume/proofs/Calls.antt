@@ -1,45 +1,42 @@
 -- Each call of a list keeps the volume's standing.
-use Prim.Native.Nat.{ℕ, zero, suc, _+_, _*_, _-_, _/_, _%_, _^_, _≤_, _<_}
+use Prim.Native.Nat.{ℕ, zero, suc, _+_, _*_, _-_, _/_, _≤_, _<_}
 use mathlib.Core.Path.{_≡_, refl, sym, _∙_, ap, subst}
-use mathlib.Core.Logic.{_⊎_, inl, inr, ⊎-elim}
-use mathlib.Core.Bool.{Bool, true, false, cond, not, _&&_, _||_, true≢false}
-use mathlib.Core.List.{List, [], _∷_, _++_}
-use mathlib.Core.Option.{Option, none, some}
+use mathlib.Core.Logic.{inr, ⊎-elim}
+use mathlib.Core.Bool.{Bool, true, false, cond, not, _&&_, true≢false}
+use mathlib.Core.List.{List, [], _∷_}
+use mathlib.Core.Option.{some}
 use native.Mathlib.Nat.{le-of-suc-le-suc, not-suc-le-zero}
 use native.Mathlib.Omega.{arith}
 use lib.ListN.{length, take}
 use lib.Dec.{leb, ltb, eqb}
-use borrow.Author.Tests.{ltb-true, ltb-false, lt-ltb, le-ltb, leb-true, le-leb, eqb-true, eq-eqb}
+use borrow.Author.Tests.{ltb-true, ltb-false, lt-ltb, leb-true, eqb-true, eq-eqb}
 use Rattle.types.specs.declared.state.State.{State}
-use Rattle.types.specs.declared.state.Phase.{Phase}
-use Rattle.types.specs.declared.state.Phase.the-variants.{Running, Parked, Cut}
 use Rattle.types.specs.declared.answer.Refusal.{Refusal}
-use Rattle.types.specs.declared.answer.Verdict.{Verdict}
-use Rattle.types.specs.declared.answer.Verdict.the-variants.{Pass, Refuse}
-use Rattle.types.specs.Geometry.{within, piecesFor, usedBytes, geometryFits}
-use Rattle.types.specs.State.{freshState, parkedState, cutState, isRunning, isReadable}
-use Rattle.volume.specs.Bounded.{at, all, allBelow, elem, isZero, updated, updates}
-use Rattle.volume.specs.MapSector.{MapSector, decoded}
-use Rattle.volume.specs.Entry.{blank, isEmpty, sectorOf, stored, entryFor, restored}
+use Rattle.types.specs.declared.answer.Verdict.the-variants.{Pass}
+use Rattle.types.specs.Geometry.{within, piecesFor}
+use Rattle.types.specs.State.{freshState, isRunning, isReadable}
+use Rattle.volume.specs.Bounded.{at, all, allBelow, updated, updates}
+use Rattle.volume.specs.MapSector.{MapSector}
+use Rattle.volume.specs.Entry.{blank, isEmpty, sectorOf, restored}
 use Rattle.volume.specs.ParkRecord.{parkRecord}
 use Rattle.volume.specs.Tables.{Tables, Memory, zeroTables, sectorAt, freeSectors}
-use Rattle.volume.specs.Refusals.{Check, judged}
-use Rattle.volume.specs.Store.{Store, After, applied, performed, unlessRefused, refused, memoryWith, after}
-use Rattle.volume.specs.Format.{sectorsIn, tablesFit, sizeChecks}
+use Rattle.volume.specs.Refusals.{judged}
+use Rattle.volume.specs.Store.{After, applied, performed, refused, after}
+use Rattle.volume.specs.Format.{sectorsIn, sizeChecks}
 use Rattle.volume.specs.Placing.{Rules}
 use Rattle.volume.specs.Commit.{Change, commitAction}
-use Rattle.volume.specs.Calls.{viewOf, stateFits, blocksFit, tablesAgree, commitChecks, commitOf, writeChange, dropChange, roomFor, writeBy, dropBy, entryReadable, readChecks, blockOf, readJudged, readOf, parkChecks, parkAction, parkOf}
-use Rattle.volume.specs.Recover.{Log, found, findingOf, imageView, recoveryAction, recovered, recoverOf}
-use Rattle.volume.specs.History.{World, worldOf, accepted, Disk, CommitKept, putBlocks}
-use Rattle.volume.proofs.Bounded.{bool?, lt?, eq?, clash, and-l, and-r, and-i, or-r, or-l, not-is, not-of, cond-true, cond-false, updated-here, updated-other, allBelow-at, suc-cases}
-use Rattle.volume.proofs.Codec.{park-unsigned, stored-unsigned, restored-stored, restored-empty, entry-sector, entry-full, entry-word}
-use Rattle.volume.proofs.Names.{Name, piece, block, Named, sectorNamed, Sound, within-is}
+use Rattle.volume.specs.Calls.{viewOf, stateFits, blocksFit, commitChecks, commitOf, writeChange, dropChange, roomFor, writeBy, dropBy, entryReadable, readChecks, blockOf, readJudged, readOf, parkChecks, parkAction, parkOf}
+use Rattle.volume.specs.Recover.{Log, findingOf, imageView, recoveryAction, recovered, recoverOf}
+use Rattle.volume.specs.History.{worldOf, accepted, Disk, putBlocks}
+use Rattle.volume.proofs.Bounded.{bool?, lt?, eq?, clash, and-l, and-r, or-r, or-l, not-of, updated-here, updated-other, allBelow-at, suc-cases}
+use Rattle.volume.proofs.Codec.{stored-unsigned, restored-stored, restored-empty, entry-sector, entry-full, entry-word}
+use Rattle.volume.proofs.Names.{block, sectorNamed, within-is}
 use Rattle.volume.proofs.Placing.{Choosing}
-use Rattle.volume.proofs.Invariant.{Fits, Ground, Committed, Settled, view-at, view-below, view-same, ground-moves}
-use Rattle.volume.proofs.Clearing.{view-blank, view-parked}
+use Rattle.volume.proofs.Invariant.{Fits, Committed, Settled, view-same, ground-moves}
+use Rattle.volume.proofs.Clearing.{view-parked}
 use Rattle.volume.proofs.Plan.{Given}
 use Rattle.volume.proofs.Recovery.{Finds, recovers}
-use Rattle.volume.proofs.Steps.{verdict?, passes-first, passes-rest, passes-all, not-false, refused-not, Standing, running, parked, cut, Sized, sized-with, performed-cut, performed-whole, Step, commit-step}
+use Rattle.volume.proofs.Steps.{verdict?, passes-first, passes-rest, not-false, refused-not, Standing, running, parked, cut, Sized, sized-with, performed-cut, performed-whole, Step, commit-step}
 
 -- Block numbers.
 
@@ -74,7 +71,7 @@ blocks-fit n l head blocks e =
       some = leb-true 1 (length blocks) (and-l (leb 1 (length blocks)) (leb (length blocks) 64) (and-l a1 a2 e2));
       below = λ i h. ltb-true (at blocks i) l (all-at (λ b. ltb b l) blocks i (and-r (a1 && a2) a3 e3) h);
       apart = λ i j h b z. let r = ascends blocks (and-r a1 a2 e2) i j h b in omega arith;
-      inside = ltb-true head n (and-r (a1 && a2 && a3) a4 e)
+      inside = ltb-true head n (and-r (a1 && a2 && a3) a4 e);
     }
 
 -- What the checks of a commit say where they all pass.
@@ -85,7 +82,7 @@ record Checked (rules : Rules) (s : State) (m : Memory) (head : ℕ) (blocks : L
   numbers : s .number ≤ rules .greatest
 
 checked : (rules : Rules) (s : State) (m : Memory) (head : ℕ) (blocks : List ℕ) (bytesFit hasRoom : Bool)
-  → judged (commitChecks rules s m head blocks bytesFit hasRoom) ≡ Pass → Checked rules s m head blocks hasRoom
+    → judged (commitChecks rules s m head blocks bytesFit hasRoom) ≡ Pass → Checked rules s m head blocks hasRoom
 unfolding commitChecks
 checked rules s m head blocks bytesFit hasRoom e =
     let e2 = passes-rest _ _ e in
@@ -98,32 +95,32 @@ checked rules s m head blocks bytesFit hasRoom e =
       named = blocks-fit (s .n) (s .l) head blocks (not-false (blocksFit (s .n) (s .l) head blocks) (passes-first _ _ e3));
       phase = not-false (isRunning (s .phase)) (passes-first _ _ e4);
       room = not-false hasRoom (passes-first _ _ e6);
-      numbers = ltb-false (rules .greatest) (s .number) (passes-first _ _ e7)
+      numbers = ltb-false (rules .greatest) (s .number) (passes-first _ _ e7);
     }
 
 -- A refused call.
 refused-step : (n l : ℕ) (s : State) (m : Memory) (r : Refusal) (disk disk′ : Disk) → Sized n l m
-  → Standing n l (record { state = s; memory = m }) disk → Step n l m (refused r s m) disk disk′
+    → Standing n l (record { state = s; memory = m }) disk → Step n l m (refused r s m) disk disk′
 refused-step n l s m r disk disk′ size stands =
     record {
       kept = λ e. clash (accepted (refused r s m)) e (refused-not r s m);
       stands = subst (λ (b : Bool). Standing n l (record { state = s; memory = m }) (cond b disk′ disk)) (sym (refused-not r s m)) stands;
-      sized = size
+      sized = size;
     }
 
 module _ (rules : Rules) (law : Choosing rules) (n l : ℕ) (fit : Fits n l) where
   -- Write and drop, of a volume that stands in any way.
   module _ (s : State) (m : Memory) (size : Sized n l m) (disk : Disk) (stands : Standing n l (record { state = s; memory = m }) disk)
-    (head : ℕ) (change : Change) (values : ℕ → List ℕ) (bytesFit hasRoom : Bool)
-    (given : (tail number : ℕ) → s ≡ freshState n l tail number → Settled n l (m .image) (m .tables) tail number disk → m .image 0 ≡ blank
-    → Checked rules (freshState n l tail number) m head (change .blocks) hasRoom
-    → Given rules (freshState n l tail number) (m .tables) (m .image) disk head change values) where
+      (head : ℕ) (change : Change) (values : ℕ → List ℕ) (bytesFit hasRoom : Bool)
+      (given : (tail number : ℕ) → s ≡ freshState n l tail number → Settled n l (m .image) (m .tables) tail number disk → m .image 0 ≡ blank
+      → Checked rules (freshState n l tail number) m head (change .blocks) hasRoom
+      → Given rules (freshState n l tail number) (m .tables) (m .image) disk head change values) where
     abbrev changed : Disk
     changed = updates disk (at (change .blocks)) values (length (change .blocks))
 
     passed : (allowance : ℕ) → judged (commitChecks rules s m head (change .blocks) bytesFit hasRoom) ≡ Pass
-      → Standing n l (record { state = s; memory = m }) disk
-      → Step n l m (performed allowance (commitAction rules s (m .tables) (viewOf (s .n) (s .l) (m .image)) head change) m) disk changed
+        → Standing n l (record { state = s; memory = m }) disk
+        → Step n l m (performed allowance (commitAction rules s (m .tables) (viewOf (s .n) (s .l) (m .image)) head change) m) disk changed
     passed allowance e (running tail number q settled unparked) =
         let c = checked rules s m head (change .blocks) bytesFit hasRoom e in
         let g = given tail number q settled unparked (subst (λ (x : State). Checked rules x m head (change .blocks) hasRoom) q c) in
@@ -140,13 +137,13 @@ module _ (rules : Rules) (law : Choosing rules) (n l : ℕ) (fit : Fits n l) whe
     unfolding commitOf
     commit-stands allowance =
         ⊎-elim (λ (e : judged (commitChecks rules s m head (change .blocks) bytesFit hasRoom) ≡ Pass).
-          rw e (passed allowance e stands))
+        rw e (passed allowance e stands))
         (λ v. rw (v .1) (refused-step n l s m (v .0) disk changed size stands))
         (verdict? (judged (commitChecks rules s m head (change .blocks) bytesFit hasRoom)))
 
   module _ (s : State) (m : Memory) (size : Sized n l m) (disk : Disk) (stands : Standing n l (record { state = s; memory = m }) disk) where
     room-fits : (blocks : List ℕ) (tail number : ℕ) → s ≡ freshState n l tail number → roomFor s m blocks ≡ true
-      → length blocks + piecesFor l ≤ freeSectors n (m .tables .isUsed)
+        → length blocks + piecesFor l ≤ freeSectors n (m .tables .isUsed)
     unfolding roomFor
     room-fits blocks tail number q e =
         let r = subst (λ (x : State). not (ltb (freeSectors (x .n) (m .tables .isUsed)) (length blocks + piecesFor (x .l))) ≡ true) q e in
@@ -154,72 +151,72 @@ module _ (rules : Rules) (law : Choosing rules) (n l : ℕ) (fit : Fits n l) whe
         (not-of (ltb (freeSectors n (m .tables .isUsed)) (length blocks + piecesFor l)) r)
 
     pub write-stands : (head : ℕ) (blocks bytes : List ℕ) (allowance : ℕ)
-      → Step n l m (writeBy rules s m head blocks bytes allowance) disk (putBlocks disk blocks (sectorAt bytes))
+        → Step n l m (writeBy rules s m head blocks bytes allowance) disk (putBlocks disk blocks (sectorAt bytes))
     unfolding writeBy putBlocks writeChange
     write-stands head blocks bytes allowance =
         commit-stands s m size disk stands head (writeChange blocks bytes) (sectorAt bytes) (eqb (length bytes) (512 * length blocks)) (roomFor s m blocks)
         (λ tail number q settled unparked c.
-          record {
-            fit = fit;
-            settled = settled;
-            unparked = unparked;
-            inside = c .named .inside;
-            some = c .named .some;
-            blocks = c .named .below;
-            apart = c .named .apart;
-            few = omega arith;
-            unsigned = λ i h. stored-unsigned n l (sectorAt bytes i);
-            full = λ i k h low high. entry-full (sectorAt bytes i) k low;
-            sector = λ i k h low high. entry-sector (sectorAt bytes i) k high;
-            word = λ i k h low high. entry-word (sectorAt bytes i) k high;
-            back = λ i k h low high. restored-stored (sectorAt bytes i) k low high;
-            gone = λ i k h b. absurd (omega arith);
-            emptied = λ i h b. absurd (omega arith);
-            room = room-fits blocks tail number q (c .room);
-            numbers = c .numbers
-          })
+        record {
+          fit = fit;
+          settled = settled;
+          unparked = unparked;
+          inside = c .named .inside;
+          some = c .named .some;
+          blocks = c .named .below;
+          apart = c .named .apart;
+          few = omega arith;
+          unsigned = λ i h. stored-unsigned n l (sectorAt bytes i);
+          full = λ i k h low high. entry-full (sectorAt bytes i) k low;
+          sector = λ i k h low high. entry-sector (sectorAt bytes i) k high;
+          word = λ i k h low high. entry-word (sectorAt bytes i) k high;
+          back = λ i k h low high. restored-stored (sectorAt bytes i) k low high;
+          gone = λ i k h b. absurd (omega arith);
+          emptied = λ i h b. absurd (omega arith);
+          room = room-fits blocks tail number q (c .room);
+          numbers = c .numbers;
+        })
         allowance
 
     pub drop-stands : (head : ℕ) (blocks : List ℕ) (allowance : ℕ)
-      → Step n l m (dropBy rules s m head blocks allowance) disk (putBlocks disk blocks (λ _. blank))
+        → Step n l m (dropBy rules s m head blocks allowance) disk (putBlocks disk blocks (λ _. blank))
     unfolding dropBy putBlocks dropChange
     drop-stands head blocks allowance =
         commit-stands s m size disk stands head (dropChange blocks) (λ _. blank) true true
         (λ tail number q settled unparked c.
-          record {
-            fit = fit;
-            settled = settled;
-            unparked = unparked;
-            inside = c .named .inside;
-            some = c .named .some;
-            blocks = c .named .below;
-            apart = c .named .apart;
-            few = omega arith;
-            unsigned = λ i h. absurd (not-suc-le-zero h);
-            full = λ i k h low high. absurd (not-suc-le-zero h);
-            sector = λ i k h low high. absurd (not-suc-le-zero h);
-            word = λ i k h low high. absurd (not-suc-le-zero h);
-            back = λ i k h low high. absurd (not-suc-le-zero h);
-            gone = λ i k h b. refl;
-            emptied = λ i h b. refl;
-            room = let r = settled .committed .ground .sound .room in omega arith;
-            numbers = c .numbers
-          })
+        record {
+          fit = fit;
+          settled = settled;
+          unparked = unparked;
+          inside = c .named .inside;
+          some = c .named .some;
+          blocks = c .named .below;
+          apart = c .named .apart;
+          few = omega arith;
+          unsigned = λ i h. absurd (not-suc-le-zero h);
+          full = λ i k h low high. absurd (not-suc-le-zero h);
+          sector = λ i k h low high. absurd (not-suc-le-zero h);
+          word = λ i k h low high. absurd (not-suc-le-zero h);
+          back = λ i k h low high. absurd (not-suc-le-zero h);
+          gone = λ i k h b. refl;
+          emptied = λ i h b. refl;
+          room = let r = settled .committed .ground .sound .room in omega arith;
+          numbers = c .numbers;
+        })
         allowance
 
 -- A park record over a blank sector 0.
 module _ (n l : ℕ) (fit : Fits n l) (image : ℕ → List ℕ) (t : Tables) (tail number : ℕ) (disk : Disk)
-  (settled : Settled n l image t tail number disk) where
+    (settled : Settled n l image t tail number disk) where
   abbrev parkImage : ℕ → List ℕ
   parkImage = updated image 0 (parkRecord (record { number = number; tail = tail }))
 
   was : (k : ℕ) (a : MapSector) → imageView n l parkImage k ≡ some a → imageView n l image k ≡ some a
   was k a e =
       ⊎-elim (λ (z : k ≡ 0).
-        absurd (view-parked n l parkImage 0 (record { number = number; tail = tail })
-        (updated-here image 0 (parkRecord (record { number = number; tail = tail }))) a (subst (λ (x : ℕ). imageView n l parkImage x ≡ some a) z e)))
+      absurd (view-parked n l parkImage 0 (record { number = number; tail = tail })
+      (updated-here image 0 (parkRecord (record { number = number; tail = tail }))) a (subst (λ (x : ℕ). imageView n l parkImage x ≡ some a) z e)))
       (λ (z : k ≡ 0 → ⊥).
-        view-same n l image parkImage k (sym (updated-other image 0 k (parkRecord (record { number = number; tail = tail })) z)) ∙ e)
+      view-same n l image parkImage k (sym (updated-other image 0 k (parkRecord (record { number = number; tail = tail })) z)) ∙ e)
       (eq? k 0)
 
   parked-settles : Settled n l parkImage t tail number disk
@@ -229,16 +226,16 @@ module _ (n l : ℕ) (fit : Fits n l) (image : ℕ → List ℕ) (t : Tables) (t
       record {
         committed = record {
           ground = ground-moves parkImage fit
-            (λ x h.
+              (λ x h.
               updated-other image 0 (sectorNamed l (t .entry) (t .place) x) (parkRecord (record { number = number; tail = tail }))
               (λ (z : sectorNamed l (t .entry) (t .place) x ≡ 0). let low = c .ground .sound .low x h in omega arith))
-            (c .ground);
+              (c .ground);
           apart = λ j k a b e f. c .apart j k a b (was j a e) (was k b f);
           latest = λ k a e. c .latest k a (was k a e);
           unclosed = λ k a e. c .unclosed k a (was k a e);
-          park = inr (updated-here image 0 (parkRecord (record { number = number; tail = tail })), above)
+          park = inr (updated-here image 0 (parkRecord (record { number = number; tail = tail })), above);
         };
-        none-above = above
+        none-above = above;
       }
 
 -- How a world stands after a call that changes no block.
@@ -247,17 +244,17 @@ pub record Stays (n l : ℕ) (r : After) (disk : Disk) : Type 0 where
   pub sized : Sized n l (r .memory)
 
 refused-stays : (n l : ℕ) (s : State) (m : Memory) (r : Refusal) (disk : Disk) → Sized n l m → Standing n l (record { state = s; memory = m }) disk
-  → Stays n l (refused r s m) disk
+    → Stays n l (refused r s m) disk
 refused-stays n l s m r disk size stands = record { stands = stands; sized = size }
 
 module _ (n l : ℕ) (fit : Fits n l) (s : State) (m : Memory) (size : Sized n l m) (disk : Disk)
-  (stands : Standing n l (record { state = s; memory = m }) disk) where
+    (stands : Standing n l (record { state = s; memory = m }) disk) where
   park-running : (judged (parkChecks s m) ≡ Pass) → isRunning (s .phase) ≡ true
   unfolding parkChecks
   park-running e = not-false (isRunning (s .phase)) (passes-first _ _ (passes-rest _ _ (passes-rest _ _ e)))
 
   park-performed : (tail number allowance : ℕ) → Settled n l (m .image) (m .tables) tail number disk
-    → Stays n l (performed allowance (parkAction (freshState n l tail number) m) m) disk
+      → Stays n l (performed allowance (parkAction (freshState n l tail number) m) m) disk
   unfolding parkAction applied
   park-performed tail number zero settled =
       subst (λ (r : After). Stays n l r disk) (sym (performed-cut 0 (parkAction (freshState n l tail number) m) m (omega arith)))
@@ -266,11 +263,11 @@ module _ (n l : ℕ) (fit : Fits n l) (s : State) (m : Memory) (size : Sized n l
       subst (λ (r : After). Stays n l r disk) (sym (performed-whole (suc allowance) (parkAction (freshState n l tail number) m) m (omega arith)))
       (record {
         stands = parked tail number refl (parked-settles n l fit (m .image) (m .tables) tail number disk settled);
-        sized = sized-with n l m (parkImage n l fit (m .image) (m .tables) tail number disk settled) (m .tables) size
+        sized = sized-with n l m (parkImage n l fit (m .image) (m .tables) tail number disk settled) (m .tables) size;
       })
 
   park-passed : (allowance : ℕ) → judged (parkChecks s m) ≡ Pass → Standing n l (record { state = s; memory = m }) disk
-    → Stays n l (performed allowance (parkAction s m) m) disk
+      → Stays n l (performed allowance (parkAction s m) m) disk
   park-passed allowance e (running tail number q settled unparked) =
       subst (λ (x : State). Stays n l (performed allowance (parkAction x m) m) disk) (sym q) (park-performed tail number allowance settled)
   park-passed allowance e (parked tail number q settled) =
@@ -285,7 +282,7 @@ module _ (n l : ℕ) (fit : Fits n l) (s : State) (m : Memory) (size : Sized n l
 
   -- Some tables are committed, however the volume stands.
   pub committed-some : Standing n l (record { state = s; memory = m }) disk
-    → (t : Tables) × (tail : ℕ) × (number : ℕ) × Committed n l (m .image) t tail number disk
+      → (t : Tables) × (tail : ℕ) × (number : ℕ) × Committed n l (m .image) t tail number disk
   committed-some (running tail number q settled unparked) = (m .tables, tail, number, settled .committed)
   committed-some (parked tail number q settled) = (m .tables, tail, number, settled .committed)
   committed-some (cut q t tail number committed) = (t, tail, number, committed)
@@ -294,21 +291,21 @@ module _ (n l : ℕ) (fit : Fits n l) (s : State) (m : Memory) (size : Sized n l
   sectors-is = ap (λ (x : ℕ). x / 512) (size .image) ∙ (let q : 512 * n / 512 ≡ n = omega arith in q)
 
   recovery-performed : (t : Tables) (tail number allowance : ℕ) → Finds n l (m .image) t tail number disk
-    → Stays n l (recovered n l allowance m (findingOf n l (imageView n l (m .image)) (m .image 0))) disk
+      → Stays n l (recovered n l allowance m (findingOf n l (imageView n l (m .image)) (m .image 0))) disk
   unfolding recovered
   recovery-performed t tail number allowance f =
       let log : Log = record { tables = t; tail = tail; number = number } in
       let action = recoveryAction n l log (f .answer) (f .stores) in
       rw (f .finding)
       (⊎-elim (λ (h : allowance < length (f .stores)).
-        subst (λ (r : After). Stays n l r disk) (sym (performed-cut allowance action m h))
-        (record {
-          stands = cut refl t tail number (f .cut allowance);
-          sized = sized-with n l m (applied (take allowance (f .stores)) (m .image)) zeroTables size
-        }))
+      subst (λ (r : After). Stays n l r disk) (sym (performed-cut allowance action m h))
+      (record {
+        stands = cut refl t tail number (f .cut allowance);
+        sized = sized-with n l m (applied (take allowance (f .stores)) (m .image)) zeroTables size;
+      }))
       (λ (h : length (f .stores) ≤ allowance).
-        subst (λ (r : After). Stays n l r disk) (sym (performed-whole allowance action m h))
-        (record { stands = running tail number refl (f .whole) (f .blanks); sized = sized-with n l m (applied (f .stores) (m .image)) t size }))
+      subst (λ (r : After). Stays n l r disk) (sym (performed-whole allowance action m h))
+      (record { stands = running tail number refl (f .whole) (f .blanks); sized = sized-with n l m (applied (f .stores) (m .image)) t size }))
       (lt? allowance (length (f .stores))))
 
   pub recover-stays : (allowance : ℕ) → Stays n l (recoverOf s m l allowance) disk
@@ -316,14 +313,14 @@ module _ (n l : ℕ) (fit : Fits n l) (s : State) (m : Memory) (size : Sized n l
   recover-stays allowance =
       let c = committed-some stands in
       ⊎-elim (λ (e : judged (sizeChecks m l) ≡ Pass).
-        rw (e, sectors-is)
-        (recovery-performed (c .0) (c .1) (c .2) allowance (recovers n l (m .image) (c .0) (c .1) (c .2) disk fit (c .3))))
+      rw (e, sectors-is)
+      (recovery-performed (c .0) (c .1) (c .2) allowance (recovers n l (m .image) (c .0) (c .1) (c .2) disk fit (c .3))))
       (λ v. rw (v .1) (refused-stays n l s m (v .0) disk size stands)) (verdict? (judged (sizeChecks m l)))
 
   -- Reads.
 
   pub read-world : (b : ℕ) (out : List ℕ)
-    → worldOf (after (readOf s m b out .outcome) (readOf s m b out .memory)) ≡ record { state = s; memory = m }
+      → worldOf (after (readOf s m b out .outcome) (readOf s m b out .memory)) ≡ record { state = s; memory = m }
   unfolding readOf readJudged
   read-world b out =
       ⊎-elim (λ (e : judged (readChecks s m b (length out)) ≡ Pass). rw e refl) (λ v. rw (v .1) refl)
@@ -331,21 +328,22 @@ module _ (n l : ℕ) (fit : Fits n l) (s : State) (m : Memory) (size : Sized n l
 
   -- A block of a volume whose tables are in hand.
   pub block-is : (t : Tables) (tail number : ℕ) → Settled n l (m .image) t tail number disk → m .tables ≡ t
-    → (b : ℕ) → b < l → blockOf m b ≡ disk b
+      → (b : ℕ) → b < l → blockOf m b ≡ disk b
   unfolding blockOf
   block-is t tail number settled q b h =
       let ground = settled .committed .ground in
       rw q
       (⊎-elim (λ (z : isEmpty (t .entry b) ≡ true).
-        ap (λ (x : ℕ). restored x (m .image (sectorOf x))) (eqb-true (t .entry b) 0 z) ∙ restored-empty (m .image (sectorOf 0)) ∙ sym (ground .empty b h z))
+      ap (λ (x : ℕ). restored x (m .image (sectorOf x))) (eqb-true (t .entry b) 0 z) ∙ restored-empty (m .image (sectorOf 0)) ∙ sym (ground .empty b h z))
       (λ (z : isEmpty (t .entry b) ≡ false). ground .full b h z) (bool? (isEmpty (t .entry b))))
 
   read-passed : (b : ℕ) (out : List ℕ) → judged (readChecks s m b (length out)) ≡ Pass → (isReadable (s .phase) ≡ true) × (b < s .l)
   unfolding readChecks
   read-passed b out e =
-      let e3 = passes-rest _ _ (passes-rest _ _ e) in
-      (not-false (isReadable (s .phase)) (passes-first _ _ (passes-rest _ _ e3)),
-        ltb-true b (s .l) (not-false (ltb b (s .l)) (passes-first _ _ e3)))
+      let e3 = passes-rest _ _ (passes-rest _ _ e) in (
+        not-false (isReadable (s .phase)) (passes-first _ _ (passes-rest _ _ e3)),
+        ltb-true b (s .l) (not-false (ltb b (s .l)) (passes-first _ _ e3)),
+      )
 
   readable-block : (b : ℕ) → (isReadable (s .phase) ≡ true) × (b < s .l) → Standing n l (record { state = s; memory = m }) disk → blockOf m b ≡ disk b
   readable-block b r (running tail number q settled unparked) =
@@ -356,25 +354,25 @@ module _ (n l : ℕ) (fit : Fits n l) (s : State) (m : Memory) (size : Sized n l
 
   -- An accepted read gives its block as the plain disk has it.
   pub read-gives : (b : ℕ) (out : List ℕ) → accepted (after (readOf s m b out .outcome) (readOf s m b out .memory)) ≡ true
-    → readOf s m b out .out ≡ disk b
+      → readOf s m b out .out ≡ disk b
   unfolding readOf readJudged
   read-gives b out a =
       ⊎-elim (λ (e : judged (readChecks s m b (length out)) ≡ Pass).
-        rw e (readable-block b (read-passed b out e) stands))
+      rw e (readable-block b (read-passed b out e) stands))
       (λ v. clash (accepted (refused (v .0) s m)) (rw (v .1) at a) (refused-not (v .0) s m))
       (verdict? (judged (readChecks s m b (length out))))
 
 -- A read of a running volume with its lengths right is accepted.
 module _ (n l : ℕ) (fit : Fits n l) (m : Memory) (size : Sized n l m) (tail number : ℕ) (disk : Disk)
-  (settled : Settled n l (m .image) (m .tables) tail number disk) where
+    (settled : Settled n l (m .image) (m .tables) tail number disk) where
   entry-readable : (b : ℕ) → b < l → entryReadable n (m .tables .entry b) ≡ true
   unfolding entryReadable
   entry-readable b h =
       let sound = settled .committed .ground .sound in
       ⊎-elim (λ (z : isEmpty (m .tables .entry b) ≡ true). or-l (isEmpty (m .tables .entry b)) _ z)
       (λ (z : isEmpty (m .tables .entry b) ≡ false).
-        or-r (isEmpty (m .tables .entry b)) (within 1 (n - 1) (sectorOf (m .tables .entry b)))
-        (within-is 1 (n - 1) (sectorOf (m .tables .entry b)) (sound .low (block b) (h, z)) (sound .high (block b) (h, z))))
+      or-r (isEmpty (m .tables .entry b)) (within 1 (n - 1) (sectorOf (m .tables .entry b)))
+      (within-is 1 (n - 1) (sectorOf (m .tables .entry b)) (sound .low (block b) (h, z)) (sound .high (block b) (h, z))))
       (bool? (isEmpty (m .tables .entry b)))
 
   state-fits : stateFits (freshState n l tail number) m ≡ true

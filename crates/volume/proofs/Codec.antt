@@ -1,24 +1,24 @@
 -- What the rest leans on of the formats: a map sector that was made is signed and says what it was made of; a stored block, a
 -- blank sector and a park record are never signed; a park record says what it was made of; a block is read as it was written.
 use Prim.Native.Nat.{ℕ, zero, suc, _+_, _*_, _-_, _/_, _%_, _^_, _≤_, _<_}
-use mathlib.Core.Path.{_≡_, refl, sym, _∙_, ap, subst}
-use mathlib.Core.Logic.{_⊎_, inl, inr, ⊎-elim}
-use mathlib.Core.Bool.{Bool, true, false, cond, not, _&&_, true≢false}
+use mathlib.Core.Path.{_≡_, refl, sym, _∙_, ap}
+use mathlib.Core.Logic.{⊎-elim}
+use mathlib.Core.Bool.{Bool, true, false}
 use mathlib.Core.List.{List, [], _∷_, _++_, append-assoc}
-use mathlib.Core.Option.{Option, none, some}
+use mathlib.Core.Option.{none, some}
 use native.Mathlib.Nat.{div-div-eq-div-mul, mod-eq-of-lt}
 use native.Mathlib.Omega.{arith}
 use lib.ListN.{length, take, drop, replicate, length-append, length-replicate}
-use lib.Seq.{take-append-seam, drop-append-seam, take-at, drop-at, drop-drop}
+use lib.Seq.{take-append-seam, drop-append-seam, take-at, drop-at}
 use lib.Dec.{leb, ltb, eqb}
-use borrow.Author.Tests.{ltb-true, lt-ltb, le-ltb, le-leb, lt-leb, leb-true, eq-eqb, ne-eqb, eqb-true}
+use borrow.Author.Tests.{ltb-true, lt-ltb, le-leb, lt-leb, leb-true, eq-eqb, ne-eqb, eqb-true}
 use Rattle.types.specs.Geometry.{within, piecesFor, branchRoom}
-use Rattle.volume.specs.Bounded.{at, all, same, isZero}
-use Rattle.volume.specs.Word.{word, wordBytes, wordsOf, bytesOf, wordSum, balance, startsWith, balanced}
+use Rattle.volume.specs.Bounded.{all, same, isZero}
+use Rattle.volume.specs.Word.{word, wordsOf, bytesOf, wordSum, balance, startsWith, balanced}
 use Rattle.volume.specs.MapSector.{MapSector, mapMark, kindOf, encoded, branchesFit, valid, fields, decoded}
-use Rattle.volume.specs.Entry.{blank, isEmpty, isFlipped, sectorOf, complemented, needsFlip, stored, entryFor, restored}
-use Rattle.volume.specs.ParkRecord.{Parked, parkMark, parkRecord, isParkRecord, parkedIn}
-use Rattle.volume.proofs.Bounded.{bool?, and-l, and-r, and-i, cond-true, cond-false, clash}
+use Rattle.volume.specs.Entry.{blank, isEmpty, sectorOf, complemented, needsFlip, stored, entryFor, restored}
+use Rattle.volume.specs.ParkRecord.{Parked, parkRecord, isParkRecord, parkedIn}
+use Rattle.volume.proofs.Bounded.{bool?, and-l, and-r, and-i, cond-true, cond-false}
 
 -- Words.
 
@@ -55,7 +55,7 @@ all-append test (x ∷ xs) ys p q =
     and-i (test x) (all test (xs ++ ys)) (and-l (test x) (all test xs) p) (all-append test xs ys (and-r (test x) (all test xs) p) q)
 
 pub all-implies : (test other : ℕ → Bool) (xs : List ℕ) → ((x : ℕ) → test x ≡ true → other x ≡ true) → all test xs ≡ true
-  → all other xs ≡ true
+    → all other xs ≡ true
 unfolding all
 all-implies test other [] f p = refl
 all-implies test other (x ∷ xs) f p =
@@ -106,9 +106,9 @@ module _ (n l : ℕ) (m : MapSector) (ok : WellFormed n l m) where
       (all-append isWord (m .branches) (replicate (branchRoom - length (m .branches)) 0 ++ m .entries)
       (all-implies (within 1 (n - 1)) isWord (m .branches)
       (λ x h.
-        let s = ok .sectors in
-        let t = leb-true x (n - 1) (and-r (leb 1 x) (leb x (n - 1)) h) in
-        lt-ltb x (2 ^ 32) (omega arith))
+      let s = ok .sectors in
+      let t = leb-true x (n - 1) (and-r (leb 1 x) (leb x (n - 1)) h) in
+      lt-ltb x (2 ^ 32) (omega arith))
       (ok .branches))
       (all-append isWord (replicate (branchRoom - length (m .branches)) 0) (m .entries)
       (all-replicate isWord (branchRoom - length (m .branches)) 0 refl) (ok .entries)))
@@ -127,7 +127,7 @@ module _ (n l : ℕ) (m : MapSector) (ok : WellFormed n l m) where
       (and-i (isWord weight) (all isWord (body l m)) (lt-ltb weight (2 ^ 32) (omega arith)) body-words))
 
   branch-words : take branchRoom (m .branches ++ (replicate (branchRoom - length (m .branches)) 0 ++ m .entries))
-    ≡ m .branches ++ replicate (branchRoom - length (m .branches)) 0
+      ≡ m .branches ++ replicate (branchRoom - length (m .branches)) 0
   branch-words =
       ap (take branchRoom) (sym (append-assoc (m .branches) (replicate (branchRoom - length (m .branches)) 0) (m .entries)))
       ∙ take-at (m .branches ++ replicate (branchRoom - length (m .branches)) 0) (m .entries) branchRoom padded
@@ -144,16 +144,19 @@ module _ (n l : ℕ) (m : MapSector) (ok : WellFormed n l m) where
   branches-fit : branchesFit n (length (m .branches)) (m .branches ++ replicate (branchRoom - length (m .branches)) 0) ≡ true
   unfolding branchesFit
   branches-fit =
-      rw (take-append-seam (m .branches) (replicate (branchRoom - length (m .branches)) 0),
+      rw (
+        take-append-seam (m .branches) (replicate (branchRoom - length (m .branches)) 0),
         drop-append-seam (m .branches) (replicate (branchRoom - length (m .branches)) 0),
-        ok .branches)
+        ok .branches,
+      )
       (all-replicate isZero (branchRoom - length (m .branches)) 0 refl)
 
   sector-valid : valid n l (encoded l m) (markWord ∷ weight ∷ body l m) ≡ true
   unfolding valid body weight
   sector-valid =
       let k = kind-small (m .closing) .0 in
-      rw (starts,
+      rw (
+        starts,
         eq-eqb (wordSum (markWord ∷ weight ∷ body l m)) 0 (balance-sums markWord (body l m)),
         le-leb 1 (m .number) (ok .low),
         lt-ltb (m .piece) (piecesFor l) (ok .piece),
@@ -162,7 +165,8 @@ module _ (n l : ℕ) (m : MapSector) (ok : WellFormed n l m) where
         eq-eqb l l refl,
         branch-words,
         branches-fit,
-        entry-words)
+        entry-words,
+      )
       (ok .past)
 
   sector-fields : fields (markWord ∷ weight ∷ body l m) ≡ m
@@ -175,15 +179,17 @@ module _ (n l : ℕ) (m : MapSector) (ok : WellFormed n l m) where
         branches =
             (ap (take (length (m .branches))) branch-words
             ∙ take-append-seam (m .branches) (replicate (branchRoom - length (m .branches)) 0)) i;
-        entries = entry-words i
+        entries = entry-words i;
       }
 
   -- A map sector that was made is signed, and says what it was made of.
   pub decoded-encoded : decoded n l (encoded l m) ≡ some m
   unfolding decoded
   decoded-encoded =
-      rw (sector-words,
-        cond-true (valid n l (encoded l m) (markWord ∷ weight ∷ body l m)) (some (fields (markWord ∷ weight ∷ body l m))) none sector-valid)
+      rw (
+        sector-words,
+        cond-true (valid n l (encoded l m) (markWord ∷ weight ∷ body l m)) (some (fields (markWord ∷ weight ∷ body l m))) none sector-valid,
+      )
       (ap some sector-fields)
 
 -- What does not begin with the mark is not signed.
@@ -212,9 +218,9 @@ pub stored-unsigned : (n l : ℕ) (block : List ℕ) → decoded n l (stored blo
 unfolding stored needsFlip
 stored-unsigned n l block =
     ⊎-elim (λ (z : needsFlip block ≡ true).
-      unmarked n l (stored block) (rw (cond-true (needsFlip block) (complemented block) block z) (flip-unmarked block z)))
+    unmarked n l (stored block) (rw (cond-true (needsFlip block) (complemented block) block z) (flip-unmarked block z)))
     (λ (z : needsFlip block ≡ false).
-      unmarked n l (stored block) (rw (cond-false (needsFlip block) (complemented block) block z) z))
+    unmarked n l (stored block) (rw (cond-false (needsFlip block) (complemented block) block z) z))
     (bool? (needsFlip block))
 
 flip-back : (block : List ℕ) → needsFlip block ≡ true → complemented (complemented block) ≡ block
@@ -227,12 +233,14 @@ pub restored-stored : (block : List ℕ) (place : ℕ) → 1 ≤ place → place
 unfolding restored entryFor stored
 restored-stored block place low high =
     ⊎-elim (λ (z : needsFlip block ≡ true).
-      rw (z,
-        ne-eqb (place + 2 ^ 31) 0 (λ (e : place + 2 ^ 31 ≡ 0). omega arith),
-        le-leb (2 ^ 31) (place + 2 ^ 31) (omega arith))
-      (flip-back block z))
+    rw (
+      z,
+      ne-eqb (place + 2 ^ 31) 0 (λ (e : place + 2 ^ 31 ≡ 0). omega arith),
+      le-leb (2 ^ 31) (place + 2 ^ 31) (omega arith),
+    )
+    (flip-back block z))
     (λ (z : needsFlip block ≡ false).
-      rw (z, ne-eqb place 0 (λ (e : place ≡ 0). omega arith), lt-leb (2 ^ 31) place high) refl)
+    rw (z, ne-eqb place 0 (λ (e : place ≡ 0). omega arith), lt-leb (2 ^ 31) place high) refl)
     (bool? (needsFlip block))
 
 pub entry-sector : (block : List ℕ) (place : ℕ) → place < 2 ^ 31 → sectorOf (entryFor block place) ≡ place

@@ -4,7 +4,7 @@ use mathlib.Core.Path.{_≡_, refl}
 use mathlib.Core.Bool.{Bool, true, false, cond}
 use mathlib.Core.List.{List, [], _∷_, map}
 use mathlib.Core.Option.{Option, none, some}
-use lib.ListN.{length, replicate, set}
+use lib.ListN.{replicate, set}
 use lib.Dec.{eqb}
 use Rattle.types.specs.declared.answer.Answer.the-variants.{Accepted}
 use Rattle.volume.specs.Bounded.{updated}

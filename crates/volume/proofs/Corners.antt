@@ -1,6 +1,6 @@
 -- What the ten samples leave open, as a second table with a theorem of the same kind: flipping, wrapping, listing, folding,
 -- room, every refusal, the order of zeroing, cuts in a recovery, and images that no history leaves.
-use Prim.Native.Nat.{ℕ, zero, _+_, _*_, _-_}
+use Prim.Native.Nat.{ℕ, _+_, _*_, _-_}
 use mathlib.Core.Path.{_≡_, refl}
 use mathlib.Core.Bool.{Bool, true, false}
 use mathlib.Core.List.{List, [], _∷_, map}

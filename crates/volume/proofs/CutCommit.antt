@@ -1,26 +1,25 @@
 -- A cut commit changes nothing that a scan takes.
-use Prim.Native.Nat.{ℕ, zero, suc, _+_, _*_, _-_, _^_, _≤_, _<_}
+use Prim.Native.Nat.{ℕ, suc, _+_, _≤_, _<_}
 use mathlib.Core.Path.{_≡_, refl, sym, _∙_, ap, subst}
 use mathlib.Core.Logic.{_⊎_, inl, inr, ⊎-elim}
-use mathlib.Core.Bool.{Bool, true, false}
+use mathlib.Core.Bool.{true, false}
 use mathlib.Core.List.{List, [], _∷_, _++_, append-assoc}
-use mathlib.Core.Option.{Option, none, some}
+use mathlib.Core.Option.{some}
 use native.Mathlib.Omega.{arith}
 use lib.ListN.{length, take}
-use lib.Dec.{eqb}
 use borrow.Author.Tests.{ne-eqb}
 use Rattle.types.specs.Geometry.{piecesFor}
-use Rattle.volume.specs.Bounded.{at, always, countBelow}
+use Rattle.volume.specs.Bounded.{at, always}
 use Rattle.volume.specs.MapSector.{MapSector, decoded, encoded}
 use Rattle.volume.specs.Entry.{blank}
 use Rattle.volume.specs.Store.{Store, applied, storesBelow}
-use Rattle.volume.specs.Commit.{Plan, Change, rank, memberPlace, member, dataStore, memberStore, commitStores}
+use Rattle.volume.specs.Commit.{rank, dataStore, memberStore, commitStores}
 use Rattle.volume.specs.Recover.{imageView}
-use Rattle.volume.proofs.Bounded.{clash, count-before}
+use Rattle.volume.proofs.Bounded.{count-before}
 use Rattle.volume.proofs.Names.{Name, Named, sectorNamed}
 use Rattle.volume.proofs.Stores.{Among, among-append, among-cut, Outcome, applied-cases, applied-skip, below-has, below-last}
-use Rattle.volume.proofs.Invariant.{Fits, Ground, Committed, Settled, view-at, view-below, view-same, ground-moves}
-use Rattle.volume.proofs.Plan.{Given, Start, plan, members-is, members-some, written-below, rank-below, rank-once, at-low, at-once, named-other, member-place}
+use Rattle.volume.proofs.Invariant.{Committed, view-at, view-below, view-same, ground-moves}
+use Rattle.volume.proofs.Plan.{Start, plan, members-is, members-some, rank-below, rank-once, at-low, named-other, member-place}
 use Rattle.volume.proofs.Members.{memberOf, member-number, member-closing, member-signed}
 
 module _ (g : Start) where
@@ -49,7 +48,7 @@ module _ (g : Start) where
   map-bytes p = refl
 
   pub stores-are : commitStores s t (plan g) change
-    ≡ storesBelow always dataOf (change .dataSectors) ++ storesBelow (plan g .written) mapOf (piecesFor (s .l))
+      ≡ storesBelow always dataOf (change .dataSectors) ++ storesBelow (plan g .written) mapOf (piecesFor (s .l))
   unfolding commitStores dataOf mapOf
   stores-are = refl
 
@@ -68,13 +67,15 @@ module _ (g : Start) where
     unfolding Kind
     goes r a =
         ⊎-elim (λ w. (w .0, let x = w .1 in omega arith, ap (λ (x : Store). x .sector) (w .2) ∙ data-sector (w .0)))
-        (λ w.
-          (change .dataSectors + rank (plan g) (w .0), let x = rank-below g (w .0) (w .1) in omega arith,
-            ap (λ (x : Store). x .sector) (w .3) ∙ map-sector (w .0)))
+        (λ w. (
+          change .dataSectors + rank (plan g) (w .0),
+          let x = rank-below g (w .0) (w .1) in omega arith,
+          ap (λ (x : Store). x .sector) (w .3) ∙ map-sector (w .0),
+        ))
         (kinds r a)
 
     pub kept : (x : Name) → Named (s .l) (t .entry) (t .place) x
-      → applied ss image (sectorNamed (s .l) (t .entry) (t .place) x) ≡ image (sectorNamed (s .l) (t .entry) (t .place) x)
+        → applied ss image (sectorNamed (s .l) (t .entry) (t .place) x) ≡ image (sectorNamed (s .l) (t .entry) (t .place) x)
     kept x h =
         applied-skip ss image (sectorNamed (s .l) (t .entry) (t .place) x)
         (λ r a e. let w = goes r a in named-other g x h (w .0) (w .1) (sym (w .2) ∙ e))
@@ -83,53 +84,53 @@ module _ (g : Start) where
     blank-kept =
         applied-skip ss image 0
         (λ r a e.
-          let w = goes r a in
-          let low = at-low g (w .0) (w .1) in
-          let z = sym (w .2) ∙ e in
-          omega arith)
+        let w = goes r a in
+        let low = at-low g (w .0) (w .1) in
+        let z = sym (w .2) ∙ e in
+        omega arith)
         ∙ given .unparked
 
     -- A signed sector is an old one that was not touched, or an allowed member.
     pub signed-cases : (k : ℕ) (a : MapSector) → imageView (s .n) (s .l) (applied ss image) k ≡ some a
-      → (imageView (s .n) (s .l) image k ≡ some a)
-      ⊎ ((p : ℕ) × (plan g .written p ≡ true) × Allowed p × (k ≡ at (plan g .places) (change .dataSectors + rank (plan g) p)) × (a ≡ memberOf g p))
+        → (imageView (s .n) (s .l) image k ≡ some a)
+        ⊎ ((p : ℕ) × (plan g .written p ≡ true) × Allowed p × (k ≡ at (plan g .places) (change .dataSectors + rank (plan g) p)) × (a ≡ memberOf g p))
     unfolding Outcome Kind
     signed-cases k a e =
         let below = view-below (s .n) (s .l) (applied ss image) k a e in
         let raw : decoded (s .n) (s .l) (applied ss image k) ≡ some a = sym (view-at (s .n) (s .l) (applied ss image) k below) ∙ e in
         ⊎-elim (λ w. inl (view-same (s .n) (s .l) image (applied ss image) k (sym (w .0)) ∙ e))
         (λ w.
-          ⊎-elim (λ v.
-            let q = ap (decoded (s .n) (s .l)) (w .3 ∙ ap (λ (x : Store). x .bytes) (v .2) ∙ data-bytes (v .0)) ∙ given .unsigned (v .0) (v .1) in
-            let z : _≡_ {A = ℕ} 0 1 = cc in
-            absurd (omega arith))
-          (λ v.
-            let q = ap (decoded (s .n) (s .l)) (w .3 ∙ ap (λ (x : Store). x .bytes) (v .3) ∙ map-bytes (v .0)) ∙ member-signed g (v .0) (v .1) in
-            inr (v .0, v .1, v .2, sym (w .2) ∙ ap (λ (x : Store). x .sector) (v .3) ∙ map-sector (v .0), cc))
-          (kinds (w .0) (w .1)))
+        ⊎-elim (λ v.
+        let q = ap (decoded (s .n) (s .l)) (w .3 ∙ ap (λ (x : Store). x .bytes) (v .2) ∙ data-bytes (v .0)) ∙ given .unsigned (v .0) (v .1) in
+        let z : _≡_ {A = ℕ} 0 1 = cc in
+        absurd (omega arith))
+        (λ v.
+        let q = ap (decoded (s .n) (s .l)) (w .3 ∙ ap (λ (x : Store). x .bytes) (v .3) ∙ map-bytes (v .0)) ∙ member-signed g (v .0) (v .1) in
+        inr (v .0, v .1, v .2, sym (w .2) ∙ ap (λ (x : Store). x .sector) (v .3) ∙ map-sector (v .0), cc))
+        (kinds (w .0) (w .1)))
         (applied-cases ss image k)
 
     pub apart-after : (j k : ℕ) (a b : MapSector) → imageView (s .n) (s .l) (applied ss image) j ≡ some a
-      → imageView (s .n) (s .l) (applied ss image) k ≡ some b → a .number ≡ b .number → j ≡ k
+        → imageView (s .n) (s .l) (applied ss image) k ≡ some b → a .number ≡ b .number → j ≡ k
     apart-after j k a b e f z =
         ⊎-elim (λ x.
-          ⊎-elim (λ y. given .settled .committed .apart j k a b x y z)
-          (λ y.
-            let o = old-number j a x in
-            let q = ap (λ (m : MapSector). m .number) (y .4) ∙ member-number g (y .0) in
-            absurd (omega arith))
-          (signed-cases k b f))
+        ⊎-elim (λ y. given .settled .committed .apart j k a b x y z)
+        (λ y.
+        let o = old-number j a x in
+        let q = ap (λ (m : MapSector). m .number) (y .4) ∙ member-number g (y .0) in
+        absurd (omega arith))
+        (signed-cases k b f))
         (λ x.
-          ⊎-elim (λ y.
-            let o = old-number k b y in
-            let q = ap (λ (m : MapSector). m .number) (x .4) ∙ member-number g (x .0) in
-            absurd (omega arith))
-          (λ y.
-            let q = ap (λ (m : MapSector). m .number) (x .4) ∙ member-number g (x .0) in
-            let r = ap (λ (m : MapSector). m .number) (y .4) ∙ member-number g (y .0) in
-            let p = rank-once g (x .0) (y .0) (x .1) (y .1) (omega arith) in
-            x .3 ∙ ap (λ (p : ℕ). at (plan g .places) (change .dataSectors + rank (plan g) p)) p ∙ sym (y .3))
-          (signed-cases k b f))
+        ⊎-elim (λ y.
+        let o = old-number k b y in
+        let q = ap (λ (m : MapSector). m .number) (x .4) ∙ member-number g (x .0) in
+        absurd (omega arith))
+        (λ y.
+        let q = ap (λ (m : MapSector). m .number) (x .4) ∙ member-number g (x .0) in
+        let r = ap (λ (m : MapSector). m .number) (y .4) ∙ member-number g (y .0) in
+        let p = rank-once g (x .0) (y .0) (x .1) (y .1) (omega arith) in
+        x .3 ∙ ap (λ (p : ℕ). at (plan g .places) (change .dataSectors + rank (plan g) p)) p ∙ sym (y .3))
+        (signed-cases k b f))
         (signed-cases j a e)
 
   -- With its last store missing the commit is not there.
@@ -142,23 +143,26 @@ module _ (g : Start) where
       let last = below-last (plan g .written) mapOf (piecesFor (s .l)) (let m = members-some g in let i = members-is g in omega arith) in
       let q = last .0 in
       let list = stores-are ∙ ap (λ (xs : List Store). storesBelow always dataOf (change .dataSectors) ++ xs) (last .3)
-          ∙ sym (append-assoc (storesBelow always dataOf (change .dataSectors)) (storesBelow (plan g .written) mapOf q) (mapOf q ∷ [])) in
+      ∙ sym (append-assoc (storesBelow always dataOf (change .dataSectors)) (storesBelow (plan g .written) mapOf q) (mapOf q ∷ [])) in
       let b = among-cut r k (storesBelow always dataOf (change .dataSectors) ++ storesBelow (plan g .written) mapOf q) (mapOf q)
-          (subst (λ (xs : List Store). k < length xs) list h) (subst (λ (xs : List Store). Among r (take k xs)) list a) in
+      (subst (λ (xs : List Store). k < length xs) list h) (subst (λ (xs : List Store). Among r (take k xs)) list a) in
       ⊎-elim (λ x. let w = below-has always dataOf (change .dataSectors) r x in inl (w .0, w .1, w .3))
       (λ x.
-        let w = below-has (plan g .written) mapOf q r x in
-        let y = count-before (plan g .written) (w .0) q (w .1) (w .2) in
-        let m = members-is g in
-        let c = last .4 in
-        inr (w .0, w .2,
-          member-closing g (w .0)
-          ∙ ne-eqb (suc (rank (plan g) (w .0))) (plan g .members) (λ (z : suc (rank (plan g) (w .0)) ≡ plan g .members). omega arith),
-          w .3))
+      let w = below-has (plan g .written) mapOf q r x in
+      let y = count-before (plan g .written) (w .0) q (w .1) (w .2) in
+      let m = members-is g in
+      let c = last .4 in
+      inr (
+        w .0,
+        w .2,
+        member-closing g (w .0)
+            ∙ ne-eqb (suc (rank (plan g) (w .0))) (plan g .members) (λ (z : suc (rank (plan g) (w .0)) ≡ plan g .members). omega arith),
+        w .3,
+      ))
       (among-append r (storesBelow always dataOf (change .dataSectors)) (storesBelow (plan g .written) mapOf q) b)
 
   pub cut-commit : (k : ℕ) → k < length (commitStores s t (plan g) change)
-    → Committed (s .n) (s .l) (applied (take k (commitStores s t (plan g) change)) image) t (s .tail) (s .number) disk
+      → Committed (s .n) (s .l) (applied (take k (commitStores s t (plan g) change)) image) t (s .tail) (s .number) disk
   unfolding Unclosed
   cut-commit k h =
       let ss = take k (commitStores s t (plan g) change) in
@@ -167,11 +171,11 @@ module _ (g : Start) where
         ground = ground-moves (applied ss image) (given .fit) (kept ss Unclosed kinds) (given .settled .committed .ground);
         apart = apart-after ss Unclosed kinds;
         latest = λ j a e b.
-          ⊎-elim (λ x. given .settled .committed .latest j a x b)
-          (λ x. let q = ap (λ (m : MapSector). m .number) (x .4) ∙ member-number g (x .0) in absurd (omega arith))
-          (signed-cases ss Unclosed kinds j a e);
+            ⊎-elim (λ x. given .settled .committed .latest j a x b)
+            (λ x. let q = ap (λ (m : MapSector). m .number) (x .4) ∙ member-number g (x .0) in absurd (omega arith))
+            (signed-cases ss Unclosed kinds j a e);
         unclosed = λ j a e b.
-          ⊎-elim (λ x. let o = old-number j a x in absurd (omega arith)) (λ x. ap (λ (m : MapSector). m .closing) (x .4) ∙ x .2)
-          (signed-cases ss Unclosed kinds j a e);
-        park = inl (blank-kept ss Unclosed kinds)
+            ⊎-elim (λ x. let o = old-number j a x in absurd (omega arith)) (λ x. ap (λ (m : MapSector). m .closing) (x .4) ∙ x .2)
+            (signed-cases ss Unclosed kinds j a e);
+        park = inl (blank-kept ss Unclosed kinds);
       }

@@ -1,30 +1,29 @@
 -- A finished format meets the invariant, whatever the image held before.
-use Prim.Native.Nat.{ℕ, zero, suc, _+_, _*_, _-_, _^_, _≤_, _<_}
+use Prim.Native.Nat.{ℕ, zero, suc, _+_, _*_, _-_, _≤_, _<_}
 use mathlib.Core.Path.{_≡_, refl, sym, _∙_, ap, subst}
-use mathlib.Core.Logic.{_⊎_, inl, inr, ⊎-elim}
+use mathlib.Core.Logic.{inl, ⊎-elim}
 use mathlib.Core.Bool.{Bool, true, false, cond, not}
 use mathlib.Core.List.{List, [], _∷_, _++_}
-use mathlib.Core.Option.{Option, none, some}
-use native.Mathlib.Nat.{le-of-suc-le-suc}
+use mathlib.Core.Option.{some}
 use native.Mathlib.Omega.{arith}
 use lib.ListN.{length, drop, replicate}
-use lib.Dec.{leb, eqb}
+use lib.Dec.{leb}
 use borrow.Author.Tests.{eq-eqb, ne-eqb}
 use Rattle.types.specs.Geometry.{within, piecesFor}
-use Rattle.volume.specs.Bounded.{all, isZero, always, best, countBelow, elem, listFrom, tabled, updated}
+use Rattle.volume.specs.Bounded.{all, isZero, always, best, countBelow, elem, listFrom, updated}
 use Rattle.volume.specs.MapSector.{MapSector, decoded, encoded}
-use Rattle.volume.specs.Entry.{blank, isEmpty, sectorOf}
-use Rattle.volume.specs.Tables.{Tables, namedBy, usedBy, freeSectors, pieceEntries}
+use Rattle.volume.specs.Entry.{blank, isEmpty}
+use Rattle.volume.specs.Tables.{namedBy, usedBy, freeSectors, pieceEntries}
 use Rattle.volume.specs.Store.{Store, applied, storesBelow}
 use Rattle.volume.specs.Format.{blankStore, freshPiece, pieceStore, formatStores, formatTables}
 use Rattle.volume.specs.Recover.{imageView}
-use Rattle.volume.specs.History.{Disk, zeroDisk, Reaches, itself, through}
-use Rattle.volume.proofs.Bounded.{bool?, lt?, eq?, clash, cond-true, cond-false, elem-here, best-unique, tabled-at, tabled-past, count-same, count-le, count-hit}
+use Rattle.volume.specs.History.{zeroDisk, Reaches, itself, through}
+use Rattle.volume.proofs.Bounded.{lt?, clash, elem-here, best-unique, tabled-at, tabled-past, count-same, count-le}
 use Rattle.volume.proofs.Codec.{isWord, WellFormed, decoded-encoded, blank-unsigned}
 use Rattle.volume.proofs.Names.{Name, piece, block, Named, sectorNamed, Sound, elem-named, named-distinct, within-is}
 use Rattle.volume.proofs.Room.{free-count, named-length}
-use Rattle.volume.proofs.Stores.{Among, Outcome, applied-cases, applied-skip, applied-at, below-has, below-own}
-use Rattle.volume.proofs.Invariant.{Fits, Ground, Committed, Settled, some-pieces, view-at, view-below}
+use Rattle.volume.proofs.Stores.{Outcome, applied-cases, applied-skip, applied-at, below-has, below-own}
+use Rattle.volume.proofs.Invariant.{Fits, Ground, Settled, some-pieces, view-at, view-below}
 use Rattle.volume.proofs.Members.{entries-count, entries-words, entries-past-l}
 
 applied-append : (xs ys : List Store) (image : ℕ → List ℕ) → applied (xs ++ ys) image ≡ applied ys (applied xs image)
@@ -72,9 +71,9 @@ module _ (n l : ℕ) (fit : Fits n l) (before : ℕ → List ℕ) where
       ap (λ (f : ℕ → List ℕ). f (suc p)) split
       ∙ applied-at (storesBelow always (pieceStore l) (piecesFor l)) blanked (pieceStore l p) (below-own always (pieceStore l) (piecesFor l) p h refl)
       (λ r a e.
-        let w = below-has always (pieceStore l) (piecesFor l) r a in
-        let q : suc (w .0) ≡ suc p = ap (λ (x : Store). x .sector) (sym (w .3)) ∙ e in
-        ap (λ (x : Store). x .bytes) (w .3) ∙ ap (λ (z : ℕ). encoded l (freshPiece l z)) (let y : w .0 ≡ p = omega arith in y))
+      let w = below-has always (pieceStore l) (piecesFor l) r a in
+      let q : suc (w .0) ≡ suc p = ap (λ (x : Store). x .sector) (sym (w .3)) ∙ e in
+      ap (λ (x : Store). x .bytes) (w .3) ∙ ap (λ (z : ℕ). encoded l (freshPiece l z)) (let y : w .0 ≡ p = omega arith in y))
 
   fresh-fits : (p : ℕ) → p < piecesFor l → WellFormed n l (freshPiece l p)
   unfolding all
@@ -91,12 +90,13 @@ module _ (n l : ℕ) (fit : Fits n l) (before : ℕ → List ℕ) where
         branches = inside p h;
         count = ap length (no-entries l p) ∙ entries-count l (λ _. 0) p;
         entries = subst (λ (xs : List ℕ). all isWord xs ≡ true) (sym (no-entries l p)) (entries-words l (λ _. 0) p (λ b i. omega arith));
-        past = subst (λ (xs : List ℕ). all isZero (drop (l - 96 * p) xs) ≡ true) (sym (no-entries l p)) (entries-past-l l (λ _. 0) p)
+        past = subst (λ (xs : List ℕ). all isZero (drop (l - 96 * p) xs) ≡ true) (sym (no-entries l p)) (entries-past-l l (λ _. 0) p);
       }
     where
       few : (p : ℕ) → length (freshPiece l p .branches) ≤ 24
       few zero = omega arith
       few (suc p) = rw (ne-eqb (suc p) 0 (λ (e : suc p ≡ 0). omega arith)) (omega arith)
+
       inside : (p : ℕ) → p < piecesFor l → all (within 1 (n - 1)) (freshPiece l p .branches) ≡ true
       inside zero i = refl
       inside (suc p) i =
@@ -114,15 +114,15 @@ module _ (n l : ℕ) (fit : Fits n l) (before : ℕ → List ℕ) where
   signed-pieces k a e =
       let below = view-below n l image′ k a e in
       ⊎-elim (λ w.
-        let q = view-at n l image′ k below ∙ ap (decoded n l) (ap (λ (f : ℕ → List ℕ). f k) split ∙ w .0 ∙ all-blank k below) ∙ blank-unsigned n l in
-        let z : _≡_ {A = ℕ} 0 1 = cc in
-        absurd (omega arith))
+      let q = view-at n l image′ k below ∙ ap (decoded n l) (ap (λ (f : ℕ → List ℕ). f k) split ∙ w .0 ∙ all-blank k below) ∙ blank-unsigned n l in
+      let z : _≡_ {A = ℕ} 0 1 = cc in
+      absurd (omega arith))
       (λ w.
-        let v = below-has always (pieceStore l) (piecesFor l) (w .0) (w .1) in
-        let at : k ≡ suc (v .0) = sym (w .2) ∙ ap (λ (x : Store). x .sector) (v .3) in
-        let q = subst (λ (j : ℕ). imageView n l image′ j ≡ some a) at e in
-        let r = view-piece (v .0) (v .1) in
-        (v .0, v .1, at, cc))
+      let v = below-has always (pieceStore l) (piecesFor l) (w .0) (w .1) in
+      let at : k ≡ suc (v .0) = sym (w .2) ∙ ap (λ (x : Store). x .sector) (v .3) in
+      let q = subst (λ (j : ℕ). imageView n l image′ j ≡ some a) at e in
+      let r = view-piece (v .0) (v .1) in
+      (v .0, v .1, at, cc))
       (applied-cases (storesBelow always (pieceStore l) (piecesFor l)) blanked k)
 
   pub blank-0 : image′ 0 ≡ blank
@@ -131,9 +131,9 @@ module _ (n l : ℕ) (fit : Fits n l) (before : ℕ → List ℕ) where
       ap (λ (f : ℕ → List ℕ). f 0) split
       ∙ applied-skip (storesBelow always (pieceStore l) (piecesFor l)) blanked 0
       (λ r a e.
-        let w = below-has always (pieceStore l) (piecesFor l) r a in
-        let q : suc (w .0) ≡ 0 = ap (λ (x : Store). x .sector) (sym (w .3)) ∙ e in
-        omega arith)
+      let w = below-has always (pieceStore l) (piecesFor l) r a in
+      let q : suc (w .0) ≡ 0 = ap (λ (x : Store). x .sector) (sym (w .3)) ∙ e in
+      omega arith)
       ∙ all-blank 0 (omega arith)
 
   -- The tables.
@@ -183,9 +183,9 @@ module _ (n l : ℕ) (fit : Fits n l) (before : ℕ → List ℕ) where
       let least = fit .least in
       let named = namedBy l (formatTables l .entry) (formatTables l .place) in
       let count = free-count n named (omega arith)
-          (λ k e. let w = elem-named l (formatTables l .entry) (formatTables l .place) k e in
-            (rw (← (w .2)) (low (w .0) (w .1)), let z = high (w .0) (w .1) in let y = w .2 in omega arith))
-          (named-distinct l (formatTables l .entry) (formatTables l .place) once) in
+      (λ k e. let w = elem-named l (formatTables l .entry) (formatTables l .place) k e in
+      (rw (← (w .2)) (low (w .0) (w .1)), let z = high (w .0) (w .1) in let y = w .2 in omega arith))
+      (named-distinct l (formatTables l .entry) (formatTables l .place) once) in
       let exact = count-same (λ k. not (formatTables l .isUsed k)) (λ k. not (usedBy named k)) n (λ k h. ap not (used-at k)) in
       let len = named-length l (formatTables l .entry) (formatTables l .place) in
       let full = none-full in
@@ -196,9 +196,9 @@ module _ (n l : ℕ) (fit : Fits n l) (before : ℕ → List ℕ) where
   newest p e =
       best-unique (formatTables l .number) (piecesFor l) p (omega arith)
       (λ j h d.
-        let a = number-at j h in
-        let b = number-at p (omega arith) in
-        ⊎-elim (λ (z : j < p). omega arith) (λ (z : p ≤ j). absurd (d (omega arith))) (lt? j p))
+      let a = number-at j h in
+      let b = number-at p (omega arith) in
+      ⊎-elim (λ (z : j < p). omega arith) (λ (z : p ≤ j). absurd (d (omega arith))) (lt? j p))
 
   sound : Sound n l (formatTables l) (piecesFor l) (piecesFor l)
   sound =
@@ -214,7 +214,7 @@ module _ (n l : ℕ) (fit : Fits n l) (before : ℕ → List ℕ) where
         numbers = λ p q h k e. let a = number-at p h in let b = number-at q k in omega arith;
         from1 = λ p h. rw (number-at p h) (omega arith);
         tail-is = rw (top, place-at (piecesFor l - 1) (omega arith)) (omega arith);
-        number-is = rw (top, number-at (piecesFor l - 1) (omega arith)) (omega arith)
+        number-is = rw (top, number-at (piecesFor l - 1) (omega arith)) (omega arith);
       }
 
   -- Each piece is reached from the one after it.
@@ -248,12 +248,16 @@ module _ (n l : ℕ) (fit : Fits n l) (before : ℕ → List ℕ) where
         sound = sound;
         high = omega arith;
         words = λ b h. rw (entry-0 b) (omega arith);
-        live = λ p h.
-          (freshPiece l p, ap (imageView n l image′) (place-at p h) ∙ view-piece p h, refl, sym (number-at p h),
-            no-entries l p ∙ ap (λ (f : ℕ → ℕ). pieceEntries l f p) (zero-entries));
+        live = λ p h. (
+          freshPiece l p,
+          ap (imageView n l image′) (place-at p h) ∙ view-piece p h,
+          refl,
+          sym (number-at p h),
+          no-entries l p ∙ ap (λ (f : ℕ → ℕ). pieceEntries l f p) (zero-entries),
+        );
         closes = λ m e.
-          let w = signed-pieces (piecesFor l) m e in
-          ap (λ (x : MapSector). x .closing) (w .3) ∙ eq-eqb (suc (w .0)) (piecesFor l) (sym (w .2));
+            let w = signed-pieces (piecesFor l) m e in
+            ap (λ (x : MapSector). x .closing) (w .3) ∙ eq-eqb (suc (w .0)) (piecesFor l) (sym (w .2));
         chain = λ p h. reached (piecesFor l - suc p) p (omega arith);
         empty = λ b h e. refl;
         full = λ b h e. clash (isEmpty (formatTables l .entry b)) (ap isEmpty (entry-0 b)) e;
@@ -261,32 +265,32 @@ module _ (n l : ℕ) (fit : Fits n l) (before : ℕ → List ℕ) where
         places-past = past-place;
         numbers-past = past-number;
         entries-past = λ b h. entry-0 b;
-        used-all = used-at
+        used-all = used-at;
       }
 
   pub format-settles : Settled n l image′ (formatTables l) (piecesFor l) (piecesFor l) zeroDisk
   format-settles =
       let above : (k : ℕ) (a : MapSector) → imageView n l image′ k ≡ some a → a .number ≤ piecesFor l =
-          λ k a e. let w = signed-pieces k a e in let q = ap (λ (x : MapSector). x .number) (w .3) in let b = w .1 in omega arith in
+      λ k a e. let w = signed-pieces k a e in let q = ap (λ (x : MapSector). x .number) (w .3) in let b = w .1 in omega arith in
       record {
         committed = record {
           ground = ground;
           apart = λ j k a b e f z.
-            let v = signed-pieces j a e in
-            let w = signed-pieces k b f in
-            let x = ap (λ (m : MapSector). m .number) (v .3) in
-            let y = ap (λ (m : MapSector). m .number) (w .3) in
-            let c = v .2 in
-            let d = w .2 in
-            omega arith;
+              let v = signed-pieces j a e in
+              let w = signed-pieces k b f in
+              let x = ap (λ (m : MapSector). m .number) (v .3) in
+              let y = ap (λ (m : MapSector). m .number) (w .3) in
+              let c = v .2 in
+              let d = w .2 in
+              omega arith;
           latest = λ k a e h.
-            let w = signed-pieces k a e in
-            let x = ap (λ (m : MapSector). m .number) (w .3) in
-            let y : a .piece ≡ w .0 = ap (λ (m : MapSector). m .piece) (w .3) in
-            let z = number-at (w .0) (w .1) in
-            rw y (omega arith);
+              let w = signed-pieces k a e in
+              let x = ap (λ (m : MapSector). m .number) (w .3) in
+              let y : a .piece ≡ w .0 = ap (λ (m : MapSector). m .piece) (w .3) in
+              let z = number-at (w .0) (w .1) in
+              rw y (omega arith);
           unclosed = λ k a e h. let b = above k a e in absurd (omega arith);
-          park = inl blank-0
+          park = inl blank-0;
         };
-        none-above = above
+        none-above = above;
       }

@@ -8,13 +8,13 @@
 --       accepted, and a read of each block below L, given what that recovery left, is accepted and gives the plain disk's block.
 -- `Faithful` (specs/History) says this of a list. It is shown for any choice of place that answers a free sector whenever there is
 -- one, any branch limit from 1 to 24 and any greatest number that leaves 256; the base is an instance.
-use Prim.Native.Nat.{ℕ, zero, suc, _+_, _*_, _-_, _/_, _%_, _≤_, _<_}
+use Prim.Native.Nat.{ℕ, _+_, _*_, _/_, _%_, _≤_, _<_}
 use mathlib.Core.Path.{_≡_, refl, sym, _∙_, ap, subst}
-use mathlib.Core.Logic.{_⊎_, inl, inr, ⊎-elim}
-use mathlib.Core.Bool.{Bool, true, false, cond, not, _&&_, true≢false}
+use mathlib.Core.Logic.{⊎-elim}
+use mathlib.Core.Bool.{true, false, true≢false}
 use mathlib.Core.List.{List, [], _∷_}
 use native.Mathlib.Omega.{arith}
-use lib.ListN.{length, take}
+use lib.ListN.{length}
 use borrow.Author.Tests.{eqb-true, eq-eqb}
 use Rattle.types.specs.declared.state.State.{State}
 use Rattle.types.specs.declared.answer.Verdict.the-variants.{Pass}
@@ -22,36 +22,35 @@ use Rattle.types.specs.Geometry.{piecesFor, geometryFits}
 use Rattle.types.specs.State.{freshState}
 use Rattle.types.specs.Answer.{numberOf}
 use Rattle.volume.specs.Bounded.{isZero}
-use Rattle.volume.specs.Entry.{blank}
-use Rattle.volume.specs.Tables.{Tables, Memory, sectorAt, zeroTables}
+use Rattle.volume.specs.Tables.{Tables, Memory}
 use Rattle.volume.specs.Refusals.{judged}
-use Rattle.volume.specs.Store.{After, applied, performed, unlessRefused, refused, memoryWith, after}
+use Rattle.volume.specs.Store.{After, applied, performed, refused, memoryWith, after}
 use Rattle.volume.specs.Format.{sectorsIn, imageFits, tablesFit, sizeChecks, formatStores, formatTables, formatAction, formatOf}
 use Rattle.volume.specs.Placing.{Rules, base}
-use Rattle.volume.specs.Calls.{readOf, readJudged, readChecks, blockOf}
-use Rattle.volume.specs.Recover.{Log, found, findingOf, imageView, recoveryAction, recovered, recoverOf}
-use Rattle.volume.specs.History.{Call, write, drop, read, park, recover, World, made, worldOf, accepted, Disk, zeroDisk, putBlocks, diskAfter, CommitKept, Kept, storesIn, recoveryStores, Recovers, Faithful}
-use Rattle.volume.proofs.Bounded.{bool?, lt?, clash, and-l, and-r, cond-true, cond-false}
+use Rattle.volume.specs.Calls.{readOf, readJudged}
+use Rattle.volume.specs.Recover.{Log, recoveryAction, recovered, recoverOf}
+use Rattle.volume.specs.History.{Call, write, drop, read, park, recover, World, made, worldOf, accepted, Disk, zeroDisk, diskAfter, Kept, storesIn, recoveryStores, Recovers, Faithful}
+use Rattle.volume.proofs.Bounded.{lt?, clash, and-l, and-r}
 use Rattle.volume.proofs.Names.{within-is}
 use Rattle.volume.proofs.Placing.{Choosing, base-chooses}
-use Rattle.volume.proofs.Invariant.{Fits, fits, Committed, Settled}
+use Rattle.volume.proofs.Invariant.{Fits, fits, Committed}
 use Rattle.volume.proofs.Fresh.{format-settles, blank-0}
 use Rattle.volume.proofs.Recovery.{Finds, recovers}
-use Rattle.volume.proofs.Steps.{verdict?, passes-first, passes-rest, not-false, refused-not, Standing, running, Sized, sized-with, performed-cut, performed-whole, Step}
-use Rattle.volume.proofs.Calls.{write-stands, drop-stands, Stays, park-stays, committed-some, sectors-is, recover-stays, read-world, block-is, read-gives, read-passes}
+use Rattle.volume.proofs.Steps.{verdict?, passes-first, passes-rest, not-false, refused-not, Standing, running, Sized, sized-with, performed-cut, performed-whole}
+use Rattle.volume.proofs.Calls.{write-stands, drop-stands, park-stays, committed-some, recover-stays, read-world, block-is, read-gives, read-passes}
 
 -- Where the lengths are right, neither 1 nor 2 applies to a recovery.
 size-passes : (n l : ℕ) (m : Memory) → Fits n l → Sized n l m → judged (sizeChecks m l) ≡ Pass
 unfolding sizeChecks imageFits judged
 size-passes n l m fit size =
     let whole : isZero (m .lengths .image % 512) ≡ true =
-        eq-eqb (m .lengths .image % 512) 0 (ap (λ (x : ℕ). x % 512) (size .image) ∙ (let q : 512 * n % 512 ≡ 0 = omega arith in q)) in
+    eq-eqb (m .lengths .image % 512) 0 (ap (λ (x : ℕ). x % 512) (size .image) ∙ (let q : 512 * n % 512 ≡ 0 = omega arith in q)) in
     let at : sectorsIn m ≡ n = ap (λ (x : ℕ). x / 512) (size .image) ∙ (let q : 512 * n / 512 ≡ n = omega arith in q) in
     rw (whole, at, within-is 1 24576 l (fit .some) (fit .most), within-is (2 * piecesFor l + 2) 65536 n (fit .least) (fit .sectors), size .tables) refl
 
 -- (c): what any list leaves recovers.
 module _ (n l : ℕ) (fit : Fits n l) (m : Memory) (size : Sized n l m)
-  (t0 : Tables) (tail number : ℕ) (disk : Disk) (c : Committed n l (m .image) t0 tail number disk) where
+    (t0 : Tables) (tail number : ℕ) (disk : Disk) (c : Committed n l (m .image) t0 tail number disk) where
   finds : Finds n l (m .image) t0 tail number disk
   finds = recovers n l (m .image) t0 tail number disk fit c
 
@@ -65,18 +64,18 @@ module _ (n l : ℕ) (fit : Fits n l) (m : Memory) (size : Sized n l m)
   needed = ap (λ f. length (storesIn f)) (finds .finding)
 
   recovery-is : (s : State) (t : Tables) (allowance : ℕ) → length (recoveryStores n l (m .image)) ≤ allowance
-    → recoverOf s (memoryWith m (m .image) t) l allowance ≡ left
+      → recoverOf s (memoryWith m (m .image) t) l allowance ≡ left
   unfolding recoverOf recovered
   recovery-is s t allowance h =
       let log : Log = record { tables = t0; tail = tail; number = number } in
       let at : sectorsIn (memoryWith m (m .image) t) ≡ n =
-          ap (λ (x : ℕ). x / 512) (size .image) ∙ (let q : 512 * n / 512 ≡ n = omega arith in q) in
+      ap (λ (x : ℕ). x / 512) (size .image) ∙ (let q : 512 * n / 512 ≡ n = omega arith in q) in
       let e = needed in
       rw (size-passes n l (memoryWith m (m .image) t) fit (sized-with n l m (m .image) t size), at, finds .finding)
       (performed-whole allowance (recoveryAction n l log (finds .answer) (finds .stores)) (memoryWith m (m .image) t) (omega arith))
 
   read-is : (b : ℕ) (out : List ℕ) → b < l → length out ≡ 512
-    → (numberOf (readOf (left .outcome .state) (left .memory) b out .outcome .answer) ≡ 0) × (readOf (left .outcome .state) (left .memory) b out .out ≡ disk b)
+      → (numberOf (readOf (left .outcome .state) (left .memory) b out .outcome .answer) ≡ 0) × (readOf (left .outcome .state) (left .memory) b out .out ≡ disk b)
   unfolding readOf readJudged
   read-is b out h len =
       let w = finds .whole in
@@ -89,7 +88,7 @@ module _ (n l : ℕ) (fit : Fits n l) (m : Memory) (size : Sized n l m)
   recovers-all =
       record {
         accepts = λ s t allowance h. rw (recovery-is s t allowance h, finds .accepts (length (finds .stores))) refl;
-        reads = λ s t allowance h b out i len. rw (recovery-is s t allowance h) (read-is b out i len)
+        reads = λ s t allowance h b out i len. rw (recovery-is s t allowance h) (read-is b out i len);
       }
 
 module _ (rules : Rules) (law : Choosing rules) (n l : ℕ) (fit : Fits n l) where
@@ -106,9 +105,10 @@ module _ (rules : Rules) (law : Choosing rules) (n l : ℕ) (fit : Fits n l) whe
       let step = drop-stands rules law n l fit (w .state) (w .memory) size disk stands head blocks allowance in
       (step .kept, faithful calls _ _ (step .sized) (step .stands))
   faithful (read block out ∷ calls) w disk size stands =
-      let same = read-world n l fit (w .state) (w .memory) size disk stands block out in
-      (read-gives n l fit (w .state) (w .memory) size disk stands block out,
-        subst (λ (v : World). Faithful rules n l calls v disk) (sym same) (faithful calls w disk size stands))
+      let same = read-world n l fit (w .state) (w .memory) size disk stands block out in (
+        read-gives n l fit (w .state) (w .memory) size disk stands block out,
+        subst (λ (v : World). Faithful rules n l calls v disk) (sym same) (faithful calls w disk size stands),
+      )
   faithful (park allowance ∷ calls) w disk size stands =
       let step = park-stays n l fit (w .state) (w .memory) size disk stands allowance in
       (tt, faithful calls _ _ (step .sized) (step .stands))
@@ -135,10 +135,10 @@ module _ (s : State) (m : Memory) (l allowance : ℕ) (ok : accepted (formatOf s
   unfolding sizeChecks imageFits
   format-sized =
       let whole = eqb-true (m .lengths .image % 512) 0
-          (and-l (isZero (m .lengths .image % 512)) (geometryFits (sectorsIn m) l) (not-false (imageFits m l) (passes-first _ _ format-passes))) in
+      (and-l (isZero (m .lengths .image % 512)) (geometryFits (sectorsIn m) l) (not-false (imageFits m l) (passes-first _ _ format-passes))) in
       record {
         image = omega arith;
-        tables = not-false (tablesFit m (sectorsIn m) l) (passes-first _ _ (passes-rest _ _ format-passes))
+        tables = not-false (tablesFit m (sectorsIn m) l) (passes-first _ _ (passes-rest _ _ format-passes));
       }
 
   performs : formatOf s m l allowance ≡ performed allowance (formatAction (sectorsIn m) l) m
@@ -149,20 +149,21 @@ module _ (s : State) (m : Memory) (l allowance : ℕ) (ok : accepted (formatOf s
   unfolding formatAction
   enough =
       ⊎-elim (λ (h : allowance < length (formatStores (sectorsIn m) l)).
-        absurd (true≢false (sym (rw (performs, performed-cut allowance (formatAction (sectorsIn m) l) m h) at ok))))
+      absurd (true≢false (sym (rw (performs, performed-cut allowance (formatAction (sectorsIn m) l) m h) at ok))))
       (λ h. h) (lt? allowance (length (formatStores (sectorsIn m) l)))
 
   format-world : Standing (sectorsIn m) l (worldOf (formatOf s m l allowance)) zeroDisk × Sized (sectorsIn m) l (formatOf s m l allowance .memory)
   unfolding formatAction
   format-world =
       let fit = fits (sectorsIn m) l format-fits in
-      rw (performs, performed-whole allowance (formatAction (sectorsIn m) l) m enough)
-      (running (piecesFor l) (piecesFor l) refl (format-settles (sectorsIn m) l fit (m .image)) (blank-0 (sectorsIn m) l fit (m .image)),
-        sized-with (sectorsIn m) l m (applied (formatStores (sectorsIn m) l) (m .image)) (formatTables l) format-sized)
+      rw (performs, performed-whole allowance (formatAction (sectorsIn m) l) m enough) (
+        running (piecesFor l) (piecesFor l) refl (format-settles (sectorsIn m) l fit (m .image)) (blank-0 (sectorsIn m) l fit (m .image)),
+        sized-with (sectorsIn m) l m (applied (formatStores (sectorsIn m) l) (m .image)) (formatTables l) format-sized,
+      )
 
 -- The theorem.
 pub histories : (rules : Rules) → Choosing rules → (s : State) (m : Memory) (l allowance : ℕ) → accepted (formatOf s m l allowance) ≡ true
-  → (calls : List Call) → Faithful rules (sectorsIn m) l calls (worldOf (formatOf s m l allowance)) zeroDisk
+    → (calls : List Call) → Faithful rules (sectorsIn m) l calls (worldOf (formatOf s m l allowance)) zeroDisk
 histories rules law s m l allowance ok calls =
     let fit = fits (sectorsIn m) l (format-fits s m l allowance ok) in
     let w = format-world s m l allowance ok in
@@ -170,5 +171,5 @@ histories rules law s m l allowance ok calls =
 
 -- The base: the search of document 01, 24 branches, and 256 numbers left.
 pub base-histories : (s : State) (m : Memory) (l allowance : ℕ) → accepted (formatOf s m l allowance) ≡ true
-  → (calls : List Call) → Faithful base (sectorsIn m) l calls (worldOf (formatOf s m l allowance)) zeroDisk
+    → (calls : List Call) → Faithful base (sectorsIn m) l calls (worldOf (formatOf s m l allowance)) zeroDisk
 base-histories = histories base base-chooses

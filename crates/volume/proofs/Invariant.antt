@@ -1,15 +1,15 @@
 -- The invariant of a volume between calls: what its image says of tables, tail, number and plain disk.
-use Prim.Native.Nat.{ℕ, zero, suc, _+_, _*_, _-_, _^_, _≤_, _<_}
-use mathlib.Core.Path.{_≡_, refl, sym, _∙_, ap, subst}
-use mathlib.Core.Logic.{_⊎_, inl, inr, ⊎-elim}
-use mathlib.Core.Bool.{Bool, true, false, _&&_}
-use mathlib.Core.List.{List, [], _∷_}
-use mathlib.Core.Option.{Option, none, some}
+use Prim.Native.Nat.{ℕ, _+_, _*_, _^_, _≤_, _<_}
+use mathlib.Core.Path.{_≡_, sym, _∙_, ap, subst}
+use mathlib.Core.Logic.{_⊎_, ⊎-elim}
+use mathlib.Core.Bool.{true, false}
+use mathlib.Core.List.{List}
+use mathlib.Core.Option.{none, some}
 use native.Mathlib.Omega.{arith}
 use lib.Dec.{leb}
 use borrow.Author.Tests.{leb-true}
 use Rattle.types.specs.Geometry.{within, piecesFor, geometryFits}
-use Rattle.volume.specs.Bounded.{best, tabled}
+use Rattle.volume.specs.Bounded.{best}
 use Rattle.volume.specs.MapSector.{MapSector, View, decoded}
 use Rattle.volume.specs.Entry.{blank, isEmpty, sectorOf, restored}
 use Rattle.volume.specs.ParkRecord.{parkRecord}
@@ -34,7 +34,7 @@ fits n l e =
       some = leb-true 1 l (and-l (leb 1 l) (leb l 24576) a);
       most = leb-true l 24576 (and-r (leb 1 l) (leb l 24576) a);
       least = leb-true (2 * piecesFor l + 2) n (and-l (leb (2 * piecesFor l + 2) n) (leb n 65536) b);
-      sectors = leb-true n 65536 (and-r (leb (2 * piecesFor l + 2) n) (leb n 65536) b)
+      sectors = leb-true n 65536 (and-r (leb (2 * piecesFor l + 2) n) (leb n 65536) b);
     }
 
 -- The view of an image: below N the sectors decoded, past it nothing.
@@ -47,18 +47,18 @@ unfolding imageView
 view-below n l image k a e =
     ⊎-elim (λ (z : k < n). z)
     (λ (z : n ≤ k).
-      let q = tabled-past none n (λ j. decoded n l (image j)) k z in
-      let c : _≡_ {A = ℕ} 0 1 = cc in
-      omega arith)
+    let q = tabled-past none n (λ j. decoded n l (image j)) k z in
+    let c : _≡_ {A = ℕ} 0 1 = cc in
+    omega arith)
     (lt? k n)
 
 pub view-same : (n l : ℕ) (image other : ℕ → List ℕ) (k : ℕ) → image k ≡ other k → imageView n l image k ≡ imageView n l other k
 unfolding imageView
 view-same n l image other k e =
     ⊎-elim (λ (z : k < n).
-      tabled-at none n (λ j. decoded n l (image j)) k z ∙ ap (decoded n l) e ∙ sym (tabled-at none n (λ j. decoded n l (other j)) k z))
+    tabled-at none n (λ j. decoded n l (image j)) k z ∙ ap (decoded n l) e ∙ sym (tabled-at none n (λ j. decoded n l (other j)) k z))
     (λ (z : n ≤ k).
-      tabled-past none n (λ j. decoded n l (image j)) k z ∙ sym (tabled-past none n (λ j. decoded n l (other j)) k z))
+    tabled-past none n (λ j. decoded n l (image j)) k z ∙ sym (tabled-past none n (λ j. decoded n l (other j)) k z))
     (lt? k n)
 
 -- What the image says of the sectors that the tables name, and of no others.
@@ -67,8 +67,8 @@ pub record Ground (n l : ℕ) (image : ℕ → List ℕ) (t : Tables) (tail numb
   pub high : number < 2 ^ 32
   pub words : (b : ℕ) → b < l → t .entry b < 2 ^ 32
   pub live : (p : ℕ) → p < piecesFor l
-    → (m : MapSector) × (imageView n l image (t .place p) ≡ some m) × (m .piece ≡ p) × (m .number ≡ t .number p)
-    × (m .entries ≡ pieceEntries l (t .entry) p)
+      → (m : MapSector) × (imageView n l image (t .place p) ≡ some m) × (m .piece ≡ p) × (m .number ≡ t .number p)
+      × (m .entries ≡ pieceEntries l (t .entry) p)
   pub closes : (m : MapSector) → imageView n l image tail ≡ some m → m .closing ≡ true
   pub chain : (p : ℕ) → p < piecesFor l → Reaches (imageView n l image) (t .place) (piecesFor l) tail p
   pub empty : (b : ℕ) → b < l → isEmpty (t .entry b) ≡ true → disk b ≡ blank
@@ -87,8 +87,8 @@ pub record Committed (n l : ℕ) (image : ℕ → List ℕ) (t : Tables) (tail n
   pub latest : (k : ℕ) (a : MapSector) → imageView n l image k ≡ some a → a .number ≤ number → a .number ≤ t .number (a .piece)
   pub unclosed : (k : ℕ) (a : MapSector) → imageView n l image k ≡ some a → number < a .number → a .closing ≡ false
   pub park : (image 0 ≡ blank)
-    ⊎ ((image 0 ≡ parkRecord (record { number = number; tail = tail }))
-    × ((k : ℕ) (a : MapSector) → imageView n l image k ≡ some a → a .number ≤ number))
+      ⊎ ((image 0 ≡ parkRecord (record { number = number; tail = tail }))
+      × ((k : ℕ) (a : MapSector) → imageView n l image k ≡ some a → a .number ≤ number))
 
 -- No commit was cut since.
 pub record Settled (n l : ℕ) (image : ℕ → List ℕ) (t : Tables) (tail number : ℕ) (disk : Disk) : Type 0 where
@@ -103,18 +103,18 @@ reaches-below (itself h e) = h
 reaches-below (through r e h f g lt) = h
 
 pub reaches-moves : {view : View} {live : ℕ → ℕ} {pieces tail p : ℕ} (other : View)
-  → ((q : ℕ) → q < pieces → other (live q) ≡ view (live q)) → Reaches view live pieces tail p → Reaches other live pieces tail p
+    → ((q : ℕ) → q < pieces → other (live q) ≡ view (live q)) → Reaches view live pieces tail p → Reaches other live pieces tail p
 reaches-moves other f (itself h e) = itself h e
 reaches-moves other f (through {q = q} {p = p} r e h g v lt) =
     through (reaches-moves other f r) (f q (reaches-below r) ∙ e) h g (f p h ∙ v) lt
 
 -- The ground moves along wherever the named sectors keep their bytes.
 pub ground-moves : {n l : ℕ} {image : ℕ → List ℕ} {t : Tables} {tail number : ℕ} {disk : Disk} (other : ℕ → List ℕ) → Fits n l
-  → ((x : Name) → Named l (t .entry) (t .place) x → other (sectorNamed l (t .entry) (t .place) x) ≡ image (sectorNamed l (t .entry) (t .place) x))
-  → Ground n l image t tail number disk → Ground n l other t tail number disk
+    → ((x : Name) → Named l (t .entry) (t .place) x → other (sectorNamed l (t .entry) (t .place) x) ≡ image (sectorNamed l (t .entry) (t .place) x))
+    → Ground n l image t tail number disk → Ground n l other t tail number disk
 ground-moves {n} {l} {image} {t} {tail} {number} {disk} other fit f g =
     let moved : (p : ℕ) → p < piecesFor l → imageView n l other (t .place p) ≡ imageView n l image (t .place p) =
-        λ p h. view-same n l other image (t .place p) (f (piece p) h) in
+    λ p h. view-same n l other image (t .place p) (f (piece p) h) in
     let newest = best-below (t .number) (piecesFor l) (some-pieces l (fit .some)) in
     record {
       sound = g .sound;
@@ -122,10 +122,10 @@ ground-moves {n} {l} {image} {t} {tail} {number} {disk} other fit f g =
       words = g .words;
       live = λ p h. let w = g .live p h in (w .0, moved p h ∙ w .1, w .2, w .3, w .4);
       closes = λ m e.
-        g .closes m
-        (subst (λ (k : ℕ). imageView n l image k ≡ some m) (sym (g .sound .tail-is))
-        (sym (moved (best (t .number) (piecesFor l)) newest)
-        ∙ subst (λ (k : ℕ). imageView n l other k ≡ some m) (g .sound .tail-is) e));
+          g .closes m
+          (subst (λ (k : ℕ). imageView n l image k ≡ some m) (sym (g .sound .tail-is))
+          (sym (moved (best (t .number) (piecesFor l)) newest)
+          ∙ subst (λ (k : ℕ). imageView n l other k ≡ some m) (g .sound .tail-is) e));
       chain = λ p h. reaches-moves (imageView n l other) moved (g .chain p h);
       empty = g .empty;
       full = λ b h e. ap (restored (t .entry b)) (f (block b) (h, e)) ∙ g .full b h e;
@@ -133,5 +133,5 @@ ground-moves {n} {l} {image} {t} {tail} {number} {disk} other fit f g =
       places-past = g .places-past;
       numbers-past = g .numbers-past;
       entries-past = g .entries-past;
-      used-all = g .used-all
+      used-all = g .used-all;
     }

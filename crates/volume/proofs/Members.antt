@@ -1,32 +1,27 @@
 -- The members of a commit: its map sectors are well formed, and its stores bring what was planned.
 use Prim.Native.Nat.{ℕ, zero, suc, _+_, _*_, _-_, _/_, _^_, _≤_, _<_}
-use mathlib.Core.Path.{_≡_, refl, sym, _∙_, ap, subst}
+use mathlib.Core.Path.{_≡_, refl, sym, _∙_, ap}
 use mathlib.Core.Logic.{_⊎_, inl, inr, ⊎-elim}
-use mathlib.Core.Bool.{Bool, true, false, cond, not, _&&_, _||_, true≢false}
-use mathlib.Core.List.{List, [], _∷_, _++_}
-use mathlib.Core.Option.{Option, none, some}
-use native.Mathlib.Nat.{le-of-suc-le-suc, sub-zero}
+use mathlib.Core.Bool.{Bool, true, false, cond, not}
+use mathlib.Core.List.{List, [], _∷_}
+use mathlib.Core.Option.{some}
 use native.Mathlib.Omega.{arith}
 use lib.ListN.{length, drop}
 use lib.Dec.{eqb, ltb, leb}
 use borrow.Author.Tests.{eq-eqb, ne-eqb, eqb-true, lt-ltb, ltb-false, le-leb, lt-leb}
-use Rattle.types.specs.declared.state.State.{State}
-use Rattle.types.specs.Geometry.{within, piecesFor, pieceOf, branchRoom}
-use Rattle.volume.specs.Bounded.{at, all, elem, anyBelow, listFrom, tabled, isZero, updates, always}
+use Rattle.types.specs.Geometry.{within, piecesFor, branchRoom}
+use Rattle.volume.specs.Bounded.{at, all, elem, anyBelow, listFrom, tabled, isZero}
 use Rattle.volume.specs.MapSector.{MapSector, decoded, encoded}
 use Rattle.volume.specs.Entry.{isEmpty, sectorOf}
 use Rattle.volume.specs.Tables.{Tables, namedBy, usedBy, pieceEntries}
-use Rattle.volume.specs.Store.{Store}
-use Rattle.volume.specs.Placing.{Rules}
-use Rattle.volume.specs.Commit.{Change, Plan, touches, listing, branchesFor, planned, rank, memberPlace, changedEntries, committedTables, member, dataStore, memberStore, commitStores}
+use Rattle.volume.specs.Commit.{touches, branchesFor, planned, rank, memberPlace, changedEntries, committedTables, member}
 use Rattle.volume.specs.Calls.{viewOf}
-use Rattle.volume.proofs.Bounded.{bool?, lt?, eq?, clash, and-i, and-l, and-r, or-left, or-right, not-of, cond-true, cond-false, elem-here, elem-there, updates-at, updates-other, listFrom-same, listFrom-at, length-listFrom, tabled-at, tabled-past, anyBelow-at, anyBelow-is}
+use Rattle.volume.proofs.Bounded.{bool?, lt?, clash, and-i, cond-true, cond-false, elem-here, elem-there, updates-at, updates-other, listFrom-same, length-listFrom, anyBelow-at, anyBelow-is}
 use Rattle.volume.proofs.Codec.{isWord, WellFormed, decoded-encoded}
-use Rattle.volume.proofs.Names.{Name, piece, block, within-is}
-use Rattle.volume.proofs.Placing.{Choosing}
-use Rattle.volume.proofs.Invariant.{Fits, Ground, Committed, Settled, some-pieces}
+use Rattle.volume.proofs.Names.{piece, within-is}
+use Rattle.volume.proofs.Invariant.{some-pieces}
 use Rattle.volume.proofs.Listing.{listing-places}
-use Rattle.volume.proofs.Plan.{Given, Start, plan, listed, data-is, members-is, written-is, written-past, written-below, unwritten, rank-below, members-few, members-some, at-below, at-low, at-word, member-place}
+use Rattle.volume.proofs.Plan.{Start, plan, listed, written-below, unwritten, rank-below, members-few, at-below, at-low, at-word, member-place}
 
 all-elems : (test : ℕ → Bool) (xs : List ℕ) → ((k : ℕ) → elem k xs ≡ true → test k ≡ true) → all test xs ≡ true
 unfolding all
@@ -56,7 +51,7 @@ module _ (l : ℕ) (entry : ℕ → ℕ) (p : ℕ) where
   entries-words h =
       all-from isWord (λ b. cond (leb l b) 0 (entry b)) (96 * p) 96
       (λ b.
-        ⊎-elim (λ (z : b < l). rw (lt-leb l b z) (lt-ltb (entry b) (2 ^ 32) (h b z))) (λ (z : l ≤ b). rw (le-leb l b z) refl) (lt? b l))
+      ⊎-elim (λ (z : b < l). rw (lt-leb l b z) (lt-ltb (entry b) (2 ^ 32) (h b z))) (λ (z : l ≤ b). rw (le-leb l b z) refl) (lt? b l))
 
   pub entries-past-l : all isZero (drop (l - 96 * p) (pieceEntries l entry p)) ≡ true
   unfolding pieceEntries
@@ -72,15 +67,15 @@ module _ (g : Start) where
 
   -- A block is named, or it is not.
   pub named? : (b : ℕ) → ((i : ℕ) × (i < length (change .blocks)) × (at (change .blocks) i ≡ b))
-    ⊎ ((i : ℕ) → i < length (change .blocks) → at (change .blocks) i ≡ b → ⊥)
+      ⊎ ((i : ℕ) → i < length (change .blocks) → at (change .blocks) i ≡ b → ⊥)
   named? b =
       ⊎-elim (λ (z : anyBelow (λ i. eqb (at (change .blocks) i) b) (length (change .blocks)) ≡ true).
-        let w = anyBelow-at (λ i. eqb (at (change .blocks) i) b) (length (change .blocks)) z in
-        inl (w .0, w .1, eqb-true (at (change .blocks) (w .0)) b (w .2)))
+      let w = anyBelow-at (λ i. eqb (at (change .blocks) i) b) (length (change .blocks)) z in
+      inl (w .0, w .1, eqb-true (at (change .blocks) (w .0)) b (w .2)))
       (λ (z : anyBelow (λ i. eqb (at (change .blocks) i) b) (length (change .blocks)) ≡ false).
-        inr (λ i h e.
-          clash (anyBelow (λ i. eqb (at (change .blocks) i) b) (length (change .blocks)))
-          (anyBelow-is (λ i. eqb (at (change .blocks) i) b) (length (change .blocks)) i h (eq-eqb (at (change .blocks) i) b e)) z))
+      inr (λ i h e.
+      clash (anyBelow (λ i. eqb (at (change .blocks) i) b) (length (change .blocks)))
+      (anyBelow-is (λ i. eqb (at (change .blocks) i) b) (length (change .blocks)) i h (eq-eqb (at (change .blocks) i) b e)) z))
       (bool? (anyBelow (λ i. eqb (at (change .blocks) i) b) (length (change .blocks))))
 
   pub entry-named : (i : ℕ) → i < length (change .blocks) → tables′ .entry (at (change .blocks) i) ≡ (change .entry) i (at (plan g .places) i)
@@ -93,11 +88,8 @@ module _ (g : Start) where
   entry-other b h =
       updates-other (t .entry) (at (change .blocks)) (λ j. (change .entry) j (at (plan g .places) j)) (length (change .blocks)) b h
 
-  data-below : (i : ℕ) → i < change .dataSectors → i < change .dataSectors + plan g .members
-  data-below i h = omega arith
-
   pub entry-stored : (i : ℕ) → i < change .dataSectors
-    → (isEmpty (tables′ .entry (at (change .blocks) i)) ≡ false) × (sectorOf (tables′ .entry (at (change .blocks) i)) ≡ at (plan g .places) i)
+      → (isEmpty (tables′ .entry (at (change .blocks) i)) ≡ false) × (sectorOf (tables′ .entry (at (change .blocks) i)) ≡ at (plan g .places) i)
   entry-stored i h =
       let f = given .few in
       let e = entry-named i (omega arith) in
@@ -111,11 +103,11 @@ module _ (g : Start) where
   pub entry-word′ : (b : ℕ) → b < s .l → tables′ .entry b < 2 ^ 32
   entry-word′ b h =
       ⊎-elim (λ w.
-        let i = w .0 in
-        ⊎-elim (λ (z : i < change .dataSectors).
-          rw (← (w .2), entry-named i (w .1))
-          (given .word i (at (plan g .places) i) z (at-low g i (omega arith)) (at-word g i (omega arith))))
-        (λ (z : change .dataSectors ≤ i). rw (← (w .2), entry-dropped i z (w .1)) (omega arith)) (lt? i (change .dataSectors)))
+      let i = w .0 in
+      ⊎-elim (λ (z : i < change .dataSectors).
+      rw (← (w .2), entry-named i (w .1))
+      (given .word i (at (plan g .places) i) z (at-low g i (omega arith)) (at-word g i (omega arith))))
+      (λ (z : change .dataSectors ≤ i). rw (← (w .2), entry-dropped i z (w .1)) (omega arith)) (lt? i (change .dataSectors)))
       (λ w. rw (entry-other b w) (given .settled .committed .ground .words b h)) (named? b)
 
   pub place-written : (p : ℕ) → plan g .written p ≡ true → tables′ .place p ≡ at (plan g .places) (change .dataSectors + rank (plan g) p)
@@ -145,8 +137,8 @@ module _ (g : Start) where
   entries-kept p e =
       listFrom-same (λ b. cond (leb (s .l) b) 0 (tables′ .entry b)) (λ b. cond (leb (s .l) b) 0 (t .entry b)) (96 * p) 96
       (λ b low high.
-        ap (cond (leb (s .l) b) 0)
-        (entry-other b (λ i h z. unwritten g p e i h (ap (λ (x : ℕ). x / 96) z ∙ (let q : b / 96 ≡ p = omega arith in q)))))
+      ap (cond (leb (s .l) b) 0)
+      (entry-other b (λ i h z. unwritten g p e i h (ap (λ (x : ℕ). x / 96) z ∙ (let q : b / 96 ≡ p = omega arith in q)))))
 
   -- What the first member lists.
   pub listed-places : (k : ℕ) → elem k (listed g) ≡ true → (p : ℕ) × (p < piecesFor (s .l)) × (t .place p ≡ k)
@@ -168,9 +160,9 @@ module _ (g : Start) where
   first-few =
       ⊎-elim (λ (z : plan g .fold ≡ true). rw (branches-is, z) (omega arith))
       (λ (z : plan g .fold ≡ false).
-        let a = ltb-false (rules .branchLimit) (length (listed g)) (sym fold-is ∙ z) in
-        let b = law .few in
-        rw (branches-is, z) (omega arith))
+      let a = ltb-false (rules .branchLimit) (length (listed g)) (sym fold-is ∙ z) in
+      let b = law .few in
+      rw (branches-is, z) (omega arith))
       (bool? (plan g .fold))
 
   first-fit : all (within 1 (s .n - 1)) (plan g .branches) ≡ true
@@ -178,13 +170,13 @@ module _ (g : Start) where
   first-fit =
       ⊎-elim (λ (z : plan g .fold ≡ true). rw (branches-is, z) refl)
       (λ (z : plan g .fold ≡ false).
-        rw (branches-is, z)
-        (all-elems (within 1 (s .n - 1)) (listed g)
-        (λ k e.
-          let w = listed-places k e in
-          rw (← (w .2))
-          (within-is 1 (s .n - 1) (t .place (w .0)) (given .settled .committed .ground .sound .low (piece (w .0)) (w .1))
-          (given .settled .committed .ground .sound .high (piece (w .0)) (w .1))))))
+      rw (branches-is, z)
+      (all-elems (within 1 (s .n - 1)) (listed g)
+      (λ k e.
+      let w = listed-places k e in
+      rw (← (w .2))
+      (within-is 1 (s .n - 1) (t .place (w .0)) (given .settled .committed .ground .sound .low (piece (w .0)) (w .1))
+      (given .settled .committed .ground .sound .high (piece (w .0)) (w .1))))))
       (bool? (plan g .fold))
 
   abbrev pub memberOf : ℕ → MapSector
@@ -252,7 +244,7 @@ module _ (g : Start) where
         branches = branches-in p e;
         count = rw (member-entries p) (entries-count (s .l) (tables′ .entry) p);
         entries = rw (member-entries p) (entries-words (s .l) (tables′ .entry) p entry-word′);
-        past = rw (member-entries p, member-piece p) (entries-past-l (s .l) (tables′ .entry) p)
+        past = rw (member-entries p, member-piece p) (entries-past-l (s .l) (tables′ .entry) p);
       }
 
   -- A member that was stored is signed, and says what it was made of.

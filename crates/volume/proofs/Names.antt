@@ -1,19 +1,17 @@
 -- The sectors that tables name, each by the piece or the block that names it, and soundness said of these.
-use Prim.Native.Nat.{ℕ, zero, suc, _+_, _*_, _-_, _≤_, _<_}
-use mathlib.Core.Path.{_≡_, refl, sym, _∙_, ap, subst}
-use mathlib.Core.Logic.{_⊎_, inl, inr, ⊎-elim}
+use Prim.Native.Nat.{ℕ, _*_, _-_, _≤_, _<_}
+use mathlib.Core.Path.{_≡_, refl, sym, ap}
+use mathlib.Core.Logic.{⊎-elim}
 use mathlib.Core.Bool.{Bool, true, false, not, _&&_, Bool·beq, true≢false}
-use mathlib.Core.List.{List, [], _∷_}
-use native.Mathlib.Nat.{not-suc-le-zero}
+use mathlib.Core.List.{List, []}
 use native.Mathlib.Omega.{arith}
-use lib.ListN.{length}
-use lib.Dec.{leb, ltb, eqb}
+use lib.Dec.{leb, eqb}
 use borrow.Author.Tests.{leb-true, le-leb, eqb-true, eq-eqb}
 use Rattle.types.specs.Geometry.{within, piecesFor, usedBytes}
 use Rattle.volume.specs.Bounded.{always, allBelow, best, all, elem, distinct, gathered}
 use Rattle.volume.specs.Entry.{isEmpty, sectorOf}
 use Rattle.volume.specs.Tables.{Tables, namedBy, usedBy, freeSectors, consistent}
-use Rattle.volume.proofs.Bounded.{lt?, eq?, and-l, and-r, and-i, not-is, not-of, not-elem, clash, allBelow-at, allBelow-is, gathered-has, gathered-own, gathered-other, gathered-distinct, gathered-rest, gathered-apart, gathered-injective, gathered-all, all-elem}
+use Rattle.volume.proofs.Bounded.{lt?, and-l, and-r, and-i, not-is, not-of, not-elem, clash, allBelow-at, allBelow-is, gathered-has, gathered-own, gathered-other, gathered-distinct, gathered-rest, gathered-apart, gathered-injective, gathered-all, all-elem}
 
 -- Who names a sector.
 pub data Name : Type 0 where
@@ -23,12 +21,12 @@ pub data Name : Type 0 where
 -- The test that a value gathered from a bound is its own only one, in both orders.
 module _ (test : ℕ → Bool) (value : ℕ → ℕ) (others : List ℕ) where
   pub gathered-same : (n : ℕ) → distinct (gathered test value others n) ≡ true
-    → (i j : ℕ) → i < n → j < n → test i ≡ true → test j ≡ true → value i ≡ value j → i ≡ j
+      → (i j : ℕ) → i < n → j < n → test i ≡ true → test j ≡ true → value i ≡ value j → i ≡ j
   gathered-same n d i j h g e f q =
       ⊎-elim (λ (z : i < j). absurd (gathered-injective test value others n d i j z g e f q))
       (λ (z : j ≤ i).
-        ⊎-elim (λ (y : j < i). absurd (gathered-injective test value others n d j i y h f e (sym q))) (λ (y : i ≤ j). omega arith)
-        (lt? j i))
+      ⊎-elim (λ (y : j < i). absurd (gathered-injective test value others n d j i y h f e (sym q))) (λ (y : i ≤ j). omega arith)
+      (lt? j i))
       (lt? i j)
 
 module _ (l : ℕ) (entry place : ℕ → ℕ) where
@@ -39,12 +37,6 @@ module _ (l : ℕ) (entry place : ℕ → ℕ) where
   abbrev pub Named : Name → Type 0
   Named (piece p) = p < piecesFor l
   Named (block b) = (b < l) × (isEmpty (entry b) ≡ false)
-
-  places : List ℕ
-  places = gathered always place [] (piecesFor l)
-
-  full : ℕ → Bool
-  full b = not (isEmpty (entry b))
 
   pub named-elem : (x : Name) → Named x → elem (sectorNamed x) (namedBy l entry place) ≡ true
   unfolding namedBy
@@ -59,8 +51,8 @@ module _ (l : ℕ) (entry place : ℕ → ℕ) where
   unfolding namedBy elem
   elem-named k e =
       ⊎-elim (λ (z : elem k (gathered always place [] (piecesFor l)) ≡ true).
-        ⊎-elim (λ (y : elem k [] ≡ true). absurd (true≢false (sym y)))
-        (λ w. (piece (w .0), w .1, w .3)) (gathered-has always place [] (piecesFor l) k z))
+      ⊎-elim (λ (y : elem k [] ≡ true). absurd (true≢false (sym y)))
+      (λ w. (piece (w .0), w .1, w .3)) (gathered-has always place [] (piecesFor l) k z))
       (λ w. (block (w .0), (w .1, not-of (isEmpty (entry (w .0))) (w .2)), w .3))
       (gathered-has (λ b. not (isEmpty (entry b))) (λ b. sectorOf (entry b)) (gathered always place [] (piecesFor l)) l k e)
 
@@ -101,15 +93,15 @@ module _ (l : ℕ) (entry place : ℕ → ℕ) where
       (gathered-distinct always place [] (piecesFor l) refl (λ i h e. refl)
       (λ i j h g e e′ q. ap piece-of (f (piece i) (piece j) h g q)))
       (λ b h e.
-        not-elem (sectorOf (entry b)) (gathered always place [] (piecesFor l))
-        (λ (o : elem (sectorOf (entry b)) (gathered always place [] (piecesFor l)) ≡ true).
-          ⊎-elim (λ (y : elem (sectorOf (entry b)) [] ≡ true). true≢false (sym y))
-          (λ w.
-            let z = ap is-piece (f (piece (w .0)) (block b) (w .1) (h, not-of (isEmpty (entry b)) e) (w .3)) in
-            omega arith)
-          (gathered-has always place [] (piecesFor l) (sectorOf (entry b)) o)))
+      not-elem (sectorOf (entry b)) (gathered always place [] (piecesFor l))
+      (λ (o : elem (sectorOf (entry b)) (gathered always place [] (piecesFor l)) ≡ true).
+      ⊎-elim (λ (y : elem (sectorOf (entry b)) [] ≡ true). true≢false (sym y))
+      (λ w.
+      let z = ap is-piece (f (piece (w .0)) (block b) (w .1) (h, not-of (isEmpty (entry b)) e) (w .3)) in
+      omega arith)
+      (gathered-has always place [] (piecesFor l) (sectorOf (entry b)) o)))
       (λ b c h g e e′ q.
-        ap piece-of (f (block b) (block c) (h, not-of (isEmpty (entry b)) e) (g, not-of (isEmpty (entry c)) e′) q))
+      ap piece-of (f (block b) (block c) (h, not-of (isEmpty (entry b)) e) (g, not-of (isEmpty (entry c)) e′) q))
 
   pub named-all : (check : ℕ → Bool) → ((x : Name) → Named x → check (sectorNamed x) ≡ true) → all check (namedBy l entry place) ≡ true
   unfolding namedBy all
@@ -123,7 +115,7 @@ pub record Sound (n l : ℕ) (t : Tables) (tail number : ℕ) : Type 0 where
   pub low : (x : Name) → Named l (t .entry) (t .place) x → 1 ≤ sectorNamed l (t .entry) (t .place) x
   pub high : (x : Name) → Named l (t .entry) (t .place) x → sectorNamed l (t .entry) (t .place) x ≤ n - 1
   pub once : (x y : Name) → Named l (t .entry) (t .place) x → Named l (t .entry) (t .place) y
-    → sectorNamed l (t .entry) (t .place) x ≡ sectorNamed l (t .entry) (t .place) y → x ≡ y
+      → sectorNamed l (t .entry) (t .place) x ≡ sectorNamed l (t .entry) (t .place) y → x ≡ y
   pub used : (k : ℕ) → k < 8 * usedBytes n → t .isUsed k ≡ usedBy (namedBy l (t .entry) (t .place)) k
   pub room : piecesFor l ≤ freeSectors n (t .isUsed)
   pub numbers : (p q : ℕ) → p < piecesFor l → q < piecesFor l → t .number p ≡ t .number q → p ≡ q
@@ -153,9 +145,6 @@ pub within-is : (low high x : ℕ) → low ≤ x → x ≤ high → within low h
 within-is low high x a b = and-i (leb low x) (leb x high) (le-leb low x a) (le-leb x high b)
 
 module _ (n l : ℕ) (t : Tables) (tail number : ℕ) where
-  named : List ℕ
-  named = namedBy l (t .entry) (t .place)
-
   c1 : Bool
   c1 = all (within 1 (n - 1)) (namedBy l (t .entry) (t .place))
 
@@ -199,7 +188,7 @@ module _ (n l : ℕ) (t : Tables) (tail number : ℕ) where
         numbers = λ p q h g. gathered-same always (t .number) [] (piecesFor l) (and-r (c1 && c2 && c3 && c4) c5 e5) p q h g refl refl;
         from1 = λ p h. leb-true 1 _ (allBelow-at (λ q. leb 1 (t .number q)) (piecesFor l) (and-r (c1 && c2 && c3 && c4 && c5) c6 e6) p h);
         tail-is = eqb-true tail _ (and-r (c1 && c2 && c3 && c4 && c5 && c6) c7 e7);
-        number-is = eqb-true number _ (and-r (c1 && c2 && c3 && c4 && c5 && c6 && c7) c8 e)
+        number-is = eqb-true number _ (and-r (c1 && c2 && c3 && c4 && c5 && c6 && c7) c8 e);
       }
 
   pub sound-consistent : Sound n l t tail number → consistent n l t tail number ≡ true
@@ -208,7 +197,7 @@ module _ (n l : ℕ) (t : Tables) (tail number : ℕ) where
       let r1 = named-all l (t .entry) (t .place) (within 1 (n - 1)) (λ x h. within-is 1 (n - 1) _ (s .low x h) (s .high x h)) in
       let r2 = named-distinct l (t .entry) (t .place) (s .once) in
       let r3 = allBelow-is (λ k. Bool·beq (t .isUsed k) (usedBy (namedBy l (t .entry) (t .place)) k)) (8 * usedBytes n)
-          (λ k h. true-beq (t .isUsed k) _ (s .used k h)) in
+      (λ k h. true-beq (t .isUsed k) _ (s .used k h)) in
       let r4 = le-leb (piecesFor l) (freeSectors n (t .isUsed)) (s .room) in
       let r5 = gathered-distinct always (t .number) [] (piecesFor l) refl (λ i h e. refl) (λ i j h g e e′ q. s .numbers i j h g q) in
       let r6 = allBelow-is (λ q. leb 1 (t .number q)) (piecesFor l) (λ q h. le-leb 1 _ (s .from1 q h)) in

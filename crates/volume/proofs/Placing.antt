@@ -1,24 +1,23 @@
 -- Where a commit goes: for ANY choice that answers a free sector whenever there is one, the places of a commit lie in 1 to
 -- N - 1, are free at its start, and are all different. The base's search is such a choice.
-use Prim.Native.Nat.{ℕ, zero, suc, _+_, _-_, _^_, _≤_, _<_}
-use mathlib.Core.Path.{_≡_, refl, sym, _∙_, ap, subst}
+use Prim.Native.Nat.{ℕ, zero, suc, _+_, _^_, _≤_, _<_}
+use mathlib.Core.Path.{_≡_, refl, sym, _∙_, ap}
 use mathlib.Core.Logic.{_⊎_, inl, inr, ⊎-elim}
-use mathlib.Core.Bool.{Bool, true, false, cond, not, _||_, true≢false}
-use native.Mathlib.Nat.{le-of-suc-le-suc, not-suc-le-zero}
+use mathlib.Core.Bool.{Bool, true, false, not, _||_}
+use native.Mathlib.Nat.{not-suc-le-zero}
 use native.Mathlib.Omega.{arith}
 use lib.Dec.{eqb, ltb}
 use borrow.Author.Tests.{lt-ltb, le-ltb, eq-eqb, ne-eqb}
-use Rattle.volume.specs.Bounded.{countBelow}
 use Rattle.volume.specs.Tables.{freeSectors}
-use Rattle.volume.specs.Placing.{Rules, sectorAfter, firstFree, base, Placing, chosen, placedUpTo, placeOf}
-use Rattle.volume.proofs.Bounded.{bool?, lt?, eq?, clash, cond-true, cond-false, or-l, or-r, or-left, or-none, not-of, count-near, count-some, count-same, suc-cases}
+use Rattle.volume.specs.Placing.{Rules, sectorAfter, firstFree, base, placedUpTo, placeOf}
+use Rattle.volume.proofs.Bounded.{bool?, lt?, eq?, clash, cond-true, cond-false, or-l, or-r, not-of, count-near, count-some, suc-cases}
 
 -- What is asked of a choice of place, and of the limits.
 pub record Choosing (rules : Rules) : Type 0 where
   pub below : (n : ℕ) (isUsed : ℕ → Bool) (start k : ℕ) → start < n → isUsed 0 ≡ true → k < n → isUsed k ≡ false
-    → (rules .choose) n isUsed start < n
+      → (rules .choose) n isUsed start < n
   pub free : (n : ℕ) (isUsed : ℕ → Bool) (start k : ℕ) → start < n → isUsed 0 ≡ true → k < n → isUsed k ≡ false
-    → isUsed ((rules .choose) n isUsed start) ≡ false
+      → isUsed ((rules .choose) n isUsed start) ≡ false
   pub next : (n k : ℕ) → 1 < n → k < n → (rules .next) n k < n
   pub some : 1 ≤ rules .branchLimit
   pub few : rules .branchLimit ≤ 24
@@ -43,12 +42,12 @@ module _ (n : ℕ) (isUsed : ℕ → Bool) (used0 : isUsed 0 ≡ true) (free : �
       let ne : k ≡ free → ⊥ = λ (z : k ≡ free). clash (isUsed k) u (ap isUsed z ∙ isFree) in
       let low = free-low in
       ⊎-elim (λ (z : suc k < n).
-        rw (cond-true (ltb (suc k) n) (suc k) 1 (lt-ltb (suc k) n z))
-        (⊎-elim (λ w. inl (let x = w .0 in omega arith, let x = w .1 in omega arith))
-        (λ w. inr (let x = w .0 in omega arith, let x = w .1 in omega arith)) a))
+      rw (cond-true (ltb (suc k) n) (suc k) 1 (lt-ltb (suc k) n z))
+      (⊎-elim (λ w. inl (let x = w .0 in omega arith, let x = w .1 in omega arith))
+      (λ w. inr (let x = w .0 in omega arith, let x = w .1 in omega arith)) a))
       (λ (z : n ≤ suc k).
-        rw (cond-false (ltb (suc k) n) (suc k) 1 (le-ltb (suc k) n z))
-        (⊎-elim (λ w. absurd (ne (let x = w .0 in omega arith))) (λ w. inl (omega arith, let x = w .1 in omega arith)) a))
+      rw (cond-false (ltb (suc k) n) (suc k) 1 (le-ltb (suc k) n z))
+      (⊎-elim (λ w. absurd (ne (let x = w .0 in omega arith))) (λ w. inl (omega arith, let x = w .1 in omega arith)) a))
       (lt? (suc k) n)
 
   after-below : (k : ℕ) → sectorAfter n k < n
@@ -62,8 +61,8 @@ module _ (n : ℕ) (isUsed : ℕ → Bool) (used0 : isUsed 0 ≡ true) (free : �
   finds zero k h a = ⊎-elim (λ w. absurd (let x = w .0 in let y = w .1 in omega arith)) (λ w. absurd (let y = w .1 in omega arith)) a
   finds (suc steps) k h a =
       ⊎-elim (λ (z : isUsed k ≡ true).
-        rw (cond-true (isUsed k) (firstFree n isUsed steps (sectorAfter n k)) k z)
-        (finds steps (sectorAfter n k) (after-below k) (ahead-after steps k h z a)))
+      rw (cond-true (isUsed k) (firstFree n isUsed steps (sectorAfter n k)) k z)
+      (finds steps (sectorAfter n k) (after-below k) (ahead-after steps k h z a)))
       (λ (z : isUsed k ≡ false). rw (cond-false (isUsed k) (firstFree n isUsed steps (sectorAfter n k)) k z) (h, z)) (bool? (isUsed k))
 
   found : (start : ℕ) → start < n → (firstFree n isUsed n start < n) × (isUsed (firstFree n isUsed n start) ≡ false)
@@ -81,16 +80,16 @@ base-chooses =
       below = λ n isUsed start k h u b f. found n isUsed u k b f start h .0;
       free = λ n isUsed start k h u b f. found n isUsed u k b f start h .1;
       next = λ n k h b.
-        ⊎-elim (λ (z : suc k < n). rw (cond-true (ltb (suc k) n) (suc k) 1 (lt-ltb (suc k) n z)) z)
-        (λ (z : n ≤ suc k). rw (cond-false (ltb (suc k) n) (suc k) 1 (le-ltb (suc k) n z)) h) (lt? (suc k) n);
+          ⊎-elim (λ (z : suc k < n). rw (cond-true (ltb (suc k) n) (suc k) 1 (lt-ltb (suc k) n z)) z)
+          (λ (z : n ≤ suc k). rw (cond-false (ltb (suc k) n) (suc k) 1 (le-ltb (suc k) n z)) h) (lt? (suc k) n);
       some = omega arith;
       few = omega arith;
-      numbers = omega arith
+      numbers = omega arith;
     }
 
 -- The places of one commit that needs `total` sectors, where so many are free.
 module _ (rules : Rules) (law : Choosing rules) (n : ℕ) (two : 1 < n) (isUsed : ℕ → Bool) (used0 : isUsed 0 ≡ true) (head : ℕ)
-  (inside : head < n) (total : ℕ) (room : total ≤ freeSectors n isUsed) where
+    (inside : head < n) (total : ℕ) (room : total ≤ freeSectors n isUsed) where
   record Upto (j : ℕ) : Type 0 where
     start : placedUpTo rules n isUsed head j .start < n
     keeps : (k : ℕ) → isUsed k ≡ true → placedUpTo rules n isUsed head j .isUsed k ≡ true
@@ -126,20 +125,20 @@ module _ (rules : Rules) (law : Choosing rules) (n : ℕ) (two : 1 < n) (isUsed 
       let before = placedUpTo rules n isUsed head j in
       let k = placeOf rules n isUsed head j in
       let near = count-near (λ q. not (before .isUsed q)) (λ q. not (before .isUsed q || eqb q k)) n k
-          (λ q (d : q ≡ k → ⊥).
-            ⊎-elim (λ (z : before .isUsed q ≡ true). rw z refl) (λ (z : before .isUsed q ≡ false). rw (z, ne-eqb q k d) refl)
-            (bool? (before .isUsed q))) in
+      (λ q (d : q ≡ k → ⊥).
+      ⊎-elim (λ (z : before .isUsed q ≡ true). rw z refl) (λ (z : before .isUsed q ≡ false). rw (z, ne-eqb q k d) refl)
+      (bool? (before .isUsed q))) in
       record {
         start = law .next n k two here;
         keeps = λ q e. or-l (before .isUsed q) (eqb q k) (u .keeps q e);
         taken = λ i b.
-          ⊎-elim (λ (z : i ≡ j).
+            ⊎-elim (λ (z : i ≡ j).
             or-r (before .isUsed (placeOf rules n isUsed head i)) (eqb (placeOf rules n isUsed head i) k)
             (eq-eqb (placeOf rules n isUsed head i) k (ap (placeOf rules n isUsed head) z)))
-          (λ (z : i < j).
+            (λ (z : i < j).
             or-l (before .isUsed (placeOf rules n isUsed head i)) (eqb (placeOf rules n isUsed head i) k) (u .taken i z))
-          (suc-cases b);
-        left = let x = u .left in omega arith
+            (suc-cases b);
+        left = let x = u .left in omega arith;
       }
 
   pub place-below : (j : ℕ) → j < total → placeOf rules n isUsed head j < n
@@ -156,8 +155,8 @@ module _ (rules : Rules) (law : Choosing rules) (n : ℕ) (two : 1 < n) (isUsed 
   place-low j h =
       ⊎-elim (λ (z : 0 < placeOf rules n isUsed head j). z)
       (λ (z : placeOf rules n isUsed head j ≤ 0).
-        let e : placeOf rules n isUsed head j ≡ 0 = omega arith in
-        clash (isUsed 0) used0 (ap isUsed (sym e) ∙ place-free j h))
+      let e : placeOf rules n isUsed head j ≡ 0 = omega arith in
+      clash (isUsed 0) used0 (ap isUsed (sym e) ∙ place-free j h))
       (lt? 0 (placeOf rules n isUsed head j))
 
   pub place-apart : (i j : ℕ) → i < j → j < total → placeOf rules n isUsed head i ≡ placeOf rules n isUsed head j → ⊥

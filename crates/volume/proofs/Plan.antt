@@ -1,17 +1,17 @@
 -- What any planned commit gives: which pieces it writes, and where its sectors go.
-use Prim.Native.Nat.{ℕ, zero, suc, _+_, _*_, _-_, _/_, _^_, _≤_, _<_}
+use Prim.Native.Nat.{ℕ, _+_, _^_, _≤_, _<_}
 use mathlib.Core.Path.{_≡_, refl, sym, _∙_, ap, subst}
-use mathlib.Core.Logic.{_⊎_, inl, inr, ⊎-elim}
-use mathlib.Core.Bool.{Bool, true, false, cond, not, _&&_, _||_}
-use mathlib.Core.List.{List, [], _∷_, _++_}
-use mathlib.Core.Option.{Option, none, some}
+use mathlib.Core.Logic.{⊎-elim}
+use mathlib.Core.Bool.{true, false, _||_}
+use mathlib.Core.List.{List}
+use mathlib.Core.Option.{none, some}
 use native.Mathlib.Omega.{arith}
 use lib.ListN.{length}
-use lib.Dec.{eqb, ltb}
-use borrow.Author.Tests.{eq-eqb, eqb-true}
+use lib.Dec.{eqb}
+use borrow.Author.Tests.{eq-eqb}
 use Rattle.types.specs.declared.state.State.{State}
 use Rattle.types.specs.Geometry.{piecesFor, pieceOf}
-use Rattle.volume.specs.Bounded.{at, countBelow, anyBelow, tabled, listFrom, elem}
+use Rattle.volume.specs.Bounded.{at, countBelow, elem}
 use Rattle.volume.specs.MapSector.{decoded}
 use Rattle.volume.specs.Entry.{blank, isEmpty, sectorOf, restored}
 use Rattle.volume.specs.Tables.{Tables, namedBy, usedBy, freeSectors}
@@ -19,10 +19,10 @@ use Rattle.volume.specs.Placing.{Rules, placeOf}
 use Rattle.volume.specs.Commit.{Change, Plan, touches, branchesFor, planned, rank, memberPlace}
 use Rattle.volume.specs.Calls.{viewOf}
 use Rattle.volume.specs.History.{Disk}
-use Rattle.volume.proofs.Bounded.{bool?, lt?, eq?, clash, or-l, or-r, or-left, or-right, tabled-at, tabled-past, listFrom-at, anyBelow-is, anyBelow-at, count-le, count-before, count-grows}
-use Rattle.volume.proofs.Names.{Name, piece, block, Named, sectorNamed, named-elem}
+use Rattle.volume.proofs.Bounded.{lt?, clash, or-r, tabled-at, tabled-past, listFrom-at, anyBelow-is, count-le, count-before}
+use Rattle.volume.proofs.Names.{Name, Named, sectorNamed, named-elem}
 use Rattle.volume.proofs.Placing.{Choosing, place-below, place-free, place-low, place-apart}
-use Rattle.volume.proofs.Invariant.{Fits, Ground, Committed, Settled}
+use Rattle.volume.proofs.Invariant.{Fits, Settled}
 
 -- What a commit starts from: a running volume, a change that names blocks once, stores `dataSectors` blocks and empties the
 -- others, room, and numbers enough. `after` is what the plain disk then has in the named blocks.
@@ -66,10 +66,6 @@ module _ (g : Start) where
 
   unfoldable pub listed : List ℕ
   listed = branchesFor (s .l) t (viewOf (s .n) (s .l) image) (s .number) (change .blocks)
-
-  pub data-is : plan .dataSectors ≡ change .dataSectors
-  unfolding plan planned
-  data-is = refl
 
   pub members-is : plan .members ≡ countBelow (plan .written) (piecesFor (s .l))
   unfolding plan planned
@@ -124,7 +120,7 @@ module _ (g : Start) where
   rank-once p q e f z =
       ⊎-elim (λ (y : p < q). let x = count-before (plan .written) p q y e in absurd (omega arith))
       (λ (y : q ≤ p).
-        ⊎-elim (λ (w : q < p). let x = count-before (plan .written) q p w f in absurd (omega arith)) (λ (w : p ≤ q). omega arith) (lt? q p))
+      ⊎-elim (λ (w : q < p). let x = count-before (plan .written) q p w f in absurd (omega arith)) (λ (w : p ≤ q). omega arith) (lt? q p))
       (lt? p q)
 
   -- Places.
@@ -160,15 +156,15 @@ module _ (g : Start) where
       (place-low rules law (s .n) two (t .isUsed) used0 head (given .inside) (change .dataSectors + plan .members) enough j h)
 
   pub at-once : (i j : ℕ) → i < change .dataSectors + plan .members → j < change .dataSectors + plan .members
-    → at (plan .places) i ≡ at (plan .places) j → i ≡ j
+      → at (plan .places) i ≡ at (plan .places) j → i ≡ j
   at-once i j g h e =
       let q = sym (place-is i g) ∙ e ∙ place-is j h in
       ⊎-elim (λ (y : i < j).
-        absurd (place-apart rules law (s .n) two (t .isUsed) used0 head (given .inside) (change .dataSectors + plan .members) enough i j y h q))
+      absurd (place-apart rules law (s .n) two (t .isUsed) used0 head (given .inside) (change .dataSectors + plan .members) enough i j y h q))
       (λ (y : j ≤ i).
-        ⊎-elim (λ (w : j < i).
-          absurd (place-apart rules law (s .n) two (t .isUsed) used0 head (given .inside) (change .dataSectors + plan .members) enough j i w g (sym q)))
-        (λ (w : i ≤ j). omega arith) (lt? j i))
+      ⊎-elim (λ (w : j < i).
+      absurd (place-apart rules law (s .n) two (t .isUsed) used0 head (given .inside) (change .dataSectors + plan .members) enough j i w g (sym q)))
+      (λ (w : i ≤ j). omega arith) (lt? j i))
       (lt? i j)
 
   pub at-word : (j : ℕ) → j < change .dataSectors + plan .members → at (plan .places) j < 2 ^ 31
@@ -182,7 +178,7 @@ module _ (g : Start) where
       given .settled .committed .ground .used-all k ∙ or-r (eqb k 0) (elem k (namedBy (s .l) (t .entry) (t .place))) (named-elem (s .l) (t .entry) (t .place) x h)
 
   pub named-other : (x : Name) → Named (s .l) (t .entry) (t .place) x → (j : ℕ) → j < change .dataSectors + plan .members
-    → at (plan .places) j ≡ sectorNamed (s .l) (t .entry) (t .place) x → ⊥
+      → at (plan .places) j ≡ sectorNamed (s .l) (t .entry) (t .place) x → ⊥
   named-other x h j b e =
       clash (t .isUsed (sectorNamed (s .l) (t .entry) (t .place) x)) (named-used x h)
       (subst (λ (k : ℕ). t .isUsed k ≡ false) e (at-free j b))

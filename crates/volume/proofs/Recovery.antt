@@ -1,34 +1,32 @@
 -- A recovery of any committed image: it is accepted with stores enough, cut anywhere it loses nothing, and whole it leaves the
 -- volume settled, whether it walked or scanned.
-use Prim.Native.Nat.{ℕ, zero, suc, _+_, _*_, _-_, _^_, _≤_, _<_}
-use mathlib.Core.Path.{_≡_, refl, sym, _∙_, ap, subst}
-use mathlib.Core.Logic.{_⊎_, inl, inr, ⊎-elim}
-use mathlib.Core.Bool.{Bool, true, false, cond, not, _&&_}
+use Prim.Native.Nat.{ℕ, _+_, _-_, _≤_, _<_}
+use mathlib.Core.Path.{_≡_, refl, _∙_, ap}
+use mathlib.Core.Logic.{inr, ⊎-elim}
+use mathlib.Core.Bool.{true, not}
 use mathlib.Core.List.{List, [], _∷_}
-use mathlib.Core.Option.{Option, none, some}
+use mathlib.Core.Option.{some}
 use native.Mathlib.Omega.{arith}
 use lib.ListN.{take}
-use lib.Dec.{eqb}
 use borrow.Author.Tests.{eq-eqb, ne-eqb}
 use Rattle.types.specs.declared.answer.Answer.{Answer}
 use Rattle.types.specs.declared.answer.Answer.the-variants.{Walked, Scanned}
-use Rattle.types.specs.Geometry.{within, piecesFor}
+use Rattle.types.specs.Geometry.{piecesFor}
 use Rattle.types.specs.Answer.{numberOf}
 use Rattle.volume.specs.Bounded.{allBelow, best, isZero}
-use Rattle.volume.specs.MapSector.{MapSector}
 use Rattle.volume.specs.Entry.{blank}
 use Rattle.volume.specs.ParkRecord.{Parked, parkRecord, parkedIn}
 use Rattle.volume.specs.Tables.{Tables}
 use Rattle.volume.specs.Store.{Store, applied}
 use Rattle.volume.specs.Format.{blankStore}
-use Rattle.volume.specs.Recover.{numberIn, Log, Finding, found, isBlank, parkSectorCleared, walkFrom, walkedLog, walkComplete, walkFinding, branchCount, scanStores, scanFinding, walkStarts, findingFrom, findingOf, imageView}
+use Rattle.volume.specs.Recover.{numberIn, found, isBlank, parkSectorCleared, walkFrom, walkedLog, walkComplete, walkFinding, branchCount, scanStores, walkStarts, findingFrom, findingOf, imageView}
 use Rattle.volume.specs.History.{Disk}
 use Rattle.volume.proofs.Bounded.{eq?, and-i, best-below, allBelow-is}
 use Rattle.volume.proofs.Codec.{parked-parkRecord, blank-unparked}
-use Rattle.volume.proofs.Names.{Name, piece, Sound, sound-consistent, within-is}
+use Rattle.volume.proofs.Names.{piece, sound-consistent, within-is}
 use Rattle.volume.proofs.Stores.{Among, first, among-none, among-cases, applied-at}
-use Rattle.volume.proofs.Invariant.{Fits, Ground, Committed, Settled, some-pieces, view-below}
-use Rattle.volume.proofs.Scan.{number-signed, tail-says, same-tables, scan-finds}
+use Rattle.volume.proofs.Invariant.{Fits, Committed, Settled, some-pieces, view-below}
+use Rattle.volume.proofs.Scan.{number-some, number-signed, tail-says, same-tables, scan-finds}
 use Rattle.volume.proofs.Clearing.{Clears, clears-take, clearing-keeps, clearing-settles, park-not-blank, scan-cut, scan-whole}
 use Rattle.volume.proofs.Walk.{walk-places}
 
@@ -41,10 +39,6 @@ pub record Finds (n l : ℕ) (image : ℕ → List ℕ) (t : Tables) (tail numbe
   pub whole : Settled n l (applied stores image) t tail number disk
   pub blanks : applied stores image 0 ≡ blank
 
-number-is : (o : Option MapSector) (a : MapSector) → o ≡ some a → numberIn o ≡ a .number
-unfolding numberIn
-number-is o a e = ap numberIn e
-
 module _ (n l : ℕ) (image : ℕ → List ℕ) (t : Tables) (tail number : ℕ) (disk : Disk) (fit : Fits n l) where
   by-scan : Committed n l image t tail number disk → image 0 ≡ blank → Finds n l image t tail number disk
   unfolding findingFrom
@@ -54,12 +48,12 @@ module _ (n l : ℕ) (image : ℕ → List ℕ) (t : Tables) (tail number : ℕ)
         answer = Scanned n;
         stores = scanStores n (imageView n l image) (image 0) number;
         finding =
-          ap (findingFrom n l (imageView n l image) (image 0)) (ap parkedIn z ∙ blank-unparked)
-          ∙ scan-finds n l image t tail number disk fit c;
+            ap (findingFrom n l (imageView n l image) (image 0)) (ap parkedIn z ∙ blank-unparked)
+            ∙ scan-finds n l image t tail number disk fit c;
         accepts = λ k. refl;
         cut = scan-cut n l image t tail number disk fit c;
         whole = w .0;
-        blanks = w .1
+        blanks = w .1;
       }
 
   abbrev record-here : Parked
@@ -83,9 +77,9 @@ module _ (n l : ℕ) (image : ℕ → List ℕ) (t : Tables) (tail number : ℕ)
         λ i.
         record {
           tables = same-tables n l image t tail number disk fit (settled .committed) (walkFrom (piecesFor l) (imageView n l image) tail)
-            (walk-places n l image t tail number disk fit settled) i;
+              (walk-places n l image t tail number disk fit settled) i;
           tail = tail;
-          number = number
+          number = number;
         }
 
     complete : walkComplete n l (record { tables = t; tail = tail; number = number }) ≡ true
@@ -94,8 +88,8 @@ module _ (n l : ℕ) (image : ℕ → List ℕ) (t : Tables) (tail number : ℕ)
         and-i (allBelow (λ p. not (isZero (t .place p))) (piecesFor l)) _
         (allBelow-is (λ p. not (isZero (t .place p))) (piecesFor l)
         (λ p h.
-          let low = settled .committed .ground .sound .low (piece p) h in
-          ap not (ne-eqb (t .place p) 0 (λ (e : t .place p ≡ 0). omega arith))))
+        let low = settled .committed .ground .sound .low (piece p) h in
+        ap not (ne-eqb (t .place p) 0 (λ (e : t .place p ≡ 0). omega arith))))
         (sound-consistent n l t tail number (settled .committed .ground .sound))
 
     starts : walkStarts n record-here (imageView n l image tail) ≡ true
@@ -124,29 +118,29 @@ module _ (n l : ℕ) (image : ℕ → List ℕ) (t : Tables) (tail number : ℕ)
         let view = imageView n l image in
         let reads = 2 + branchCount view (t .place) (piecesFor l) in
         let read : parkedIn (image 0) ≡ some record-here =
-            ap parkedIn parked ∙ parked-parkRecord record-here high (omega arith) in
+        ap parkedIn parked ∙ parked-parkRecord record-here high (omega arith) in
         let cleared : parkSectorCleared (isBlank (image 0)) ≡ blankStore 0 ∷ [] =
-            ap parkSectorCleared (ap isBlank parked ∙ park-not-blank n l image t tail number disk fit c record-here) in
+        ap parkSectorCleared (ap isBlank parked ∙ park-not-blank n l image t tail number disk fit c record-here) in
         record {
           answer = Walked reads;
           stores = blankStore 0 ∷ [];
           finding =
-            ap (findingFrom n l view (image 0)) read
-            ∙ rw (starts, log-is, complete, cleared) refl;
+              ap (findingFrom n l view (image 0)) read
+              ∙ rw (starts, log-is, complete, cleared) refl;
           accepts = λ k. refl;
           cut = λ k.
-            clearing-keeps n l image t tail number disk fit c (take k (blankStore 0 ∷ []))
-            (clears-take n l image t tail number disk fit c k (blankStore 0 ∷ []) clears);
+              clearing-keeps n l image t tail number disk fit c (take k (blankStore 0 ∷ []))
+              (clears-take n l image t tail number disk fit c k (blankStore 0 ∷ []) clears);
           whole = clearing-settles n l image t tail number disk fit c (blankStore 0 ∷ []) clears
-            (λ j h.
+              (λ j h.
               ⊎-elim (λ (e : numberIn (view j) ≡ 0). absurd (omega arith))
               (λ (e : numberIn (view j) ≡ 0 → ⊥).
-                let a = number-signed (view j) e in
-                let b = settled .none-above j (a .0) (a .1) in
-                let q = number-is (view j) (a .0) (a .1) in
-                absurd (omega arith))
+              let a = number-signed (view j) e in
+              let b = settled .none-above j (a .0) (a .1) in
+              let q = number-some (view j) (a .0) (a .1) in
+              absurd (omega arith))
               (eq? (numberIn (view j)) 0));
-          blanks = applied-at (blankStore 0 ∷ []) image (blankStore 0) first (λ r a e. ap (λ (x : Store). x .bytes) (clears-is r a))
+          blanks = applied-at (blankStore 0 ∷ []) image (blankStore 0) first (λ r a e. ap (λ (x : Store). x .bytes) (clears-is r a));
         }
 
   -- Whatever a cut left, recovery finds the last closed commit.

@@ -1,10 +1,9 @@
 -- The sample volumes of document 01 that are marked (p), 1 to 10, as one table with one theorem. Volume A has L 2, N 4;
 -- volume B has L 200, N 12, and so three pieces. `Rows` says what a row shows.
-use Prim.Native.Nat.{ℕ}
 use mathlib.Core.Path.{_≡_, refl}
 use mathlib.Core.List.{List, [], _∷_, map}
 use Rattle.volume.specs.Entry.{blank}
-use Rattle.volume.proofs.Rows.{Row, Report, gives, full, enough, write, drop, park, recover}
+use Rattle.volume.proofs.Rows.{Row, gives, full, enough, write, drop, park, recover}
 
 -- 1. Format A: map in 1, word 1 is CEB2B3A6 hexadecimal; free 2, 3; 5 stores.
 case1 : Row

@@ -1,31 +1,30 @@
 -- A scan of what any cut leaves finds the last closed commit: of a committed image it finds exactly its tables, tail and number.
-use Prim.Native.Nat.{ℕ, zero, suc, _+_, _*_, _-_, _/_, _%_, _^_, _≤_, _<_}
+use Prim.Native.Nat.{ℕ, _+_, _*_, _/_, _%_, _≤_, _<_}
 use mathlib.Core.Path.{_≡_, refl, sym, _∙_, ap, ap₂, subst, fun-ext}
 use mathlib.Core.Logic.{_⊎_, inl, inr, ⊎-elim}
-use mathlib.Core.Bool.{Bool, true, false, cond, not, _&&_, _||_, true≢false}
-use mathlib.Core.List.{List, [], _∷_}
+use mathlib.Core.Bool.{true, false, cond, not, _&&_}
+use mathlib.Core.List.{List, []}
 use mathlib.Core.Option.{Option, none, some}
 use native.Mathlib.Nat.{div-add-mod}
 use native.Mathlib.Omega.{arith}
-use lib.ListN.{getD}
 use lib.Dec.{leb, eqb}
 use borrow.Author.Tests.{le-leb, lt-leb, leb-true, eq-eqb, ne-eqb, eqb-true, eqb-false}
 use Rattle.types.specs.declared.answer.Answer.the-variants.{Scanned}
 use Rattle.types.specs.Geometry.{piecesFor, pieceOf, indexOf}
-use Rattle.volume.specs.Bounded.{at, best, distinct, elem, gathered, tabled, isZero, anyBelow, listFrom}
-use Rattle.volume.specs.MapSector.{MapSector, View}
-use Rattle.volume.specs.Tables.{Tables, namedBy, usedBy, pieceEntries, consistent}
-use Rattle.volume.specs.Recover.{numberIn, entryIn, closingNumber, pieceNumber, tablesFrom, Log, isConsistent, Finding, found, missing, newestClosing, closedUpTo, scanPlace, signedNumbers, scannedLog, scanDamaged, scanStores, scanFinding, imageView}
+use Rattle.volume.specs.Bounded.{at, best, distinct, elem, tabled, isZero, anyBelow}
+use Rattle.volume.specs.MapSector.{MapSector}
+use Rattle.volume.specs.Tables.{Tables, namedBy, usedBy, pieceEntries}
+use Rattle.volume.specs.Recover.{numberIn, entryIn, closingNumber, pieceNumber, tablesFrom, found, newestClosing, closedUpTo, scanPlace, signedNumbers, scannedLog, scanDamaged, scanStores, scanFinding, imageView}
 use Rattle.volume.specs.History.{Disk}
-use Rattle.volume.proofs.Bounded.{bool?, lt?, eq?, clash, and-l, and-r, or-none, not-of, cond-true, cond-false, best-unique, best-below, best-most, tabled-at, tabled-past, listFrom-at, gathered-distinct, anyBelow-none}
-use Rattle.volume.proofs.Names.{Name, piece, block, Sound, sound-consistent}
+use Rattle.volume.proofs.Bounded.{bool?, lt?, eq?, clash, and-l, and-r, not-of, cond-true, cond-false, best-unique, best-below, best-most, tabled-at, tabled-past, listFrom-at, gathered-distinct, anyBelow-none}
+use Rattle.volume.proofs.Names.{piece, sound-consistent}
 use Rattle.volume.proofs.Invariant.{Fits, Ground, Committed, some-pieces, view-below}
 
 pub option? : {A : Type 0} (o : Option A) → (o ≡ none) ⊎ ((a : A) × (o ≡ some a))
 option? none = inl refl
 option? (some a) = inr (a, refl)
 
-number-some : (o : Option MapSector) (a : MapSector) → o ≡ some a → numberIn o ≡ a .number
+pub number-some : (o : Option MapSector) (a : MapSector) → o ≡ some a → numberIn o ≡ a .number
 unfolding numberIn
 number-some o a e = ap numberIn e
 
@@ -43,13 +42,13 @@ closing-is o a e c = ap closingNumber e ∙ cond-true (a .closing) (a .number) 0
 
 -- The key of a closing sector is below any bound that its number is below.
 closing-below : (o : Option MapSector) (bound : ℕ) → 1 ≤ bound → ((a : MapSector) → o ≡ some a → a .closing ≡ true → a .number < bound)
-  → closingNumber o < bound
+    → closingNumber o < bound
 unfolding closingNumber
 closing-below o bound h f =
     ⊎-elim (λ (e : o ≡ none). rw e h)
     (λ w.
-      ⊎-elim (λ (c : w .0 .closing ≡ true). rw (w .1, c) (f (w .0) (w .1) c)) (λ (c : w .0 .closing ≡ false). rw (w .1, c) h)
-      (bool? (w .0 .closing)))
+    ⊎-elim (λ (c : w .0 .closing ≡ true). rw (w .1, c) (f (w .0) (w .1) c)) (λ (c : w .0 .closing ≡ false). rw (w .1, c) h)
+    (bool? (w .0 .closing)))
     (option? o)
 
 piece-is : (c p : ℕ) (o : Option MapSector) (a : MapSector) → o ≡ some a → a .piece ≡ p → a .number ≤ c → pieceNumber c p o ≡ a .number
@@ -59,17 +58,17 @@ piece-is c p o a e q h =
     ∙ cond-true (eqb (a .piece) p && leb (a .number) c) (a .number) 0 (rw (eq-eqb (a .piece) p q) (le-leb (a .number) c h))
 
 piece-below : (c p : ℕ) (o : Option MapSector) (bound : ℕ) → 1 ≤ bound
-  → ((a : MapSector) → o ≡ some a → a .piece ≡ p → a .number ≤ c → a .number < bound) → pieceNumber c p o < bound
+    → ((a : MapSector) → o ≡ some a → a .piece ≡ p → a .number ≤ c → a .number < bound) → pieceNumber c p o < bound
 unfolding pieceNumber
 piece-below c p o bound h f =
     ⊎-elim (λ (e : o ≡ none). rw e h)
     (λ w.
-      ⊎-elim (λ (b : (eqb (w .0 .piece) p && leb (w .0 .number) c) ≡ true).
-        rw (w .1, b)
-        (f (w .0) (w .1) (eqb-true (w .0 .piece) p (and-l (eqb (w .0 .piece) p) (leb (w .0 .number) c) b))
-        (leb-true (w .0 .number) c (and-r (eqb (w .0 .piece) p) (leb (w .0 .number) c) b))))
-      (λ (b : (eqb (w .0 .piece) p && leb (w .0 .number) c) ≡ false). rw (w .1, b) h)
-      (bool? (eqb (w .0 .piece) p && leb (w .0 .number) c)))
+    ⊎-elim (λ (b : (eqb (w .0 .piece) p && leb (w .0 .number) c) ≡ true).
+    rw (w .1, b)
+    (f (w .0) (w .1) (eqb-true (w .0 .piece) p (and-l (eqb (w .0 .piece) p) (leb (w .0 .number) c) b))
+    (leb-true (w .0 .number) c (and-r (eqb (w .0 .piece) p) (leb (w .0 .number) c) b))))
+    (λ (b : (eqb (w .0 .piece) p && leb (w .0 .number) c) ≡ false). rw (w .1, b) h)
+    (bool? (eqb (w .0 .piece) p && leb (w .0 .number) c)))
     (option? o)
 
 -- An entry stands in its piece where its block says.
@@ -82,10 +81,7 @@ piece-entry l entry b h =
     ∙ cond-false (leb l b) 0 (entry b) (lt-leb l b h)
 
 module _ (n l : ℕ) (image : ℕ → List ℕ) (t : Tables) (tail number : ℕ) (disk : Disk) (fit : Fits n l)
-  (c : Committed n l image t tail number disk) where
-  view : View
-  view = imageView n l image
-
+    (c : Committed n l image t tail number disk) where
   ground : Ground n l image t tail number disk
   ground = c .ground
 
@@ -121,14 +117,14 @@ module _ (n l : ℕ) (image : ℕ → List ℕ) (t : Tables) (tail number : ℕ)
       let w = tail-says in
       best-unique (λ k. closingNumber (imageView n l image k)) n tail tail-below
       (λ j h d.
-        rw (closing-is (imageView n l image tail) (w .0) (w .1) (w .3), w .2)
-        (closing-below (imageView n l image j) number number-low
-        (λ a e q.
-          ⊎-elim (λ (z : number < a .number). clash (a .closing) q (c .unclosed j a e z))
-          (λ (z : a .number ≤ number).
-            ⊎-elim (λ (y : a .number ≡ number). absurd (d (c .apart j tail a (w .0) e (w .1) (y ∙ sym (w .2)))))
-            (λ (y : a .number ≡ number → ⊥). omega arith) (eq? (a .number) number))
-          (lt? number (a .number)))))
+      rw (closing-is (imageView n l image tail) (w .0) (w .1) (w .3), w .2)
+      (closing-below (imageView n l image j) number number-low
+      (λ a e q.
+      ⊎-elim (λ (z : number < a .number). clash (a .closing) q (c .unclosed j a e z))
+      (λ (z : a .number ≤ number).
+      ⊎-elim (λ (y : a .number ≡ number). absurd (d (c .apart j tail a (w .0) e (w .1) (y ∙ sym (w .2)))))
+      (λ (y : a .number ≡ number → ⊥). omega arith) (eq? (a .number) number))
+      (lt? number (a .number)))))
 
   pub finds-number : closedUpTo n (imageView n l image) ≡ number
   unfolding closedUpTo
@@ -146,13 +142,13 @@ module _ (n l : ℕ) (image : ℕ → List ℕ) (t : Tables) (tail number : ℕ)
       let num = w .3 in
       best-unique (λ k. pieceNumber number p (imageView n l image k)) n (t .place p) (view-below n l image (t .place p) (w .0) (w .1))
       (λ j b d.
-        rw (piece-is number p (imageView n l image (t .place p)) (w .0) (w .1) (w .2) (omega arith), w .3)
-        (piece-below number p (imageView n l image j) (t .number p) low
-        (λ a e q z.
-          let x = c .latest j a e z in
-          let x′ : a .number ≤ t .number p = subst (λ (r : ℕ). a .number ≤ t .number r) q x in
-          ⊎-elim (λ (y : a .number ≡ t .number p). absurd (d (c .apart j (t .place p) a (w .0) e (w .1) (y ∙ sym (w .3)))))
-          (λ (y : a .number ≡ t .number p → ⊥). omega arith) (eq? (a .number) (t .number p)))))
+      rw (piece-is number p (imageView n l image (t .place p)) (w .0) (w .1) (w .2) (omega arith), w .3)
+      (piece-below number p (imageView n l image j) (t .number p) low
+      (λ a e q z.
+      let x = c .latest j a e z in
+      let x′ : a .number ≤ t .number p = subst (λ (r : ℕ). a .number ≤ t .number r) q x in
+      ⊎-elim (λ (y : a .number ≡ t .number p). absurd (d (c .apart j (t .place p) a (w .0) e (w .1) (y ∙ sym (w .3)))))
+      (λ (y : a .number ≡ t .number p → ⊥). omega arith) (eq? (a .number) (t .number p)))))
 
   -- Tables built from the live places are the tables.
   module _ (places : ℕ → ℕ) (right : (p : ℕ) → p < piecesFor l → places p ≡ t .place p) where
@@ -160,8 +156,8 @@ module _ (n l : ℕ) (image : ℕ → List ℕ) (t : Tables) (tail number : ℕ)
     unfolding ground
     same-places =
         fun-ext (λ p.
-          ⊎-elim (λ (h : p < piecesFor l). tabled-at 0 (piecesFor l) places p h ∙ right p h)
-          (λ (h : piecesFor l ≤ p). tabled-past 0 (piecesFor l) places p h ∙ sym (ground .places-past p h)) (lt? p (piecesFor l)))
+        ⊎-elim (λ (h : p < piecesFor l). tabled-at 0 (piecesFor l) places p h ∙ right p h)
+        (λ (h : piecesFor l ≤ p). tabled-past 0 (piecesFor l) places p h ∙ sym (ground .places-past p h)) (lt? p (piecesFor l)))
 
     entries-at : (b : ℕ) → b < l → entryIn (indexOf b) (imageView n l image (t .place (pieceOf b))) ≡ t .entry b
     unfolding ground entryIn
@@ -173,36 +169,33 @@ module _ (n l : ℕ) (image : ℕ → List ℕ) (t : Tables) (tail number : ℕ)
     unfolding ground
     same-entries =
         fun-ext (λ b.
-          ⊎-elim (λ (h : b < l).
-            tabled-at 0 l (λ b. entryIn (indexOf b) (imageView n l image (tabled 0 (piecesFor l) places (pieceOf b)))) b h
-            ∙ ap (λ (f : ℕ → ℕ). entryIn (indexOf b) (imageView n l image (f (pieceOf b)))) same-places ∙ entries-at b h)
-          (λ (h : l ≤ b).
-            tabled-past 0 l (λ b. entryIn (indexOf b) (imageView n l image (tabled 0 (piecesFor l) places (pieceOf b)))) b h
-            ∙ sym (ground .entries-past b h))
-          (lt? b l))
+        ⊎-elim (λ (h : b < l).
+        tabled-at 0 l (λ b. entryIn (indexOf b) (imageView n l image (tabled 0 (piecesFor l) places (pieceOf b)))) b h
+        ∙ ap (λ (f : ℕ → ℕ). entryIn (indexOf b) (imageView n l image (f (pieceOf b)))) same-places ∙ entries-at b h)
+        (λ (h : l ≤ b).
+        tabled-past 0 l (λ b. entryIn (indexOf b) (imageView n l image (tabled 0 (piecesFor l) places (pieceOf b)))) b h
+        ∙ sym (ground .entries-past b h))
+        (lt? b l))
 
     same-numbers : tabled 0 (piecesFor l) (λ p. numberIn (imageView n l image (tabled 0 (piecesFor l) places p))) ≡ t .number
     unfolding ground
     same-numbers =
         fun-ext (λ p.
-          ⊎-elim (λ (h : p < piecesFor l).
-            let w = ground .live p h in
-            tabled-at 0 (piecesFor l) (λ p. numberIn (imageView n l image (tabled 0 (piecesFor l) places p))) p h
-            ∙ ap (λ (f : ℕ → ℕ). numberIn (imageView n l image (f p))) same-places
-            ∙ number-some (imageView n l image (t .place p)) (w .0) (w .1) ∙ w .3)
-          (λ (h : piecesFor l ≤ p).
-            tabled-past 0 (piecesFor l) (λ p. numberIn (imageView n l image (tabled 0 (piecesFor l) places p))) p h
-            ∙ sym (ground .numbers-past p h))
-          (lt? p (piecesFor l)))
+        ⊎-elim (λ (h : p < piecesFor l).
+        let w = ground .live p h in
+        tabled-at 0 (piecesFor l) (λ p. numberIn (imageView n l image (tabled 0 (piecesFor l) places p))) p h
+        ∙ ap (λ (f : ℕ → ℕ). numberIn (imageView n l image (f p))) same-places
+        ∙ number-some (imageView n l image (t .place p)) (w .0) (w .1) ∙ w .3)
+        (λ (h : piecesFor l ≤ p).
+        tabled-past 0 (piecesFor l) (λ p. numberIn (imageView n l image (tabled 0 (piecesFor l) places p))) p h
+        ∙ sym (ground .numbers-past p h))
+        (lt? p (piecesFor l)))
 
     pub same-tables : tablesFrom l (imageView n l image) places ≡ t
     unfolding tablesFrom ground
     same-tables =
         let used = ap₂ (λ (e f : ℕ → ℕ). usedBy (namedBy l e f)) same-entries same-places ∙ fun-ext (λ k. sym (ground .used-all k)) in
         λ i. record { entry = same-entries i; place = same-places i; number = same-numbers i; isUsed = used i }
-
-  found-log : Log
-  found-log = record { tables = t; tail = tail; number = number }
 
   pub scans-log : scannedLog n l (imageView n l image) number ≡ record { tables = t; tail = tail; number = number }
   unfolding scannedLog
@@ -211,7 +204,7 @@ module _ (n l : ℕ) (image : ℕ → List ℕ) (t : Tables) (tail number : ℕ)
       record {
         tables = same-tables (scanPlace n (imageView n l image) number) finds-place i;
         tail = finds-tail i;
-        number = number
+        number = number;
       }
 
   numbers-distinct : distinct (signedNumbers (imageView n l image) n) ≡ true
@@ -220,23 +213,23 @@ module _ (n l : ℕ) (image : ℕ → List ℕ) (t : Tables) (tail number : ℕ)
       gathered-distinct (λ k. not (isZero (numberIn (imageView n l image k)))) (λ k. numberIn (imageView n l image k)) [] n refl
       (λ i h e. refl)
       (λ i j h g e f q.
-        let a = number-signed (imageView n l image i) (eqb-false _ 0 (not-of (isZero (numberIn (imageView n l image i))) e)) in
-        let b = number-signed (imageView n l image j) (eqb-false _ 0 (not-of (isZero (numberIn (imageView n l image j))) f)) in
-        c .apart i j (a .0) (b .0) (a .1) (b .1)
-        (sym (number-some (imageView n l image i) (a .0) (a .1)) ∙ q ∙ number-some (imageView n l image j) (b .0) (b .1)))
+      let a = number-signed (imageView n l image i) (eqb-false _ 0 (not-of (isZero (numberIn (imageView n l image i))) e)) in
+      let b = number-signed (imageView n l image j) (eqb-false _ 0 (not-of (isZero (numberIn (imageView n l image j))) f)) in
+      c .apart i j (a .0) (b .0) (a .1) (b .1)
+      (sym (number-some (imageView n l image i) (a .0) (a .1)) ∙ q ∙ number-some (imageView n l image j) (b .0) (b .1)))
 
   none-missing : anyBelow (λ p. isZero (pieceNumber number p (imageView n l image (scanPlace n (imageView n l image) number p)))) (piecesFor l) ≡ false
   unfolding ground
   none-missing =
       anyBelow-none (λ p. isZero (pieceNumber number p (imageView n l image (scanPlace n (imageView n l image) number p)))) (piecesFor l)
       (λ p h.
-        let w = ground .live p h in
-        let low = ground .sound .from1 p h in
-        let most = number-most p h in
-        let num = w .3 in
-        let e = ap (λ (k : ℕ). pieceNumber number p (imageView n l image k)) (finds-place p h)
-            ∙ piece-is number p (imageView n l image (t .place p)) (w .0) (w .1) (w .2) (omega arith) ∙ w .3 in
-        rw e (ne-eqb (t .number p) 0 (λ (z : t .number p ≡ 0). omega arith)))
+      let w = ground .live p h in
+      let low = ground .sound .from1 p h in
+      let most = number-most p h in
+      let num = w .3 in
+      let e = ap (λ (k : ℕ). pieceNumber number p (imageView n l image k)) (finds-place p h)
+      ∙ piece-is number p (imageView n l image (t .place p)) (w .0) (w .1) (w .2) (omega arith) ∙ w .3 in
+      rw e (ne-eqb (t .number p) 0 (λ (z : t .number p ≡ 0). omega arith)))
 
   undamaged : scanDamaged n l (imageView n l image) number (record { tables = t; tail = tail; number = number }) ≡ false
   unfolding scanDamaged ground
@@ -244,7 +237,7 @@ module _ (n l : ℕ) (image : ℕ → List ℕ) (t : Tables) (tail number : ℕ)
 
   -- The scan is accepted, and what it found is the last closed commit.
   pub scan-finds : scanFinding n l (imageView n l image) (image 0)
-    ≡ found (record { tables = t; tail = tail; number = number }) (Scanned n) (scanStores n (imageView n l image) (image 0) number)
+      ≡ found (record { tables = t; tail = tail; number = number }) (Scanned n) (scanStores n (imageView n l image) (image 0) number)
   unfolding scanFinding
   scan-finds =
       rw (finds-number, ne-eqb number 0 (λ (z : number ≡ 0). let h = number-low in omega arith), scans-log, undamaged) refl

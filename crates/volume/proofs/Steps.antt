@@ -1,50 +1,43 @@
 -- Each call keeps the volume's standing: running and settled, parked and settled, or cut and committed.
-use Prim.Native.Nat.{ℕ, zero, suc, _+_, _*_, _-_, _/_, _^_, _≤_, _<_}
+use Prim.Native.Nat.{ℕ, _*_, _≤_, _<_}
 use mathlib.Core.Path.{_≡_, refl, sym, _∙_, ap, subst}
 use mathlib.Core.Logic.{_⊎_, inl, inr, ⊎-elim}
-use mathlib.Core.Bool.{Bool, true, false, cond, not, _&&_, _||_, true≢false}
-use mathlib.Core.List.{List, [], _∷_, _++_}
-use mathlib.Core.Option.{Option, none, some}
-use native.Mathlib.Nat.{le-of-suc-le-suc, not-suc-le-zero}
+use mathlib.Core.Bool.{Bool, true, false, cond, not, true≢false}
+use mathlib.Core.List.{List, _∷_}
 use native.Mathlib.Omega.{arith}
 use lib.ListN.{length, take}
-use lib.Dec.{leb, ltb, eqb}
-use borrow.Author.Tests.{ltb-true, ltb-false, lt-ltb, le-ltb, leb-true, eqb-true, eq-eqb, ne-eqb}
+use lib.Dec.{eqb}
+use borrow.Author.Tests.{lt-ltb, le-ltb, ne-eqb}
 use Rattle.types.specs.declared.state.State.{State}
-use Rattle.types.specs.declared.state.Phase.the-variants.{Running, Parked, Cut}
+use Rattle.types.specs.declared.state.Phase.the-variants.{Cut}
 use Rattle.types.specs.declared.answer.Refusal.{Refusal}
 use Rattle.types.specs.declared.answer.Refusal.the-variants.{Size, BufferLength, BlockNumbers, WrongPhase, Inconsistent, NoRoom, NumbersUsedUp, NoLog, DamagedLog}
-use Rattle.types.specs.declared.answer.Answer.the-variants.{Accepted, Refused, PowerFailed}
+use Rattle.types.specs.declared.answer.Answer.the-variants.{PowerFailed}
 use Rattle.types.specs.declared.answer.Verdict.{Verdict}
 use Rattle.types.specs.declared.answer.Verdict.the-variants.{Pass, Refuse}
-use Rattle.types.specs.Geometry.{within, piecesFor, usedBytes, geometryFits}
-use Rattle.types.specs.State.{freshState, parkedState, cutState, lostState, isRunning, isReadable}
-use Rattle.types.specs.Answer.{refusalNumber, numberOf}
-use Rattle.volume.specs.Bounded.{at, all, allBelow, elem, isZero, updated, updates}
-use Rattle.volume.specs.MapSector.{MapSector, decoded}
-use Rattle.volume.specs.Entry.{blank, isEmpty, sectorOf, stored, entryFor, restored}
-use Rattle.volume.specs.ParkRecord.{parkRecord}
-use Rattle.volume.specs.Tables.{Tables, Memory, sectorAt, namedBy, usedBy, freeSectors}
+use Rattle.types.specs.Geometry.{piecesFor}
+use Rattle.types.specs.State.{freshState, parkedState, cutState}
+use Rattle.types.specs.Answer.{refusalNumber}
+use Rattle.volume.specs.Bounded.{at, elem, isZero, updates}
+use Rattle.volume.specs.Entry.{blank}
+use Rattle.volume.specs.Tables.{Tables, Memory, namedBy, usedBy}
 use Rattle.volume.specs.Refusals.{Check, judged}
-use Rattle.volume.specs.Store.{Store, After, Action, applied, performed, unlessRefused, refused, memoryWith, after}
-use Rattle.volume.specs.Format.{sectorsIn, imageFits, tablesFit, sizeChecks}
+use Rattle.volume.specs.Store.{After, Action, applied, performed, refused, memoryWith, after}
+use Rattle.volume.specs.Format.{tablesFit}
 use Rattle.volume.specs.Placing.{Rules}
-use Rattle.volume.specs.Commit.{Change, planned, commitStores, committedTables, commitAction, memberPlace}
-use Rattle.volume.specs.Calls.{viewOf, stateFits, blocksFit, tablesAgree, commitChecks, commitOf, writeChange, dropChange, roomFor, entryReadable, readChecks, blockOf, readJudged, readOf, parkChecks, parkAction, parkOf}
-use Rattle.volume.specs.Recover.{found, findingOf, imageView, newestClosing, closedUpTo, scannedLog, recovered, recoverOf}
+use Rattle.volume.specs.Commit.{Change, commitAction}
+use Rattle.volume.specs.Calls.{viewOf}
+use Rattle.volume.specs.Recover.{imageView, newestClosing}
 use Rattle.volume.specs.History.{World, worldOf, accepted, Disk, CommitKept, liveSectors, livePlace, Reaches, itself, through}
-use Rattle.volume.proofs.Bounded.{bool?, lt?, eq?, clash, and-l, and-r, and-i, or-none, not-is, not-of, cond-true, cond-false, updated-here, updated-other, allBelow-at}
-use Rattle.volume.proofs.Codec.{park-unsigned, stored-unsigned, restored-stored, entry-sector, entry-full, entry-word}
-use Rattle.volume.proofs.Names.{Name, piece, block, Named, sectorNamed, Sound, elem-named, within-is}
+use Rattle.volume.proofs.Bounded.{bool?, lt?, or-none, cond-true, cond-false}
+use Rattle.volume.proofs.Names.{elem-named}
 use Rattle.volume.proofs.Placing.{Choosing}
-use Rattle.volume.proofs.Invariant.{Fits, Ground, Committed, Settled, view-at, view-below, view-same, ground-moves, reaches-below}
-use Rattle.volume.proofs.Scan.{tail-says, finds-tail, finds-number, finds-place, scans-log}
-use Rattle.volume.proofs.Clearing.{view-blank, view-parked}
+use Rattle.volume.proofs.Invariant.{Fits, Committed, Settled, reaches-below}
+use Rattle.volume.proofs.Scan.{finds-tail, finds-number, finds-place, scans-log}
 use Rattle.volume.proofs.Plan.{Given, Start, plan}
 use Rattle.volume.proofs.Members.{tables′}
 use Rattle.volume.proofs.CutCommit.{cut-commit}
 use Rattle.volume.proofs.WholeCommit.{image′, tail′, number′, disk′, whole-commit, whole-blank}
-use Rattle.volume.proofs.Recovery.{Finds, recovers}
 
 -- Judging.
 
@@ -67,18 +60,14 @@ pub passes-first : (c : Check) (cs : List Check) → judged (c ∷ cs) ≡ Pass 
 unfolding judged
 passes-first c cs e =
     ⊎-elim (λ (z : c .applies ≡ true).
-      let q = sym (cond-true (c .applies) (Refuse (c .refusal)) (judged cs) z) ∙ e in
-      let k : _≡_ {A = ℕ} 0 1 = cc in
-      absurd (omega arith))
+    let q = sym (cond-true (c .applies) (Refuse (c .refusal)) (judged cs) z) ∙ e in
+    let k : _≡_ {A = ℕ} 0 1 = cc in
+    absurd (omega arith))
     (λ z. z) (bool? (c .applies))
 
 pub passes-rest : (c : Check) (cs : List Check) → judged (c ∷ cs) ≡ Pass → judged cs ≡ Pass
 unfolding judged
 passes-rest c cs e = sym (cond-false (c .applies) (Refuse (c .refusal)) (judged cs) (passes-first c cs e)) ∙ e
-
-pub passes-all : (c : Check) (cs : List Check) → c .applies ≡ false → judged cs ≡ Pass → judged (c ∷ cs) ≡ Pass
-unfolding judged
-passes-all c cs e f = cond-false (c .applies) (Refuse (c .refusal)) (judged cs) e ∙ f
 
 pub not-false : (b : Bool) → not b ≡ false → b ≡ true
 not-false true e = refl
@@ -91,9 +80,9 @@ refused-not r s m = refusal-some r
 -- How a volume stands.
 pub data Standing (n l : ℕ) (w : World) (disk : Disk) : Type 0 where
   running : (tail number : ℕ) → w .state ≡ freshState n l tail number
-    → Settled n l (w .memory .image) (w .memory .tables) tail number disk → w .memory .image 0 ≡ blank → Standing n l w disk
+      → Settled n l (w .memory .image) (w .memory .tables) tail number disk → w .memory .image 0 ≡ blank → Standing n l w disk
   parked : (tail number : ℕ) → w .state ≡ parkedState (freshState n l tail number)
-    → Settled n l (w .memory .image) (w .memory .tables) tail number disk → Standing n l w disk
+      → Settled n l (w .memory .image) (w .memory .tables) tail number disk → Standing n l w disk
   cut : w .state .phase ≡ Cut → (t : Tables) (tail number : ℕ) → Committed n l (w .memory .image) t tail number disk → Standing n l w disk
 
 -- The lengths of what is lent stay right.
@@ -107,21 +96,21 @@ sized-with n l m image t z = record { image = z .image; tables = z .tables }
 
 -- A performed action.
 pub performed-cut : (allowance : ℕ) (a : Action) (m : Memory) → allowance < length (a .stores)
-  → performed allowance a m
-  ≡ after (record { answer = PowerFailed allowance; state = a .cutState })
-  (memoryWith m (applied (take allowance (a .stores)) (m .image)) (a .cutTables))
+    → performed allowance a m
+    ≡ after (record { answer = PowerFailed allowance; state = a .cutState })
+    (memoryWith m (applied (take allowance (a .stores)) (m .image)) (a .cutTables))
 unfolding performed
 performed-cut allowance a m h = rw (lt-ltb allowance (length (a .stores)) h) refl
 
 pub performed-whole : (allowance : ℕ) (a : Action) (m : Memory) → length (a .stores) ≤ allowance
-  → performed allowance a m
-  ≡ after (record { answer = (a .answer) (length (a .stores)); state = a .state }) (memoryWith m (applied (a .stores) (m .image)) (a .tables))
+    → performed allowance a m
+    ≡ after (record { answer = (a .answer) (length (a .stores)); state = a .state }) (memoryWith m (applied (a .stores) (m .image)) (a .tables))
 unfolding performed
 performed-whole allowance a m h = rw (le-ltb allowance (length (a .stores)) h) refl
 
 -- What is live in a settled image.
 module _ (n l : ℕ) (image : ℕ → List ℕ) (t : Tables) (tail number : ℕ) (disk : Disk) (fit : Fits n l)
-  (c : Committed n l image t tail number disk) where
+    (c : Committed n l image t tail number disk) where
   pub live-is : liveSectors n l (imageView n l image) ≡ namedBy l (t .entry) (t .place)
   live-is =
       rw (finds-number n l image t tail number disk fit c, scans-log n l image t tail number disk fit c) refl
@@ -130,7 +119,7 @@ module _ (n l : ℕ) (image : ℕ → List ℕ) (t : Tables) (tail number : ℕ)
   place-same p h = rw (finds-number n l image t tail number disk fit c) (finds-place n l image t tail number disk fit c p h)
 
   pub live-reached : (p : ℕ) → Reaches (imageView n l image) (t .place) (piecesFor l) tail p
-    → Reaches (imageView n l image) (livePlace n (imageView n l image)) (piecesFor l) (newestClosing n (imageView n l image)) p
+      → Reaches (imageView n l image) (livePlace n (imageView n l image)) (piecesFor l) (newestClosing n (imageView n l image)) p
   live-reached p (itself h e) = itself h (place-same p h ∙ e ∙ sym (finds-tail n l image t tail number disk fit c))
   live-reached p (through {q = q} r e h f v lt) =
       through (live-reached q r) (ap (imageView n l image) (place-same q (reaches-below r)) ∙ e) h
@@ -148,7 +137,7 @@ pub record Step (n l : ℕ) (m : Memory) (r : After) (disk disk′ : Disk) : Typ
 
 -- A running volume.
 module _ (rules : Rules) (law : Choosing rules) (n l : ℕ) (fit : Fits n l) (m : Memory) (size : Sized n l m) (tail number : ℕ) (disk : Disk)
-  (settled : Settled n l (m .image) (m .tables) tail number disk) (unparked : m .image 0 ≡ blank) where
+    (settled : Settled n l (m .image) (m .tables) tail number disk) (unparked : m .image 0 ≡ blank) where
   abbrev s0 : State
   s0 = freshState n l tail number
 
@@ -165,7 +154,7 @@ module _ (rules : Rules) (law : Choosing rules) (n l : ℕ) (fit : Fits n l) (m 
           head = head;
           change = change;
           after = values;
-          given = given
+          given = given;
         }
 
     abbrev action : Action
@@ -181,7 +170,7 @@ module _ (rules : Rules) (law : Choosing rules) (n l : ℕ) (fit : Fits n l) (m 
         (record {
           kept = λ e. absurd (true≢false (sym e));
           stands = cut refl (m .tables) tail number (cut-commit start allowance h);
-          sized = sized-with n l m (applied (take allowance (action .stores)) (m .image)) (m .tables) size
+          sized = sized-with n l m (applied (take allowance (action .stores)) (m .image)) (m .tables) size;
         })
 
     -- Used exactly what is live, freed what is not, and all of it reached.
@@ -193,11 +182,11 @@ module _ (rules : Rules) (law : Choosing rules) (n l : ℕ) (fit : Fits n l) (m 
         record {
           used = λ k. new .ground .used-all k ∙ ap (λ (xs : List ℕ). usedBy xs k) (sym now);
           freed = λ k e f.
-            let x = elem-named l (m .tables .entry) (m .tables .place) k (subst (λ (xs : List ℕ). elem k xs ≡ true) before e) in
-            let low = settled .committed .ground .sound .low (x .0) (x .1) in
-            let at = x .2 in
-            new .ground .used-all k ∙ unused (namedBy l (tables′ start .entry) (tables′ start .place)) k (λ (z : k ≡ 0). omega arith) (subst (λ (xs : List ℕ). elem k xs ≡ false) now f);
-          reached = λ p h. live-reached n l (image′ start) (tables′ start) (tail′ start) (number′ start) (disk′ start) fit new p (new .ground .chain p h)
+              let x = elem-named l (m .tables .entry) (m .tables .place) k (subst (λ (xs : List ℕ). elem k xs ≡ true) before e) in
+              let low = settled .committed .ground .sound .low (x .0) (x .1) in
+              let at = x .2 in
+              new .ground .used-all k ∙ unused (namedBy l (tables′ start .entry) (tables′ start .place)) k (λ (z : k ≡ 0). omega arith) (subst (λ (xs : List ℕ). elem k xs ≡ false) now f);
+          reached = λ p h. live-reached n l (image′ start) (tables′ start) (tail′ start) (number′ start) (disk′ start) fit new p (new .ground .chain p h);
         }
 
     is-whole : (allowance : ℕ) → length (action .stores) ≤ allowance → Step n l m (performed allowance action m) disk changed
@@ -207,7 +196,7 @@ module _ (rules : Rules) (law : Choosing rules) (n l : ℕ) (fit : Fits n l) (m 
         (record {
           kept = λ e. commit-kept;
           stands = running (tail′ start) (number′ start) refl (whole-commit start) (whole-blank start);
-          sized = sized-with n l m (image′ start) (tables′ start) size
+          sized = sized-with n l m (image′ start) (tables′ start) size;
         })
 
     pub commit-step : (allowance : ℕ) → Step n l m (performed allowance action m) disk changed

@@ -1,15 +1,15 @@
 -- What stands in a sector after a run of stores, whole or cut.
-use Prim.Native.Nat.{ℕ, zero, suc, _+_, _≤_, _<_}
+use Prim.Native.Nat.{ℕ, zero, suc, _<_}
 use mathlib.Core.Path.{_≡_, refl, sym, _∙_, ap, subst}
 use mathlib.Core.Logic.{_⊎_, inl, inr, ⊎-elim}
-use mathlib.Core.Bool.{Bool, true, false, cond}
+use mathlib.Core.Bool.{Bool, true, false}
 use mathlib.Core.List.{List, [], _∷_, _++_}
 use native.Mathlib.Nat.{le-of-suc-le-suc, not-suc-le-zero}
 use native.Mathlib.Omega.{arith}
 use lib.ListN.{length, take, length-append}
 use Rattle.volume.specs.Bounded.{countBelow, updated}
 use Rattle.volume.specs.Store.{Store, applied, storesBelow}
-use Rattle.volume.proofs.Bounded.{bool?, lt?, eq?, cond-true, cond-false, updated-here, updated-other, suc-cases, count-hit, count-miss}
+use Rattle.volume.proofs.Bounded.{bool?, eq?, cond-true, cond-false, updated-here, updated-other, suc-cases, count-hit, count-miss}
 
 -- A store is one of a list.
 pub data Among (s : Store) : List Store → Type 0 where
@@ -67,12 +67,14 @@ unfolding applied Outcome
 applied-cases [] image k = inl (refl, λ s a e. among-none a)
 applied-cases (r ∷ ss) image k =
     ⊎-elim (λ w.
-      ⊎-elim (λ (e : r .sector ≡ k).
-        inr (r, first, e, w .0 ∙ subst (λ (x : ℕ). updated image (r .sector) (r .bytes) x ≡ r .bytes) e (updated-here image (r .sector) (r .bytes))))
-      (λ (e : r .sector ≡ k → ⊥).
-        inl (w .0 ∙ updated-other image (r .sector) k (r .bytes) (λ (z : k ≡ r .sector). e (sym z)),
-          λ s a q. ⊎-elim (λ (z : s ≡ r). e (ap (λ (x : Store). x .sector) (sym z) ∙ q)) (λ b. w .1 s b q) (among-cases s r ss a)))
-      (eq? (r .sector) k))
+    ⊎-elim (λ (e : r .sector ≡ k).
+    inr (r, first, e, w .0 ∙ subst (λ (x : ℕ). updated image (r .sector) (r .bytes) x ≡ r .bytes) e (updated-here image (r .sector) (r .bytes))))
+    (λ (e : r .sector ≡ k → ⊥).
+    inl (
+      w .0 ∙ updated-other image (r .sector) k (r .bytes) (λ (z : k ≡ r .sector). e (sym z)),
+      λ s a q. ⊎-elim (λ (z : s ≡ r). e (ap (λ (x : Store). x .sector) (sym z) ∙ q)) (λ b. w .1 s b q) (among-cases s r ss a),
+    ))
+    (eq? (r .sector) k))
     (λ w. inr (w .0, later (w .1), w .2, w .3)) (applied-cases ss (updated image (r .sector) (r .bytes)) k)
 
 pub applied-skip : (ss : List Store) (image : ℕ → List ℕ) (k : ℕ) → ((s : Store) → Among s ss → s .sector ≡ k → ⊥) → applied ss image k ≡ image k
@@ -81,7 +83,7 @@ applied-skip ss image k f = ⊎-elim (λ w. w .0) (λ w. absurd (f (w .0) (w .1)
 
 -- Where one sector has one store.
 pub applied-at : (ss : List Store) (image : ℕ → List ℕ) (s : Store) → Among s ss
-  → ((r : Store) → Among r ss → r .sector ≡ s .sector → r .bytes ≡ s .bytes) → applied ss image (s .sector) ≡ s .bytes
+    → ((r : Store) → Among r ss → r .sector ≡ s .sector → r .bytes ≡ s .bytes) → applied ss image (s .sector) ≡ s .bytes
 unfolding Outcome
 applied-at ss image s a f =
     ⊎-elim (λ w. absurd (w .1 s a refl)) (λ w. w .3 ∙ f (w .0) (w .1) (w .2)) (applied-cases ss image (s .sector))
@@ -100,10 +102,10 @@ module _ (which : ℕ → Bool) (store : ℕ → Store) where
   below-has zero s a = absurd (among-none a)
   below-has (suc n) s a =
       let later : Among s (storesBelow which store n) → (i : ℕ) × (i < suc n) × (which i ≡ true) × (s ≡ store i) =
-          λ b. let w = below-has n s b in (w .0, omega arith, w .2, w .3) in
+      λ b. let w = below-has n s b in (w .0, omega arith, w .2, w .3) in
       ⊎-elim (λ (z : which n ≡ true).
-        ⊎-elim later (λ b. ⊎-elim (λ (e : s ≡ store n). (n, omega arith, z, e)) (λ c. absurd (among-none c)) (among-cases s (store n) [] b))
-        (among-append s (storesBelow which store n) (store n ∷ []) (rw (below-hit n z) at a)))
+      ⊎-elim later (λ b. ⊎-elim (λ (e : s ≡ store n). (n, omega arith, z, e)) (λ c. absurd (among-none c)) (among-cases s (store n) [] b))
+      (among-append s (storesBelow which store n) (store n ∷ []) (rw (below-hit n z) at a)))
       (λ (z : which n ≡ false). later (rw (below-miss n z) at a)) (bool? (which n))
 
   pub below-own : (n i : ℕ) → i < n → which i ≡ true → Among (store i) (storesBelow which store n)
@@ -112,9 +114,9 @@ module _ (which : ℕ → Bool) (store : ℕ → Store) where
   below-own (suc n) i h e =
       ⊎-elim (λ (z : i ≡ n). rw (below-hit n (ap which (sym z) ∙ e), z) (among-right (storesBelow which store n) first))
       (λ (z : i < n).
-        let r = below-own n i z e in
-        ⊎-elim (λ (y : which n ≡ true). rw (below-hit n y) (among-left (store n ∷ []) r)) (λ (y : which n ≡ false). rw (below-miss n y) r)
-        (bool? (which n)))
+      let r = below-own n i z e in
+      ⊎-elim (λ (y : which n ≡ true). rw (below-hit n y) (among-left (store n ∷ []) r)) (λ (y : which n ≡ false). rw (below-miss n y) r)
+      (bool? (which n)))
       (suc-cases h)
 
   pub below-length : (n : ℕ) → length (storesBelow which store n) ≡ countBelow which n
@@ -123,18 +125,18 @@ module _ (which : ℕ → Bool) (store : ℕ → Store) where
   below-length (suc n) =
       let r = below-length n in
       ⊎-elim (λ (z : which n ≡ true).
-        rw (below-hit n z, count-hit which n z, length-append (storesBelow which store n) (store n ∷ [])) (omega arith))
+      rw (below-hit n z, count-hit which n z, length-append (storesBelow which store n) (store n ∷ [])) (omega arith))
       (λ (z : which n ≡ false). rw (below-miss n z, count-miss which n z) r) (bool? (which n))
 
   -- The last one, where there is one.
   pub below-last : (n : ℕ) → 0 < countBelow which n
-    → (q : ℕ) × (q < n) × (which q ≡ true) × (storesBelow which store n ≡ storesBelow which store q ++ (store q ∷ []))
-    × (countBelow which n ≡ suc (countBelow which q))
+      → (q : ℕ) × (q < n) × (which q ≡ true) × (storesBelow which store n ≡ storesBelow which store q ++ (store q ∷ []))
+      × (countBelow which n ≡ suc (countBelow which q))
   unfolding countBelow storesBelow
   below-last zero h = absurd (not-suc-le-zero h)
   below-last (suc n) h =
       ⊎-elim (λ (z : which n ≡ true). (n, omega arith, z, below-hit n z, count-hit which n z))
       (λ (z : which n ≡ false).
-        let w = below-last n (rw (count-miss which n z) at h) in
-        (w .0, omega arith, w .2, below-miss n z ∙ w .3, count-miss which n z ∙ w .4))
+      let w = below-last n (rw (count-miss which n z) at h) in
+      (w .0, omega arith, w .2, below-miss n z ∙ w .3, count-miss which n z ∙ w .4))
       (bool? (which n))

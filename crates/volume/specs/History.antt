@@ -3,7 +3,7 @@ use Prim.Native.Nat.{ℕ, _≤_, _<_}
 use mathlib.Core.Path.{_≡_}
 use mathlib.Core.Bool.{Bool, true, false, cond}
 use mathlib.Core.List.{List, [], _∷_}
-use mathlib.Core.Option.{Option, some}
+use mathlib.Core.Option.{some}
 use lib.ListN.{length}
 use Rattle.types.specs.declared.state.State.{State}
 use Rattle.types.specs.Geometry.{piecesFor}
@@ -79,7 +79,7 @@ liveSectors n l view =
 pub data Reaches (view : View) (live : ℕ → ℕ) (pieces tail : ℕ) : ℕ → Type 0 where
   itself : {p : ℕ} → p < pieces → live p ≡ tail → Reaches view live pieces tail p
   through : {q p : ℕ} {a b : MapSector} → Reaches view live pieces tail q → view (live q) ≡ some a → p < pieces
-    → elem (live p) (a .branches) ≡ true → view (live p) ≡ some b → b .number < a .number → Reaches view live pieces tail p
+      → elem (live p) (a .branches) ≡ true → view (live p) ≡ some b → b .number < a .number → Reaches view live pieces tail p
 
 -- (b) "After each accepted commit the used map marks sector 0 and the live sectors and no other, so all it superseded is free;
 -- and from the tail, branch by branch to lower numbers, through live map sectors alone, each of them is reached." Live is what a
@@ -87,9 +87,9 @@ pub data Reaches (view : View) (live : ℕ → ℕ) (pieces tail : ℕ) : ℕ �
 pub record CommitKept (n l : ℕ) (before now : Memory) : Type 0 where
   pub used : (k : ℕ) → now .tables .isUsed k ≡ usedBy (liveSectors n l (imageView n l (now .image))) k
   pub freed : (k : ℕ) → elem k (liveSectors n l (imageView n l (before .image))) ≡ true
-    → elem k (liveSectors n l (imageView n l (now .image))) ≡ false → now .tables .isUsed k ≡ false
+      → elem k (liveSectors n l (imageView n l (now .image))) ≡ false → now .tables .isUsed k ≡ false
   pub reached : (p : ℕ) → p < piecesFor l
-    → Reaches (imageView n l (now .image)) (livePlace n (imageView n l (now .image))) (piecesFor l) (newestClosing n (imageView n l (now .image))) p
+      → Reaches (imageView n l (now .image)) (livePlace n (imageView n l (now .image))) (piecesFor l) (newestClosing n (imageView n l (now .image))) p
 
 -- What a call of a list keeps. (a) "An accepted read in the list gives its block as the plain disk then has it."
 unfoldable pub Kept : Rules → ℕ → ℕ → World → Disk → Call → Type 0
@@ -116,13 +116,13 @@ recoveryStores n l image = storesIn (findingOf n l (imageView n l image) (image 
 -- its list, is accepted, and a read of each block below L, given what that recover left, gives the plain disk's."
 pub record Recovers (n l : ℕ) (m : Memory) (disk : Disk) : Type 0 where
   pub accepts : (s : State) (t : Tables) (allowance : ℕ) → length (recoveryStores n l (m .image)) ≤ allowance
-    → accepted (recoverOf s (memoryWith m (m .image) t) l allowance) ≡ true
+      → accepted (recoverOf s (memoryWith m (m .image) t) l allowance) ≡ true
   pub reads : (s : State) (t : Tables) (allowance : ℕ) → length (recoveryStores n l (m .image)) ≤ allowance
-    → (b : ℕ) (out : List ℕ) → b < l → length out ≡ 512
-    → (numberOf (readOf (recoverOf s (memoryWith m (m .image) t) l allowance .outcome .state)
-    (recoverOf s (memoryWith m (m .image) t) l allowance .memory) b out .outcome .answer) ≡ 0)
-    × (readOf (recoverOf s (memoryWith m (m .image) t) l allowance .outcome .state)
-    (recoverOf s (memoryWith m (m .image) t) l allowance .memory) b out .out ≡ disk b)
+      → (b : ℕ) (out : List ℕ) → b < l → length out ≡ 512
+      → (numberOf (readOf (recoverOf s (memoryWith m (m .image) t) l allowance .outcome .state)
+      (recoverOf s (memoryWith m (m .image) t) l allowance .memory) b out .outcome .answer) ≡ 0)
+      × (readOf (recoverOf s (memoryWith m (m .image) t) l allowance .outcome .state)
+      (recoverOf s (memoryWith m (m .image) t) l allowance .memory) b out .out ≡ disk b)
 
 -- Demand 3 of a list of calls: each call gets what the last one left, refused and cut ones too, and keeps what it must; and what the
 -- list leaves recovers.

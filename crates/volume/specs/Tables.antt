@@ -1,7 +1,7 @@
 -- Document 01, "Tables": what a caller lends, seen as functions, and when tables are sound ("consistent" here).
 use Prim.Native.Nat.{ℕ, _*_, _-_, _/_, _%_, _^_}
 use mathlib.Core.Bool.{Bool, false, cond, not, _&&_, _||_, Bool·beq}
-use mathlib.Core.List.{List, [], _∷_}
+use mathlib.Core.List.{List, []}
 use mathlib.Core.Option.{Option, none, some}
 use lib.ListN.{length, take, drop}
 use lib.Dec.{eqb, leb}
