@@ -1,0 +1,4 @@
+// Code on one sector of 512 bytes: words and their sum, marks, map sectors, park records, and blocks as they are stored.
+pub mod mark;
+pub mod sum;
+pub mod word;

@@ -1,0 +1,23 @@
+// The words of a run of bytes, added with wrapping at 2^32.
+ghost use mathlib.Core.Path.{_≡_};
+ghost use Rattle.volume.specs.Word.{wordsOf, wordSum, balance};
+
+pub fn word_sum(s: &[u8]) -> u32
+    ensures { λ r. ⌜ r ≡ wordSum (wordsOf (now (s .entry))) ⌝ }
+{
+    let n = s.len() / 4;
+    let mut sum: u32 = 0;
+    let mut k = 0;
+    while k < n {
+        sum = std::num::wrapping_add_u32(sum, crate::word::word_at(s, k));
+        k += 1;
+    }
+    sum
+}
+
+// The word that brings a sum to zero.
+pub fn balance_of(sum: u32) -> u32
+    ensures { λ r. ⌜ r ≡ balance sum ⌝ }
+{
+    std::num::wrapping_sub_u32(0, sum)
+}
