@@ -5,8 +5,9 @@ use mathlib.Core.Logic.{⊎-elim}
 use mathlib.Core.Path.{_≡_, refl, sym, ap, _∙_}
 use mathlib.Core.List.{List, [], _∷_, _++_}
 use native.Mathlib.Omega.{arith}
-use lib.ListN.{length, getD, take, drop}
-use lib.Seq.{ext-getD, length-take-le, getD-take, take-all}
+use native.Mathlib.Numerals.{add-one}
+use lib.ListN.{length, getD, take, drop, drop-of-length-le}
+use lib.Seq.{ext-getD, length-take-le, getD-take, take-all, drop-cons}
 use lib.Dec.{eqb}
 use borrow.Author.Tests.{eq-eqb, ne-eqb, eqb-true}
 use Rattle.volume.specs.Bounded.{at, same, all}
@@ -49,3 +50,17 @@ starts-agrees mark bs h f =
     let e : take (length mark) bs ≡ mark = ext-getD 0 (take (length mark) bs) mark long
     (λ i k. let k′ : i < length mark = omega arith in getD-take (length mark) bs i 0 k′ ∙ f i k′) in
     rw e (same-is mark)
+
+-- A loop that tests one number after the other: what is left decides.
+module _ (test : ℕ → Bool) (xs : List ℕ) (i : ℕ) where
+  pub all-pass : i < length xs → test (at xs i) ≡ true → all test (drop i xs) ≡ all test (drop (i + 1) xs)
+  unfolding all
+  all-pass h t = rw (drop-cons xs i 0 h, t, add-one)
+
+  pub all-fail : i < length xs → test (at xs i) ≡ false → all test (drop i xs) ≡ false
+  unfolding all
+  all-fail h t = rw (drop-cons xs i 0 h, t)
+
+  pub all-end : length xs ≤ i → all test (drop i xs) ≡ true
+  unfolding all
+  all-end h = rw (drop-of-length-le xs h)

@@ -1,4 +1,6 @@
 // Code on one sector of 512 bytes: words and their sum, marks, map sectors, park records, and blocks as they are stored.
+pub mod block;
+pub mod image;
 pub mod mark;
 pub mod sum;
 pub mod word;
