@@ -7,10 +7,11 @@ use mathlib.Core.List.{List, [], _∷_, _++_}
 use native.Mathlib.Omega.{arith}
 use native.Mathlib.Numerals.{add-one}
 use lib.ListN.{length, getD, take, drop, drop-of-length-le}
-use lib.Seq.{ext-getD, length-take-le, getD-take, take-all, drop-cons}
-use lib.Dec.{eqb}
-use borrow.Author.Tests.{eq-eqb, ne-eqb, eqb-true}
-use Rattle.volume.specs.Bounded.{at, same, all}
+use lib.Seq.{ext-getD, length-take-le, getD-take, take-all, drop-cons, slice, slice-cons, slice-empty}
+use lib.Dec.{eqb, leb·zero, leb·suc-zero, eqb·suc-zero}
+use borrow.Author.Tests.{eq-eqb, ne-eqb, eqb-true, le-leb, lt-leb}
+use Rattle.types.specs.Geometry.{within}
+use Rattle.volume.specs.Bounded.{at, same, all, isZero}
 use Rattle.volume.specs.Word.{startsWith}
 
 pub same-is : (xs : List ℕ) → same xs xs ≡ true
@@ -64,3 +65,37 @@ module _ (test : ℕ → Bool) (xs : List ℕ) (i : ℕ) where
   pub all-end : length xs ≤ i → all test (drop i xs) ≡ true
   unfolding all
   all-end h = rw (drop-of-length-le xs h)
+
+-- The same over the part of a list from `from` to `end`.
+module _ (test : ℕ → Bool) (xs : List ℕ) (from end : ℕ) (bound : end ≤ length xs) where
+  pub part-pass : from < end → test (at xs from) ≡ true → all test (slice from end xs) ≡ all test (slice (from + 1) end xs)
+  unfolding all
+  part-pass h t = rw (slice-cons from end xs 0 h bound, t, add-one)
+
+  pub part-fail : from < end → test (at xs from) ≡ false → all test (slice from end xs) ≡ false
+  unfolding all
+  part-fail h t = rw (slice-cons from end xs 0 h bound, t)
+
+pub part-end : (test : ℕ → Bool) (xs : List ℕ) (from end : ℕ) → from ≡ end → all test (slice from end xs) ≡ true
+unfolding all
+part-end test xs from end e = rw (e, slice-empty end xs)
+
+-- Tests that agree on every number.
+pub all-alike : (p q : ℕ → Bool) → ((x : ℕ) → p x ≡ q x) → (xs : List ℕ) → all p xs ≡ all q xs
+unfolding all
+all-alike p q h [] = refl
+all-alike p q h (x ∷ xs) = rw (h x, all-alike p q h xs)
+
+pub within-zero : (x : ℕ) → within 0 0 x ≡ isZero x
+within-zero zero = refl
+within-zero (suc x) = rw (leb·zero (suc x), leb·suc-zero x, eqb·suc-zero x)
+
+module _ (low high x : ℕ) where
+  pub within-below : x < low → within low high x ≡ false
+  within-below h = rw (lt-leb low x h)
+
+  pub within-above : low ≤ x → high < x → within low high x ≡ false
+  within-above h k = rw (le-leb low x h, lt-leb x high k)
+
+  pub within-both : low ≤ x → x ≤ high → within low high x ≡ true
+  within-both h k = rw (le-leb low x h, le-leb x high k)

@@ -26,7 +26,7 @@ sets-whole l xs e =
     let end : 0 + length xs ≡ length l = omega arith in
     rw (sets-eq xs l 0 (omega arith), end, drop-length) (append-nil xs)
 
--- A part that was lent, and holds xs as it comes back.
-pub sets-part : (l : List ℕ) (a : ℕ) (xs : List ℕ) → a + length xs ≤ length l
-    → take a l ++ (xs ++ drop (length xs) (drop a l)) ≡ sets l a xs
-sets-part l a xs h = rw (sets-eq xs l a h, drop-drop, append-assoc)
+-- A part that was lent, and holds xs as it comes back. `size` is what the code gives as its length.
+pub sets-part : (l : List ℕ) (a : ℕ) (xs : List ℕ) (size : ℕ) → size ≡ length xs → a + length xs ≤ length l
+    → take a l ++ (xs ++ drop size (drop a l)) ≡ sets l a xs
+sets-part l a xs size e h = rw (e, sets-eq xs l a h, drop-drop, append-assoc)

@@ -3,10 +3,13 @@ use Prim.Native.Nat.{ℕ, zero, suc, _+_, _*_, _/_, _%_, _^_, _≤_, _<_}
 use mathlib.Core.Path.{_≡_, refl, sym, ap, _∙_}
 use mathlib.Core.List.{List, [], _∷_, _++_, append-assoc}
 use native.Mathlib.Omega.{arith}
+use native.Mathlib.Numerals.{add-one}
 use native.Mathlib.Nat.{div-div-eq-div-mul, div-add-mod, mod-eq-of-lt}
-use lib.ListN.{length, getD, take, drop}
+use lib.ListN.{length, getD, take, drop, replicate, length-replicate, replicate-append-replicate}
+use lib.Seq.{sets, take-suc, length-take-le}
 use Rattle.volume.specs.Bounded.{at}
-use Rattle.volume.specs.Word.{word, wordBytes, wordsOf, bytesOf, wordSum}
+use Rattle.volume.specs.Word.{word, wordBytes, wordsOf, bytesOf}
+use Rattle.sector.proofs.Runs.{sets-append}
 
 -- Every number of the list is a byte, or a word. (Past the end stands 0.)
 abbrev pub Bytes : List ℕ → Type 0
@@ -102,3 +105,44 @@ words-bounded (a ∷ b ∷ []) h i = omega arith
 words-bounded (a ∷ b ∷ c ∷ []) h i = omega arith
 words-bounded (a ∷ b ∷ c ∷ d ∷ bs) h zero = omega (arith, h 0, h 1, h 2, h 3)
 words-bounded (a ∷ b ∷ c ∷ d ∷ bs) h (suc i) = words-bounded bs (λ j. h (suc (suc (suc (suc j))))) i
+
+-- Lists of words, by their parts.
+pub words-cons : (w : ℕ) (ws : List ℕ) → w < 2 ^ 32 → Words ws → Words (w ∷ ws)
+words-cons w ws h hs zero = h
+words-cons w ws h hs (suc i) = hs i
+
+pub words-nil : Words []
+words-nil i = omega arith
+
+pub words-both : (xs ys : List ℕ) → Words xs → Words ys → Words (xs ++ ys)
+words-both [] ys hx hy i = hy i
+words-both (x ∷ xs) ys hx hy zero = hx 0
+words-both (x ∷ xs) ys hx hy (suc i) = words-both xs ys (λ j. hx (suc j)) hy i
+
+pub words-zeros : (n : ℕ) → Words (replicate n 0)
+words-zeros zero i = omega arith
+words-zeros (suc n) zero = omega arith
+words-zeros (suc n) (suc i) = words-zeros n i
+
+-- One word more is stored after a run of words.
+pub put-next : (l : List ℕ) (k : ℕ) (ws : List ℕ) (j : ℕ) → length ws ≡ j → (w : ℕ)
+    → sets (sets l (4 * k) (bytesOf ws)) (4 * (k + j)) (wordBytes w) ≡ sets l (4 * k) (bytesOf (ws ++ w ∷ []))
+unfolding bytesOf
+put-next l k ws j h w =
+    let start : 4 * (k + j) ≡ 4 * k + length (bytesOf ws) = omega (arith, length-bytesOf ws) in
+    rw (start, bytes-append) (sym (sets-append l (4 * k) (bytesOf ws) (bytesOf (w ∷ []))))
+
+pub put-words-next : (l : List ℕ) (k : ℕ) (ws : List ℕ) (j : ℕ) → j < length ws
+    → sets (sets l (4 * k) (bytesOf (take j ws))) (4 * (k + j)) (wordBytes (at ws j)) ≡ sets l (4 * k) (bytesOf (take (j + 1) ws))
+put-words-next l k ws j h =
+    put-next l k (take j ws) j (length-take-le j ws (omega arith)) (at ws j)
+    ∙ ap (λ (xs : List ℕ). sets l (4 * k) (bytesOf xs)) (rw (add-one, take-suc ws j 0 h))
+
+zeros-next : (j : ℕ) → _≡_ {A = List ℕ} (replicate j 0 ++ 0 ∷ []) (replicate (j + 1) 0)
+zeros-next j = replicate-append-replicate j 1 0
+
+pub put-zeros-next : (l : List ℕ) (k j : ℕ)
+    → sets (sets l (4 * k) (bytesOf (replicate j 0))) (4 * (k + j)) (wordBytes 0) ≡ sets l (4 * k) (bytesOf (replicate (j + 1) 0))
+put-zeros-next l k j =
+    put-next l k (replicate j 0) j (length-replicate j 0) 0
+    ∙ ap (λ (xs : List ℕ). sets l (4 * k) (bytesOf xs)) (zeros-next j)
