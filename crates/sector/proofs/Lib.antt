@@ -6,3 +6,5 @@ pub mod Runs
 pub mod Lists
 pub mod Sectors
 pub mod Blocks
+pub mod Balanced
+pub mod Parks

@@ -2,5 +2,6 @@
 pub mod block;
 pub mod image;
 pub mod mark;
+pub mod park;
 pub mod sum;
 pub mod word;

@@ -1,0 +1,44 @@
+-- The mark, the sum and the rest decide in turn.
+use mathlib.Core.Path.{sym, ap, _∙_}
+use borrow.Author.Tests.{eq-eqb, ne-eqb, not-true, not-false}
+use borrow.Author.Needs.{needs}
+use Rattle.volume.specs.Bounded.{isZero}
+use Rattle.sector.proofs.Parks.{park-unmarked, park-unbalanced, park-rest}
+use Rattle.sector.proofs.park.is_park.Statement.{statement}
+use Rattle.sector.proofs.park.is_park.Tie as tie
+
+slice-aggregate-starts-with : tie.Need-slice-aggregate-starts-with
+slice-aggregate-starts-with c = search needs
+
+starts-with-requires : tie.Need-starts-with-requires
+starts-with-requires c κs = search needs
+
+returns : tie.Need-returns
+returns c = sym (park-unmarked (c .before .before .before .before .args .s .now) (sym (c .before .starts-with .ensures) ∙ not-true _ (c .if1 .taken)))
+
+word-sum-requires : tie.Need-word-sum-requires
+word-sum-requires c κs = search needs
+
+returns-2 : tie.Need-returns-2
+returns-2 c = sym (park-unbalanced (c .before .before .before .before .before .before .args .s .now) (ap isZero (sym (c .before .word-sum .ensures)) ∙ ne-eqb _ 0 (c .if2 .taken)) (sym (c .before .before .before .starts-with .ensures) ∙ not-false _ (c .before .before .if1 .left)))
+
+words-zero-requires : tie.Need-words-zero-requires
+words-zero-requires c κs = search needs
+
+returns-3 : tie.Need-returns-3
+returns-3 c =
+    let start = c .before .before .before .before .before .before .before in
+    c .words-zero .ensures
+    ∙ sym (park-rest (start .args .s .now) (start .pre) (sym (c .before .before .before .before .starts-with .ensures) ∙ not-false _ (c .before .before .before .if1 .left)) (ap isZero (sym (c .before .before .word-sum .ensures)) ∙ eq-eqb _ 0 (c .before .if2 .left)))
+
+pub is-park-spec : {M : Type 1} → statement M
+is-park-spec =
+    tie.close
+    (tie.spec
+    slice-aggregate-starts-with
+    starts-with-requires
+    returns
+    word-sum-requires
+    returns-2
+    words-zero-requires
+    returns-3)

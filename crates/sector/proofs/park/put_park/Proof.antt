@@ -1,0 +1,47 @@
+-- The words are laid with a zero for the balance, and the balance takes its place.
+use native.Mathlib.Omega.{arith}
+use borrow.Author.Needs.{needs}
+use Rattle.sector.proofs.Parks.{park-stored}
+use Rattle.sector.proofs.park.put_park.Statement.{statement}
+use Rattle.sector.proofs.park.put_park.Tie as tie
+
+slice-aggregate-put-mark : tie.Need-slice-aggregate-put-mark
+slice-aggregate-put-mark c = search needs
+
+put-mark-requires : tie.Need-put-mark-requires
+put-mark-requires c κs = search needs
+
+slice-aggregate-put-words : tie.Need-slice-aggregate-put-words
+slice-aggregate-put-words c = search needs
+
+put-words-requires : tie.Need-put-words-requires
+put-words-requires c κs = search needs
+
+put-zeros-requires : tie.Need-put-zeros-requires
+put-zeros-requires c κs = search needs
+
+put-balance-requires : tie.Need-put-balance-requires
+put-balance-requires c κs = search needs
+
+same-length : tie.Need-same-length
+same-length c = search needs
+
+returns : tie.Need-returns
+returns c =
+    let start = c .before .before .before .before .before .before .before .before .before .before .before .before .before .before .before .before .before .before .before in
+    let a = start .args in
+    park-stored (a .s .now) _ _ _ _ (a .number) (a .tail) (start .pre) (start .fits .number .fits) (start .fits .tail .fits)
+    (c .before .before .before .before .before .before .before .before .before .before .before .before .before .before .before .put-mark .ensures) (c .before .before .before .before .before .before .before .before .before .before .put-words .ensures) (c .before .before .before .before .before .before .put-zeros .ensures) (c .before .before .put-balance .ensures)
+
+pub put-park-spec : {M : Type 1} → statement M
+put-park-spec =
+    tie.close
+    (tie.spec
+    slice-aggregate-put-mark
+    put-mark-requires
+    slice-aggregate-put-words
+    put-words-requires
+    put-zeros-requires
+    put-balance-requires
+    same-length
+    returns)
