@@ -8,3 +8,4 @@ pub mod Sectors
 pub mod Blocks
 pub mod Balanced
 pub mod Parks
+pub mod Maps
