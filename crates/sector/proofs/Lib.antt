@@ -9,3 +9,4 @@ pub mod Blocks
 pub mod Balanced
 pub mod Parks
 pub mod Maps
+pub mod Encoding

@@ -151,3 +151,36 @@ pub fn is_valid(s: &[u8], n: u32, l: u32) -> bool
     }
     entries_fit(s, l)
 }
+
+// 1 for a closing sector, 0 for a member.
+fn kind_of(closing: bool) -> u32
+    ensures { λ r. ⌜ r ≡ kindOf closing ⌝ }
+{
+    if closing { 1 } else { 0 }
+}
+
+// Fills s with a map sector of a volume of l blocks. The words are stored in order, with zero for the balance, which is put
+// in last.
+pub fn put_map(
+    s: &mut [u8],
+    l: u32,
+    number: u32,
+    piece: u32,
+    closing: bool,
+    branches: &[u32],
+    entries: &[u32],
+)
+    requires { ⌜ length (now s) ≡ sectorBytes ⌝ }
+    requires { ⌜ length (now branches) ≤ branchRoom ⌝ }
+    requires { ⌜ length (now entries) ≡ entriesPerPiece ⌝ }
+    ensures { λ _. ⌜ now (s .exit) ≡ encoded l (record { number = number; piece = piece; closing = closing; branches = now (branches .entry); entries = now (entries .entry) }) ⌝ }
+{
+    let count = branches.len();
+    let head = [0u32, number, 0, piece, kind_of(closing), count as u32, l];
+    crate::mark::put_mark(s, &crate::mark::MAP_MARK);
+    crate::word::put_words(s, 1, &head);
+    crate::word::put_words(s, 8, branches);
+    crate::word::put_zeros(s, 8 + count, 24 - count);
+    crate::word::put_words(s, 32, entries);
+    crate::sum::put_balance(s);
+}
