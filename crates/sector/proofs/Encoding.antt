@@ -1,14 +1,13 @@
 -- A map sector as code stores it: the words in order, with zero for the balance, then the balance.
 use Prim.Native.Nat.{ℕ, _+_, _*_, _-_, _^_, _≤_, _<_}
 use mathlib.Core.Bool.{Bool, true, false}
-use mathlib.Core.Path.{_≡_, refl, sym, ap, _∙_}
+use mathlib.Core.Path.{_≡_, refl, ap, _∙_}
 use mathlib.Core.List.{List, [], _∷_, _++_, append-assoc}
 use native.Mathlib.Omega.{arith}
 use lib.ListN.{length, replicate, length-append, length-replicate}
 use lib.Seq.{sets}
-use Rattle.types.specs.Geometry.{branchRoom}
 use Rattle.volume.specs.Word.{wordBytes, wordsOf, bytesOf, wordSum, balance}
-use Rattle.volume.specs.MapSector.{mapMark, MapSector, kindOf, encoded}
+use Rattle.volume.specs.MapSector.{mapMark, kindOf, encoded}
 use Rattle.sector.proofs.Words.{Words, words-cons, words-both, words-zeros}
 use Rattle.sector.proofs.Balanced.{laid-first, laid-next, sealed}
 

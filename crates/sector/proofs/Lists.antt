@@ -1,15 +1,14 @@
 -- Tests over lists: two lists are the same, or every number of a list passes.
 use Prim.Native.Nat.{ℕ, zero, suc, _+_, _≤_, _<_}
 use mathlib.Core.Bool.{Bool, true, false, _&&_}
-use mathlib.Core.Logic.{⊎-elim}
 use mathlib.Core.Path.{_≡_, refl, sym, ap, _∙_}
-use mathlib.Core.List.{List, [], _∷_, _++_}
+use mathlib.Core.List.{List, [], _∷_}
 use native.Mathlib.Omega.{arith}
 use native.Mathlib.Numerals.{add-one}
-use lib.ListN.{length, getD, take, drop, drop-of-length-le}
+use lib.ListN.{length, take, drop, drop-of-length-le}
 use lib.Seq.{ext-getD, length-take-le, getD-take, take-all, drop-cons, slice, slice-cons, slice-empty}
 use lib.Dec.{eqb, leb·zero, leb·suc-zero, eqb·suc-zero}
-use borrow.Author.Tests.{eq-eqb, ne-eqb, eqb-true, le-leb, lt-leb}
+use borrow.Author.Tests.{eq-eqb, eqb-true, le-leb, lt-leb}
 use Rattle.types.specs.Geometry.{within}
 use Rattle.volume.specs.Bounded.{at, same, all, isZero}
 use Rattle.volume.specs.Word.{startsWith}

@@ -2,7 +2,7 @@
 use Prim.Native.Nat.{ℕ, zero, suc, _+_, _*_, _-_, _≤_, _<_}
 use mathlib.Core.Bool.{Bool, true, false, _&&_}
 use mathlib.Core.Path.{_≡_, refl, sym, ap, _∙_}
-use mathlib.Core.List.{List, [], _∷_, _++_}
+use mathlib.Core.List.{List, [], _∷_}
 use native.Mathlib.Omega.{arith}
 use native.Mathlib.Nat.{zero-add, suc-add}
 use lib.ListN.{length, take, drop, drop-of-length-le, length-drop}
@@ -11,7 +11,7 @@ use lib.Dec.{eqb, leb, ltb}
 use borrow.Author.Tests.{ltb-true, leb-true}
 use Rattle.types.specs.Geometry.{within, piecesFor, entriesPerPiece, branchRoom}
 use Rattle.volume.specs.Bounded.{at, all, isZero}
-use Rattle.volume.specs.Word.{wordsOf, wordSum, startsWith}
+use Rattle.volume.specs.Word.{wordSum, startsWith}
 use Rattle.volume.specs.MapSector.{mapMark, branchWords, entryWords, branchesFit, valid}
 use Rattle.sector.specs.Header.{fieldsFit, headerFits}
 

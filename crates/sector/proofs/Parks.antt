@@ -1,15 +1,15 @@
 -- Park records: as code stores one, and as it tests one.
-use Prim.Native.Nat.{ℕ, _+_, _*_, _^_, _<_}
+use Prim.Native.Nat.{ℕ, _^_, _<_}
 use mathlib.Core.Bool.{true, false}
 use mathlib.Core.Path.{_≡_, refl, sym, ap, _∙_}
 use mathlib.Core.List.{List, [], _∷_, _++_}
 use native.Mathlib.Omega.{arith}
-use lib.ListN.{length, drop, replicate, length-replicate}
+use lib.ListN.{length, drop, replicate}
 use lib.Seq.{sets, slice, take-all}
 use Rattle.volume.specs.Bounded.{all, isZero}
 use Rattle.volume.specs.Word.{wordBytes, wordsOf, bytesOf, wordSum, balance, startsWith}
 use Rattle.volume.specs.ParkRecord.{parkMark, parkRecord, isParkRecord}
-use Rattle.sector.proofs.Words.{Words, words-cons, words-zeros, length-wordsOf}
+use Rattle.sector.proofs.Words.{words-cons, words-zeros, length-wordsOf}
 use Rattle.sector.proofs.Balanced.{laid-first, laid-next, sealed}
 
 pub park-stored : (s s₁ s₂ s₃ s₄ : List ℕ) (number tail : ℕ) → length s ≡ 512 → number < 2 ^ 32 → tail < 2 ^ 32

@@ -1,13 +1,12 @@
 -- An image after a whole sector was stored: that sector is the one stored, and every other is as it was.
-use Prim.Native.Nat.{ℕ, suc, _+_, _*_, _-_, _≤_, _<_}
-use mathlib.Core.Bool.{Bool, true, false, cond}
-use mathlib.Core.Path.{_≡_, refl, sym, ap, _∙_, fun-ext}
-use mathlib.Core.List.{List, [], _∷_, _++_, append-assoc}
+use Prim.Native.Nat.{ℕ, _+_, _*_, _-_, _≤_, _<_}
+use mathlib.Core.Path.{_≡_, sym, ap, _∙_, fun-ext}
+use mathlib.Core.List.{List, _++_, append-assoc}
 use native.Mathlib.Omega.{arith}
 use lib.ListN.{length, take, drop, length-append, length-take, length-drop, take-append-drop}
 use lib.Seq.{length-take-le, take-append-le, drop-append-le, take-at, drop-at, drop-append-add, drop-drop}
 use lib.Dec.{eqb, ltb}
-use borrow.Author.Tests.{eqb-true, eqb-false, ltb-true, ltb-false, ne-eqb, eq-eqb}
+use borrow.Author.Tests.{eqb-true, eqb-false, ltb-true, ltb-false}
 use Rattle.volume.specs.Bounded.{updated}
 use Rattle.volume.specs.Tables.{sectorAt}
 use Rattle.sector.proofs.Cases.{either}
@@ -67,3 +66,12 @@ module _ (im : List ℕ) (k : ℕ) (b : List ℕ) (room : 512 * k + 512 ≤ leng
       either {P = sectorAt after j ≡ updated (sectorAt im) k b j} (eqb j k)
       (λ e. rw e (ap (sectorAt after) (eqb-true j k e) ∙ at-k))
       (λ e. rw e (other j (eqb-false j k e)))))
+
+-- The same of a part that was lent: `size` elements from there on, that come back as b.
+pub sector-lent : (im : List ℕ) (k size : ℕ) (new b : List ℕ) → 512 * k + 512 ≤ length im → size ≡ 512
+    → length new ≡ length (take size (drop (512 * k) im)) → new ≡ b
+    → sectorAt (take (512 * k) im ++ (new ++ drop size (drop (512 * k) im))) ≡ updated (sectorAt im) k b
+sector-lent im k size new b room s fit e =
+    let whole : length (take 512 (drop (512 * k) im)) ≡ 512 = simp (length-take, length-drop) (omega arith) in
+    let long : length new ≡ 512 = fit ∙ ap (λ (n : ℕ). length (take n (drop (512 * k) im))) s ∙ whole in
+    sector-stored im k new room long size s ∙ ap (updated (sectorAt im) k) e

@@ -1,5 +1,4 @@
 -- A byte is at most 255.
-use mathlib.Core.Path.{_≡_}
 use native.Mathlib.Omega.{arith}
 use borrow.Author.Needs.{needs}
 use Rattle.sector.proofs.Blocks.{complement-set}

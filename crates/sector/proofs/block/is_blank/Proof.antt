@@ -24,9 +24,12 @@ shared-slice-read-if1 c = omega arith
 
 returns : tie.Need-returns Inv-loop μ-loop
 returns c =
-    let l = c .before .before .before .loop in
-    let s = c .before .before .before .before .args .s .now in
-    sym (l .inv .1 ∙ all-fail isZero s (l .i) (c .before .before .loop-test .taken) (ne-eqb _ 0 (c .if1 .taken)))
+    let at-loop-test = c .before .before in
+    let at-loop = at-loop-test .before in
+    let at-start = at-loop .before in
+    let l = at-loop .loop in
+    let s = at-start .args .s .now in
+    sym (l .inv .1 ∙ all-fail isZero s (l .i) (at-loop-test .loop-test .taken) (ne-eqb _ 0 (c .if1 .taken)))
 
 add-i : tie.Need-add-i Inv-loop μ-loop
 add-i c = omega arith
@@ -36,9 +39,12 @@ loop-less c = omega arith
 
 loop-again : tie.Need-loop-again Inv-loop μ-loop
 loop-again c =
-    let l = c .before .before .before .loop in
-    let s = c .before .before .before .before .args .s .now in
-    (omega arith, l .inv .1 ∙ all-pass isZero s (l .i) (c .before .before .loop-test .taken) (eq-eqb _ 0 (c .if1 .left)))
+    let at-loop-test = c .before .before in
+    let at-loop = at-loop-test .before in
+    let at-start = at-loop .before in
+    let l = at-loop .loop in
+    let s = at-start .args .s .now in
+    (omega arith, l .inv .1 ∙ all-pass isZero s (l .i) (at-loop-test .loop-test .taken) (eq-eqb _ 0 (c .if1 .left)))
 
 returns-2 : tie.Need-returns-2 Inv-loop μ-loop
 returns-2 c =

@@ -1,5 +1,4 @@
 -- The mark compared with is the map mark.
-use mathlib.Core.Path.{_≡_}
 use borrow.Author.Needs.{needs}
 use Rattle.volume.specs.Entry.{needsFlip}
 use Rattle.sector.proofs.block.needs_flip.Statement.{statement}

@@ -20,17 +20,25 @@ same-length c = search needs
 
 returns : tie.Need-returns
 returns c =
-    c .before .before .complement .ensures
-    ∙ ap complemented (c .before .before .before .before .before .before .before .before .copy-over .ensures)
-    ∙ sym (stored-flipped (c .before .before .before .before .before .before .before .before .before .before .before .before .args .block .now) (sym (c .before .before .before .before .before .needs-flip .ensures) ∙ c .before .before .before .before .if1 .taken))
+    let at-complement = c .before .before in
+    let at-if1 = at-complement .before .before in
+    let at-needs-flip = at-if1 .before in
+    let at-copy-over = at-needs-flip .before .before .before in
+    let at-start = at-copy-over .before .before .before .before in
+    at-complement .complement .ensures
+    ∙ ap complemented (at-copy-over .copy-over .ensures)
+    ∙ sym (stored-flipped (at-start .args .block .now) (sym (at-needs-flip .needs-flip .ensures) ∙ at-if1 .if1 .taken))
 
 same-length-2 : tie.Need-same-length-2
 same-length-2 c = search needs
 
 returns-2 : tie.Need-returns-2
 returns-2 c =
-    c .before .before .before .before .copy-over .ensures
-    ∙ sym (stored-plain (c .before .before .before .before .before .before .before .before .args .block .now) (sym (c .before .needs-flip .ensures) ∙ c .if1 .left))
+    let at-needs-flip = c .before in
+    let at-copy-over = at-needs-flip .before .before .before in
+    let at-start = at-copy-over .before .before .before .before in
+    at-copy-over .copy-over .ensures
+    ∙ sym (stored-plain (at-start .args .block .now) (sym (at-needs-flip .needs-flip .ensures) ∙ c .if1 .left))
 
 pub store-block-spec : {M : Type 1} → statement M
 store-block-spec =

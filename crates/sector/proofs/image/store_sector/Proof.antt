@@ -1,12 +1,9 @@
 -- The part that comes back holds the bytes, so the image is one with that sector stored.
 use Prim.Native.Nat.{_+_, _*_, _-_}
-use mathlib.Core.Path.{_≡_, ap, _∙_}
+use mathlib.Core.Path.{_≡_}
 use native.Mathlib.Omega.{arith}
-use lib.ListN.{length}
 use borrow.Author.Needs.{needs}
-use Rattle.volume.specs.Bounded.{updated}
-use Rattle.volume.specs.Tables.{sectorAt}
-use Rattle.sector.proofs.Sectors.{sector-stored}
+use Rattle.sector.proofs.Sectors.{sector-lent}
 use Rattle.sector.proofs.image.store_sector.Statement.{statement}
 use Rattle.sector.proofs.image.store_sector.Tie as tie
 
@@ -33,12 +30,12 @@ same-length c = search needs
 
 returns : tie.Need-returns
 returns c =
-    let start = c .before .before .before .before .before .before in
-    let a = start .args in
-    let new = c .before .before .copy-over .last .0 in
-    let e = c .before .before .copy-over .ensures in
+    let at-copy-over = c .before .before in
+    let at-start = at-copy-over .before .before .before .before in
+    let a = at-start .args in
+    let made = at-copy-over .copy-over in
     let size : 512 * a .k + 512 - 512 * a .k ≡ 512 = omega arith in
-    sector-stored (a .image .now) (a .k) new (start .pre .0) (ap length e ∙ start .pre .1) _ size ∙ ap (updated (sectorAt (a .image .now)) (a .k)) e
+    sector-lent (a .image .now) (a .k) _ (made .last .0) _ (at-start .pre .0) size (made .kept .0) (made .ensures)
 
 pub store-sector-spec : {M : Type 1} → statement M
 store-sector-spec =

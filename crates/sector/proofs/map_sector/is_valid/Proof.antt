@@ -16,49 +16,81 @@ starts-with-requires c κs = search needs
 
 returns : tie.Need-returns
 returns c =
-    let a = c .before .before .before .before .args in
+    let at-starts-with = c .before in
+    let at-start = at-starts-with .before .before .before in
+    let a = at-start .args in
     let s = a .s .now in
-    sym (valid-unmarked (a .n) (a .l) s (wordsOf s) (sym (c .before .starts-with .ensures) ∙ not-true _ (c .if1 .taken)))
+    sym (valid-unmarked (a .n) (a .l) s (wordsOf s) (sym (at-starts-with .starts-with .ensures) ∙ not-true _ (c .if1 .taken)))
 
 word-sum-requires : tie.Need-word-sum-requires
 word-sum-requires c κs = search needs
 
 returns-2 : tie.Need-returns-2
 returns-2 c =
-    let a = c .before .before .before .before .before .before .args in
+    let at-word-sum = c .before in
+    let at-if1 = at-word-sum .before in
+    let at-starts-with = at-if1 .before in
+    let at-start = at-starts-with .before .before .before in
+    let a = at-start .args in
     let s = a .s .now in
-    sym (valid-unbalanced (a .n) (a .l) s (wordsOf s) (sym (c .before .before .before .starts-with .ensures) ∙ not-false _ (c .before .before .if1 .left)) (ap isZero (sym (c .before .word-sum .ensures)) ∙ ne-eqb _ 0 (c .if2 .taken)))
+    sym (valid-unbalanced (a .n) (a .l) s (wordsOf s) (sym (at-starts-with .starts-with .ensures) ∙ not-false _ (at-if1 .if1 .left)) (ap isZero (sym (at-word-sum .word-sum .ensures)) ∙ ne-eqb _ 0 (c .if2 .taken)))
 
 header-fits-requires : tie.Need-header-fits-requires
 header-fits-requires c κs = search needs
 
 returns-3 : tie.Need-returns-3
 returns-3 c =
-    let a = c .before .before .before .before .before .before .before .before .args in
+    let at-header-fits = c .before in
+    let at-if2 = at-header-fits .before in
+    let at-word-sum = at-if2 .before in
+    let at-if1 = at-word-sum .before in
+    let at-starts-with = at-if1 .before in
+    let at-start = at-starts-with .before .before .before in
+    let a = at-start .args in
     let s = a .s .now in
-    sym (valid-header (a .n) (a .l) s (wordsOf s) (sym (c .before .before .before .before .before .starts-with .ensures) ∙ not-false _ (c .before .before .before .before .if1 .left)) (ap isZero (sym (c .before .before .before .word-sum .ensures)) ∙ eq-eqb _ 0 (c .before .before .if2 .left)) (sym (c .before .header-fits .ensures) ∙ not-true _ (c .if3 .taken)))
+    sym (valid-header (a .n) (a .l) s (wordsOf s) (sym (at-starts-with .starts-with .ensures) ∙ not-false _ (at-if1 .if1 .left)) (ap isZero (sym (at-word-sum .word-sum .ensures)) ∙ eq-eqb _ 0 (at-if2 .if2 .left)) (sym (at-header-fits .header-fits .ensures) ∙ not-true _ (c .if3 .taken)))
 
 branches-fit-requires : tie.Need-branches-fit-requires
 branches-fit-requires c κs =
-    let start = c .before .before .before .before .before .before .before .before in
-    (start .pre .0, (start .pre .1, header-count (start .args .l) (wordsOf (start .args .s .now)) (sym (c .before .header-fits .ensures) ∙ not-false _ (c .if3 .left))))
+    let at-header-fits = c .before in
+    let at-start = at-header-fits .before .before .before .before .before .before .before in
+    (at-start .pre .0, (at-start .pre .1, header-count (at-start .args .l) (wordsOf (at-start .args .s .now)) (sym (at-header-fits .header-fits .ensures) ∙ not-false _ (c .if3 .left))))
 
 returns-4 : tie.Need-returns-4
 returns-4 c =
-    let a = c .before .before .before .before .before .before .before .before .before .before .args in
+    let at-branches-fit = c .before in
+    let at-if3 = at-branches-fit .before in
+    let at-header-fits = at-if3 .before in
+    let at-if2 = at-header-fits .before in
+    let at-word-sum = at-if2 .before in
+    let at-if1 = at-word-sum .before in
+    let at-starts-with = at-if1 .before in
+    let at-start = at-starts-with .before .before .before in
+    let a = at-start .args in
     let s = a .s .now in
-    sym (valid-branches (a .n) (a .l) s (wordsOf s) (sym (c .before .before .before .before .before .before .before .starts-with .ensures) ∙ not-false _ (c .before .before .before .before .before .before .if1 .left)) (ap isZero (sym (c .before .before .before .before .before .word-sum .ensures)) ∙ eq-eqb _ 0 (c .before .before .before .before .if2 .left)) (sym (c .before .before .before .header-fits .ensures) ∙ not-false _ (c .before .before .if3 .left)) (sym (c .before .branches-fit .ensures) ∙ not-true _ (c .if4 .taken)))
+    sym (valid-branches (a .n) (a .l) s (wordsOf s) (sym (at-starts-with .starts-with .ensures) ∙ not-false _ (at-if1 .if1 .left)) (ap isZero (sym (at-word-sum .word-sum .ensures)) ∙ eq-eqb _ 0 (at-if2 .if2 .left)) (sym (at-header-fits .header-fits .ensures) ∙ not-false _ (at-if3 .if3 .left)) (sym (at-branches-fit .branches-fit .ensures) ∙ not-true _ (c .if4 .taken)))
 
 entries-fit-requires : tie.Need-entries-fit-requires
 entries-fit-requires c κs =
-    let start = c .before .before .before .before .before .before .before .before .before .before in
-    (start .pre .0, header-piece (start .args .l) (wordsOf (start .args .s .now)) (sym (c .before .before .before .header-fits .ensures) ∙ not-false _ (c .before .before .if3 .left)))
+    let at-if3 = c .before .before in
+    let at-header-fits = at-if3 .before in
+    let at-start = at-header-fits .before .before .before .before .before .before .before in
+    (at-start .pre .0, header-piece (at-start .args .l) (wordsOf (at-start .args .s .now)) (sym (at-header-fits .header-fits .ensures) ∙ not-false _ (at-if3 .if3 .left)))
 
 returns-5 : tie.Need-returns-5
 returns-5 c =
-    let a = c .before .before .before .before .before .before .before .before .before .before .before .args in
+    let at-if4 = c .before in
+    let at-branches-fit = at-if4 .before in
+    let at-if3 = at-branches-fit .before in
+    let at-header-fits = at-if3 .before in
+    let at-if2 = at-header-fits .before in
+    let at-word-sum = at-if2 .before in
+    let at-if1 = at-word-sum .before in
+    let at-starts-with = at-if1 .before in
+    let at-start = at-starts-with .before .before .before in
+    let a = at-start .args in
     let s = a .s .now in
-    c .entries-fit .ensures ∙ sym (valid-entries (a .n) (a .l) s (wordsOf s) (sym (c .before .before .before .before .before .before .before .before .starts-with .ensures) ∙ not-false _ (c .before .before .before .before .before .before .before .if1 .left)) (ap isZero (sym (c .before .before .before .before .before .before .word-sum .ensures)) ∙ eq-eqb _ 0 (c .before .before .before .before .before .if2 .left)) (sym (c .before .before .before .before .header-fits .ensures) ∙ not-false _ (c .before .before .before .if3 .left)) (sym (c .before .before .branches-fit .ensures) ∙ not-false _ (c .before .if4 .left)))
+    c .entries-fit .ensures ∙ sym (valid-entries (a .n) (a .l) s (wordsOf s) (sym (at-starts-with .starts-with .ensures) ∙ not-false _ (at-if1 .if1 .left)) (ap isZero (sym (at-word-sum .word-sum .ensures)) ∙ eq-eqb _ 0 (at-if2 .if2 .left)) (sym (at-header-fits .header-fits .ensures) ∙ not-false _ (at-if3 .if3 .left)) (sym (at-branches-fit .branches-fit .ensures) ∙ not-false _ (at-if4 .if4 .left)))
 
 pub is-valid-spec : {M : Type 1} → statement M
 is-valid-spec =

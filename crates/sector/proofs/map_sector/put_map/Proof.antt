@@ -1,5 +1,4 @@
 -- The words are laid in order with a zero for the balance, and the balance takes its place.
-use native.Mathlib.Omega.{arith}
 use borrow.Author.Needs.{needs}
 use Rattle.sector.proofs.Encoding.{map-stored}
 use Rattle.sector.proofs.map_sector.put_map.Statement.{statement}
@@ -46,12 +45,21 @@ same-length c = search needs
 
 returns : tie.Need-returns
 returns c =
-    let start = c .before .before .before .before .before .before .before .before .before .before .before .before .before .before .before .before .before .before .before .before .before .before .before .before .before .before .before .before .before .before in
-    let a = start .args in
-    let f = start .fits in
-    map-stored (a .l) (a .number) (a .piece) (a .closing) (a .branches .now) (a .entries .now) (start .pre .1 .0) (start .pre .1 .1) (a .s .now) _ _ _ _ _ _ (c .before .before .before .before .before .before .before .before .before .before .before .before .before .before .before .before .before .before .before .before .before .before .before .before .before .before .kind-of .result) (start .pre .0)
-    (f .l .fits) (f .number .fits) (f .piece .fits) (λ i. (c .before .before .before .before .before .before .before .before .before .before .before .before .before .before .before .before .before .before .before .before .before .before .before .before .before .before .before .before .shared-slice-known .given i) .fits) (λ i. (c .before .before .before .before .before .before .before .before .before .before .before .before .before .before .before .before .before .before .before .before .before .before .before .before .before .before .before .shared-slice-known2 .given i) .fits) (c .before .before .before .before .before .before .before .before .before .before .before .before .before .before .before .before .before .before .before .before .before .before .before .before .before .before .kind-of .ensures)
-    (c .before .before .before .before .before .before .before .before .before .before .before .before .before .before .before .before .before .before .before .before .before .before .before .put-mark .ensures) (c .before .before .before .before .before .before .before .before .before .before .before .before .before .before .before .before .before .before .put-words .ensures) (c .before .before .before .before .before .before .before .before .before .before .before .before .before .before .put-words2 .ensures) (c .before .before .before .before .before .before .before .before .before .before .put-zeros .ensures) (c .before .before .before .before .before .before .put-words3 .ensures) (c .before .before .put-balance .ensures)
+    let at-put-balance = c .before .before in
+    let at-put-words3 = at-put-balance .before .before .before .before in
+    let at-put-zeros = at-put-words3 .before .before .before .before in
+    let at-put-words2 = at-put-zeros .before .before .before .before in
+    let at-put-words = at-put-words2 .before .before .before .before in
+    let at-put-mark = at-put-words .before .before .before .before .before in
+    let at-kind-of = at-put-mark .before .before .before in
+    let at-shared-slice-known2 = at-kind-of .before in
+    let at-shared-slice-known = at-shared-slice-known2 .before in
+    let at-start = at-shared-slice-known .before .before in
+    let a = at-start .args in
+    let f = at-start .fits in
+    map-stored (a .l) (a .number) (a .piece) (a .closing) (a .branches .now) (a .entries .now) (at-start .pre .1 .0) (at-start .pre .1 .1) (a .s .now) _ _ _ _ _ _ (at-kind-of .kind-of .result) (at-start .pre .0)
+    (f .l .fits) (f .number .fits) (f .piece .fits) (λ i. (at-shared-slice-known .shared-slice-known .given i) .fits) (λ i. (at-shared-slice-known2 .shared-slice-known2 .given i) .fits) (at-kind-of .kind-of .ensures)
+    (at-put-mark .put-mark .ensures) (at-put-words .put-words .ensures) (at-put-words2 .put-words2 .ensures) (at-put-zeros .put-zeros .ensures) (at-put-words3 .put-words3 .ensures) (at-put-balance .put-balance .ensures)
 
 pub put-map-spec : {M : Type 1} → statement M
 put-map-spec =

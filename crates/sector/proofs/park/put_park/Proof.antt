@@ -1,5 +1,4 @@
 -- The words are laid with a zero for the balance, and the balance takes its place.
-use native.Mathlib.Omega.{arith}
 use borrow.Author.Needs.{needs}
 use Rattle.sector.proofs.Parks.{park-stored}
 use Rattle.sector.proofs.park.put_park.Statement.{statement}
@@ -28,10 +27,14 @@ same-length c = search needs
 
 returns : tie.Need-returns
 returns c =
-    let start = c .before .before .before .before .before .before .before .before .before .before .before .before .before .before .before .before .before .before .before in
-    let a = start .args in
-    park-stored (a .s .now) _ _ _ _ (a .number) (a .tail) (start .pre) (start .fits .number .fits) (start .fits .tail .fits)
-    (c .before .before .before .before .before .before .before .before .before .before .before .before .before .before .before .put-mark .ensures) (c .before .before .before .before .before .before .before .before .before .before .put-words .ensures) (c .before .before .before .before .before .before .put-zeros .ensures) (c .before .before .put-balance .ensures)
+    let at-put-balance = c .before .before in
+    let at-put-zeros = at-put-balance .before .before .before .before in
+    let at-put-words = at-put-zeros .before .before .before .before in
+    let at-put-mark = at-put-words .before .before .before .before .before in
+    let at-start = at-put-mark .before .before .before .before in
+    let a = at-start .args in
+    park-stored (a .s .now) _ _ _ _ (a .number) (a .tail) (at-start .pre) (at-start .fits .number .fits) (at-start .fits .tail .fits)
+    (at-put-mark .put-mark .ensures) (at-put-words .put-words .ensures) (at-put-zeros .put-zeros .ensures) (at-put-balance .put-balance .ensures)
 
 pub put-park-spec : {M : Type 1} → statement M
 put-park-spec =

@@ -1,8 +1,8 @@
 -- The sum so far is that of the words passed.
-use Prim.Native.Nat.{_+_, _-_, _*_, _/_, _≤_, _<_}
-use mathlib.Core.Path.{_≡_, refl, sym, ap, _∙_}
+use Prim.Native.Nat.{_-_, _≤_}
+use mathlib.Core.Path.{_≡_, refl, ap, _∙_}
 use native.Mathlib.Omega.{arith}
-use lib.ListN.{length, take}
+use lib.ListN.{take}
 use lib.Seq.{take-all}
 use borrow.Author.Needs.{needs}
 use Rattle.volume.specs.Word.{wordsOf, wordSum}
@@ -35,8 +35,10 @@ loop-less c = omega arith
 
 loop-again : tie.Need-loop-again Inv-loop μ-loop
 loop-again c =
-    let s = c .before .before .before .before .before .args .s .now in
-    let k = c .before .before .before .loop .k in
+    let at-loop = c .before .before .before in
+    let at-start = at-loop .before .before in
+    let s = at-start .args .s .now in
+    let k = at-loop .loop .k in
     (omega arith, cc (sum-next (wordsOf s) k (omega (arith, length-wordsOf s))))
 
 returns : tie.Need-returns Inv-loop μ-loop

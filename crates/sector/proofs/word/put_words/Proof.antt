@@ -5,7 +5,7 @@ use mathlib.Core.List.{List}
 use native.Mathlib.Omega.{arith}
 use lib.ListN.{length, getD, take}
 use lib.Seq.{sets, take-all}
-use borrow.Author.Needs.{needs, scaled-fits}
+use borrow.Author.Needs.{needs}
 use Rattle.volume.specs.Word.{wordBytes, bytesOf}
 use Rattle.sector.proofs.Words.{put-words-next}
 use Rattle.sector.proofs.word.put_words.Statement.{statement}
@@ -41,18 +41,24 @@ loop-less c = omega arith
 
 loop-again : tie.Need-loop-again Inv-loop μ-loop
 loop-again c =
-    let a = c .before .before .before .before .before .before .before .before .before .args in
-    let l = c .before .before .before .before .before .before .loop in
-    let call = c .before .before .put-word in
-    (omega arith, call .kept .0 ∙ l .inv .1, call .ensures ∙ ap (λ (b : List ℕ). sets b (4 * (a .k + l .i)) (wordBytes (getD (a .words .now) (l .i) 0))) (l .inv .2) ∙ put-words-next (a .s .now) (a .k) (a .words .now) (l .i) (c .before .before .before .before .before .loop-test .taken))
+    let at-put-word = c .before .before in
+    let at-loop-test = at-put-word .before .before .before in
+    let at-loop = at-loop-test .before in
+    let at-start = at-loop .before .before .before in
+    let a = at-start .args in
+    let l = at-loop .loop in
+    let call = at-put-word .put-word in
+    (omega arith, call .kept .0 ∙ l .inv .1, call .ensures ∙ ap (λ (b : List ℕ). sets b (4 * (a .k + l .i)) (wordBytes (getD (a .words .now) (l .i) 0))) (l .inv .2) ∙ put-words-next (a .s .now) (a .k) (a .words .now) (l .i) (at-loop-test .loop-test .taken))
 
 same-length : tie.Need-same-length Inv-loop μ-loop
 same-length c = c .before .loop .inv .1
 
 returns : tie.Need-returns Inv-loop μ-loop
 returns c =
-    let a = c .before .before .before .before .args in
-    c .before .loop .inv .2 ∙ ap (λ (ws : List ℕ). sets (a .s .now) (4 * a .k) (bytesOf ws)) (take-all (c .before .loop .i) (a .words .now) (c .loop-test .left))
+    let at-loop = c .before in
+    let at-start = at-loop .before .before .before in
+    let a = at-start .args in
+    at-loop .loop .inv .2 ∙ ap (λ (ws : List ℕ). sets (a .s .now) (4 * a .k) (bytesOf ws)) (take-all (at-loop .loop .i) (a .words .now) (c .loop-test .left))
 
 pub put-words-spec : {M : Type 1} → statement M
 put-words-spec =

@@ -1,10 +1,9 @@
 -- Whether all words lie in the range is decided by those that are left.
-use Prim.Native.Nat.{_*_, _-_, _≤_}
+use Prim.Native.Nat.{_-_, _≤_}
 use mathlib.Core.Path.{_≡_, refl, sym, ap, _∙_}
 use native.Mathlib.Omega.{arith}
 use lib.ListN.{length}
 use lib.Seq.{slice}
-use borrow.Author.Needs.{needs}
 use Rattle.types.specs.Geometry.{within}
 use Rattle.volume.specs.Bounded.{all}
 use Rattle.volume.specs.Word.{wordsOf}
@@ -27,23 +26,32 @@ word-at-requires c κs = omega arith
 
 returns : tie.Need-returns Inv-loop μ-loop
 returns c =
-    let a = c .before .before .before .before .before .args in
-    let l = c .before .before .before .loop in
+    let at-word-at = c .before in
+    let at-loop-test = at-word-at .before in
+    let at-loop = at-loop-test .before in
+    let at-start = at-loop .before .before in
+    let a = at-start .args in
+    let l = at-loop .loop in
     let ws = wordsOf (a .s .now) in
     let test = within (a .low) (a .high) in
     let bound : a .end ≤ length ws = omega (arith, length-wordsOf (a .s .now)) in
-    let t = ap test (sym (c .before .word-at .ensures)) ∙ within-below (a .low) (a .high) _ (c .if1 .taken) in
-    sym (l .inv .1 ∙ part-fail test ws (l .k) (a .end) bound (c .before .before .loop-test .taken) t)
+    let t = ap test (sym (at-word-at .word-at .ensures)) ∙ within-below (a .low) (a .high) _ (c .if1 .taken) in
+    sym (l .inv .1 ∙ part-fail test ws (l .k) (a .end) bound (at-loop-test .loop-test .taken) t)
 
 returns-2 : tie.Need-returns-2 Inv-loop μ-loop
 returns-2 c =
-    let a = c .before .before .before .before .before .before .args in
-    let l = c .before .before .before .before .loop in
+    let at-if1 = c .before in
+    let at-word-at = at-if1 .before in
+    let at-loop-test = at-word-at .before in
+    let at-loop = at-loop-test .before in
+    let at-start = at-loop .before .before in
+    let a = at-start .args in
+    let l = at-loop .loop in
     let ws = wordsOf (a .s .now) in
     let test = within (a .low) (a .high) in
     let bound : a .end ≤ length ws = omega (arith, length-wordsOf (a .s .now)) in
-    let t = ap test (sym (c .before .before .word-at .ensures)) ∙ within-above (a .low) (a .high) _ (c .before .if1 .left) (c .if2 .taken) in
-    sym (l .inv .1 ∙ part-fail test ws (l .k) (a .end) bound (c .before .before .before .loop-test .taken) t)
+    let t = ap test (sym (at-word-at .word-at .ensures)) ∙ within-above (a .low) (a .high) _ (at-if1 .if1 .left) (c .if2 .taken) in
+    sym (l .inv .1 ∙ part-fail test ws (l .k) (a .end) bound (at-loop-test .loop-test .taken) t)
 
 add-k : tie.Need-add-k Inv-loop μ-loop
 add-k c = omega arith
@@ -53,13 +61,18 @@ loop-less c = omega arith
 
 loop-again : tie.Need-loop-again Inv-loop μ-loop
 loop-again c =
-    let a = c .before .before .before .before .before .before .args in
-    let l = c .before .before .before .before .loop in
+    let at-if1 = c .before in
+    let at-word-at = at-if1 .before in
+    let at-loop-test = at-word-at .before in
+    let at-loop = at-loop-test .before in
+    let at-start = at-loop .before .before in
+    let a = at-start .args in
+    let l = at-loop .loop in
     let ws = wordsOf (a .s .now) in
     let test = within (a .low) (a .high) in
     let bound : a .end ≤ length ws = omega (arith, length-wordsOf (a .s .now)) in
-    let t = ap test (sym (c .before .before .word-at .ensures)) ∙ within-both (a .low) (a .high) _ (c .before .if1 .left) (c .if2 .left) in
-    (omega arith, l .inv .1 ∙ part-pass test ws (l .k) (a .end) bound (c .before .before .before .loop-test .taken) t)
+    let t = ap test (sym (at-word-at .word-at .ensures)) ∙ within-both (a .low) (a .high) _ (at-if1 .if1 .left) (c .if2 .left) in
+    (omega arith, l .inv .1 ∙ part-pass test ws (l .k) (a .end) bound (at-loop-test .loop-test .taken) t)
 
 returns-3 : tie.Need-returns-3 Inv-loop μ-loop
 returns-3 c =

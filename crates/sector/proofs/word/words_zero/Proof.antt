@@ -1,6 +1,5 @@
 -- A number from 0 to 0 is zero.
 use mathlib.Core.Path.{_∙_}
-use lib.Seq.{slice}
 use borrow.Author.Needs.{needs}
 use Rattle.types.specs.Geometry.{within}
 use Rattle.volume.specs.Bounded.{isZero}
