@@ -1,13 +1,15 @@
 -- A sector that is laid out word by word, with its balance put in last.
 use Prim.Native.Nat.{ℕ, _+_, _*_, _≤_}
+use mathlib.Core.Bool.{true}
 use mathlib.Core.Path.{_≡_, refl, sym, ap, _∙_}
 use mathlib.Core.List.{List, _∷_, _++_, append-assoc}
 use native.Mathlib.Omega.{arith}
 use lib.ListN.{length, drop, length-append}
-use lib.Seq.{sets, sets-eq, take-at, drop-at}
-use Rattle.volume.specs.Word.{wordBytes, wordsOf, bytesOf, wordSum, balance, balanced}
+use lib.Seq.{sets, sets-eq, take-at, drop-at, take-append-seam}
+use Rattle.volume.specs.Word.{wordBytes, wordsOf, bytesOf, wordSum, balance, startsWith, balanced}
 use Rattle.sector.proofs.Words.{Words, words-cons, words-append, words-of-bytes, bytes-append, length-bytesOf}
-use Rattle.sector.proofs.Sums.{sum-zero}
+use Rattle.sector.proofs.Sums.{sum-zero, sum-balance}
+use Rattle.sector.proofs.Lists.{same-is}
 use Rattle.sector.proofs.Runs.{sets-append, sets-whole}
 
 module _ (s mark : List ℕ) (long : length mark ≡ 4) where
@@ -57,3 +59,22 @@ pub sealed : (s mark ws laid done : List ℕ) → length mark ≡ 4 → Words ws
 sealed s mark ws laid done long h size e f =
     let whole : laid ≡ mark ++ bytesOf (0 ∷ ws) = e ∙ laid-whole s mark long (0 ∷ ws) (omega arith) in
     f ∙ ap (λ (l : List ℕ). sets l 4 (wordBytes (balance (wordSum (wordsOf l))))) whole ∙ balanced-is mark ws long h
+
+-- What a balanced sector is: its length, its mark, its words, and the sum of them.
+module _ (mark ws : List ℕ) (long : length mark ≡ 4) where
+  pub balanced-length : length (balanced mark ws) ≡ 4 * (2 + length ws)
+  unfolding balanced
+  balanced-length = simp (length-append, length-bytesOf) (omega arith)
+
+  pub balanced-starts : startsWith mark (balanced mark ws) ≡ true
+  unfolding balanced startsWith
+  balanced-starts = rw take-append-seam (same-is mark)
+
+  pub balanced-words : Words ws → wordsOf (balanced mark ws) ≡ wordsOf mark ++ balance (wordSum (wordsOf mark ++ ws)) ∷ ws
+  unfolding balanced
+  balanced-words h =
+      let b : ℕ = balance (wordSum (wordsOf mark ++ ws)) in
+      words-append 1 mark (bytesOf (b ∷ ws)) long ∙ ap (λ (l : List ℕ). wordsOf mark ++ l) (words-of-bytes (b ∷ ws) (words-cons b ws (omega arith) h))
+
+  pub balanced-sum : Words ws → wordSum (wordsOf (balanced mark ws)) ≡ 0
+  balanced-sum h = ap wordSum (balanced-words h) ∙ sum-balance (wordsOf mark) ws

@@ -10,3 +10,4 @@ pub mod Balanced
 pub mod Parks
 pub mod Maps
 pub mod Encoding
+pub mod Codec

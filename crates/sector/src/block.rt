@@ -6,6 +6,7 @@ ghost use lib.ListN.{length};
 ghost use Rattle.types.specs.Geometry.{sectorBytes};
 ghost use Rattle.volume.specs.Bounded.{all, isZero};
 ghost use Rattle.volume.specs.Entry.{sectorOf, isFlipped, complemented, needsFlip, stored, entryFor, restored};
+use crate::mark;
 
 // Bit 31 of an entry.
 const FLIPPED: u32 = 2_147_483_648;
@@ -26,7 +27,7 @@ pub fn is_flipped(entry: u32) -> bool
 pub fn needs_flip(block: &[u8]) -> bool
     ensures { λ r. ⌜ r ≡ needsFlip (now (block .entry)) ⌝ }
 {
-    crate::mark::starts_with(block, &crate::mark::MAP_MARK)
+    mark::starts_with(block, &mark::MAP_MARK)
 }
 
 // The entry of a block that is stored in a sector.
@@ -55,7 +56,7 @@ pub fn store_block(dst: &mut [u8], block: &[u8])
     requires { ⌜ length (now block) ≡ sectorBytes ⌝ }
     ensures { λ _. ⌜ now (dst .exit) ≡ stored (now (block .entry)) ⌝ }
 {
-    crate::mark::copy_over(dst, block);
+    mark::copy_over(dst, block);
     if needs_flip(block) {
         complement(dst);
     }
@@ -69,10 +70,10 @@ pub fn restore_block(out: &mut [u8], entry: u32, bytes: &[u8])
 {
     if entry == 0 {
         let zeros = [0u8; 512];
-        crate::mark::copy_over(out, &zeros);
+        mark::copy_over(out, &zeros);
         return;
     }
-    crate::mark::copy_over(out, bytes);
+    mark::copy_over(out, bytes);
     if is_flipped(entry) {
         complement(out);
     }

@@ -8,6 +8,10 @@ ghost use Rattle.volume.specs.MapSector.{encoded};
 ghost use Rattle.volume.specs.Entry.{blank, stored};
 ghost use Rattle.volume.specs.ParkRecord.{parkRecord};
 ghost use Rattle.volume.specs.Tables.{sectorAt};
+use crate::block;
+use crate::map_sector;
+use crate::mark;
+use crate::park;
 use types::geometry::Geometry;
 
 pub fn sector(image: &[u8], k: usize) -> &[u8]
@@ -27,7 +31,7 @@ pub fn store_sector(image: &mut [u8], k: usize, bytes: &[u8])
 {
     let first = Geometry::SECTOR * k;
     let end = first + Geometry::SECTOR;
-    crate::mark::copy_over(&mut image[first..end], bytes);
+    mark::copy_over(&mut image[first..end], bytes);
 }
 
 // Stores a blank sector.
@@ -47,7 +51,7 @@ pub fn store_data(image: &mut [u8], k: usize, block: &[u8])
 {
     let first = Geometry::SECTOR * k;
     let end = first + Geometry::SECTOR;
-    crate::block::store_block(&mut image[first..end], block);
+    block::store_block(&mut image[first..end], block);
 }
 
 // Stores a map sector, made in its place.
@@ -68,7 +72,7 @@ pub fn store_map(
 {
     let first = Geometry::SECTOR * k;
     let end = first + Geometry::SECTOR;
-    crate::map_sector::put_map(
+    map_sector::put_map(
         &mut image[first..end],
         l,
         number,
@@ -85,5 +89,5 @@ pub fn store_park(image: &mut [u8], number: u32, tail: u32)
     ensures { λ _. ⌜ sectorAt (now (image .exit)) ≡ updated (sectorAt (now (image .entry))) 0 (parkRecord (record { number = number; tail = tail })) ⌝ }
 {
     let end = Geometry::SECTOR;
-    crate::park::put_park(&mut image[0..end], number, tail);
+    park::put_park(&mut image[0..end], number, tail);
 }

@@ -1,4 +1,5 @@
-// Map sectors: whether a sector is one ("signed"), what one says, and how one is made.
+// Map sectors: whether a sector is one ("signed"), what one says, and how one is made. Word 0 is the mark, 1 the balance, 2 the
+// number, 3 zero, 4 the piece, 5 the kind, 6 the count of branches, 7 L, 8 to 31 the branches, 32 to 127 the entries.
 ghost use mathlib.Core.Path.{_≡_};
 ghost use mathlib.Core.Bool.{true};
 ghost use Prim.Native.Nat.{_*_, _-_, _≤_, _<_};
@@ -9,6 +10,9 @@ ghost use Rattle.volume.specs.Bounded.{at, all, isZero};
 ghost use Rattle.volume.specs.Word.{wordsOf};
 ghost use Rattle.volume.specs.MapSector.{branchWords, entryWords, branchesFit, valid, kindOf, encoded};
 ghost use Rattle.sector.specs.Header.{fieldsFit, headerFits};
+use crate::mark;
+use crate::sum;
+use crate::word;
 use types::geometry::Geometry;
 
 // The sector's number.
@@ -16,28 +20,28 @@ pub fn number_of(s: &[u8]) -> u32
     requires { ⌜ length (now s) ≡ sectorBytes ⌝ }
     ensures { λ r. ⌜ r ≡ at (wordsOf (now (s .entry))) 2 ⌝ }
 {
-    crate::word::word_at(s, 2)
+    word::word_at(s, 2)
 }
 
 pub fn piece_of(s: &[u8]) -> u32
     requires { ⌜ length (now s) ≡ sectorBytes ⌝ }
     ensures { λ r. ⌜ r ≡ at (wordsOf (now (s .entry))) 4 ⌝ }
 {
-    crate::word::word_at(s, 4)
+    word::word_at(s, 4)
 }
 
 pub fn is_closing(s: &[u8]) -> bool
     requires { ⌜ length (now s) ≡ sectorBytes ⌝ }
     ensures { λ r. ⌜ r ≡ eqb (at (wordsOf (now (s .entry))) 5) 1 ⌝ }
 {
-    crate::word::word_at(s, 5) == 1
+    word::word_at(s, 5) == 1
 }
 
 pub fn branch_count(s: &[u8]) -> u32
     requires { ⌜ length (now s) ≡ sectorBytes ⌝ }
     ensures { λ r. ⌜ r ≡ at (wordsOf (now (s .entry))) 6 ⌝ }
 {
-    crate::word::word_at(s, 6)
+    word::word_at(s, 6)
 }
 
 // Branch i: word 8 + i.
@@ -46,7 +50,7 @@ pub fn branch_at(s: &[u8], i: usize) -> u32
     requires { ⌜ i < branchRoom ⌝ }
     ensures { λ r. ⌜ r ≡ at (branchWords (wordsOf (now (s .entry)))) i ⌝ }
 {
-    crate::word::word_at(s, 8 + i)
+    word::word_at(s, 8 + i)
 }
 
 // Entry i of the piece: word 32 + i.
@@ -55,7 +59,7 @@ pub fn entry_at(s: &[u8], i: usize) -> u32
     requires { ⌜ i < entriesPerPiece ⌝ }
     ensures { λ r. ⌜ r ≡ at (entryWords (wordsOf (now (s .entry)))) i ⌝ }
 {
-    crate::word::word_at(s, 32 + i)
+    word::word_at(s, 32 + i)
 }
 
 fn fields_fit(
@@ -94,12 +98,12 @@ fn header_fits(s: &[u8], l: u32) -> bool
 {
     fields_fit(
         l,
-        crate::word::word_at(s, 2),
-        crate::word::word_at(s, 3),
-        crate::word::word_at(s, 4),
-        crate::word::word_at(s, 5),
-        crate::word::word_at(s, 6),
-        crate::word::word_at(s, 7),
+        word::word_at(s, 2),
+        word::word_at(s, 3),
+        word::word_at(s, 4),
+        word::word_at(s, 5),
+        word::word_at(s, 6),
+        word::word_at(s, 7),
     )
 }
 
@@ -110,12 +114,12 @@ fn branches_fit(s: &[u8], n: u32) -> bool
     requires { ⌜ at (wordsOf (now s)) 6 ≤ branchRoom ⌝ }
     ensures { λ r. ⌜ r ≡ branchesFit n (at (wordsOf (now (s .entry))) 6) (branchWords (wordsOf (now (s .entry)))) ⌝ }
 {
-    let count = crate::word::word_at(s, 6) as usize;
+    let count = word::word_at(s, 6) as usize;
     let end = 8 + count;
-    if !crate::word::words_within(s, 8, end, 1, n - 1) {
+    if !word::words_within(s, 8, end, 1, n - 1) {
         return false;
     }
-    crate::word::words_zero(s, end, 32)
+    word::words_zero(s, end, 32)
 }
 
 // Whether the entries past block l - 1 are zero.
@@ -124,11 +128,11 @@ fn entries_fit(s: &[u8], l: u32) -> bool
     requires { ⌜ at (wordsOf (now s)) 4 < piecesFor l ⌝ }
     ensures { λ r. ⌜ r ≡ all isZero (drop (l - entriesPerPiece * at (wordsOf (now (s .entry))) 4) (entryWords (wordsOf (now (s .entry))))) ⌝ }
 {
-    let held = l - Geometry::ENTRIES * crate::word::word_at(s, 4);
+    let held = l - Geometry::ENTRIES * word::word_at(s, 4);
     if Geometry::ENTRIES <= held {
         return true;
     }
-    crate::word::words_zero(s, 32 + held as usize, 128)
+    word::words_zero(s, 32 + held as usize, 128)
 }
 
 // Whether s is a map sector of a volume of n sectors and l blocks. Most sectors are decided by their first bytes.
@@ -137,10 +141,10 @@ pub fn is_valid(s: &[u8], n: u32, l: u32) -> bool
     requires { ⌜ 1 ≤ n ⌝ }
     ensures { λ r. ⌜ r ≡ valid n l (now (s .entry)) (wordsOf (now (s .entry))) ⌝ }
 {
-    if !crate::mark::starts_with(s, &crate::mark::MAP_MARK) {
+    if !mark::starts_with(s, &mark::MAP_MARK) {
         return false;
     }
-    if crate::sum::word_sum(s) != 0 {
+    if sum::word_sum(s) != 0 {
         return false;
     }
     if !header_fits(s, l) {
@@ -177,10 +181,10 @@ pub fn put_map(
 {
     let count = branches.len();
     let head = [0u32, number, 0, piece, kind_of(closing), count as u32, l];
-    crate::mark::put_mark(s, &crate::mark::MAP_MARK);
-    crate::word::put_words(s, 1, &head);
-    crate::word::put_words(s, 8, branches);
-    crate::word::put_zeros(s, 8 + count, 24 - count);
-    crate::word::put_words(s, 32, entries);
-    crate::sum::put_balance(s);
+    mark::put_mark(s, &mark::MAP_MARK);
+    word::put_words(s, 1, &head);
+    word::put_words(s, 8, branches);
+    word::put_zeros(s, 8 + count, 24 - count);
+    word::put_words(s, 32, entries);
+    sum::put_balance(s);
 }

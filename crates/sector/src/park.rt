@@ -5,6 +5,9 @@ ghost use Rattle.types.specs.Geometry.{sectorBytes};
 ghost use Rattle.volume.specs.Bounded.{at};
 ghost use Rattle.volume.specs.Word.{wordsOf};
 ghost use Rattle.volume.specs.ParkRecord.{parkRecord, isParkRecord};
+use crate::mark;
+use crate::sum;
+use crate::word;
 
 // Fills s with a park record.
 pub fn put_park(s: &mut [u8], number: u32, tail: u32)
@@ -12,10 +15,10 @@ pub fn put_park(s: &mut [u8], number: u32, tail: u32)
     ensures { λ _. ⌜ now (s .exit) ≡ parkRecord (record { number = number; tail = tail }) ⌝ }
 {
     let words = [0u32, number, tail];
-    crate::mark::put_mark(s, &crate::mark::PARK_MARK);
-    crate::word::put_words(s, 1, &words);
-    crate::word::put_zeros(s, 4, 124);
-    crate::sum::put_balance(s);
+    mark::put_mark(s, &mark::PARK_MARK);
+    word::put_words(s, 1, &words);
+    word::put_zeros(s, 4, 124);
+    sum::put_balance(s);
 }
 
 // Whether s is laid out as a park record.
@@ -23,13 +26,13 @@ pub fn is_park(s: &[u8]) -> bool
     requires { ⌜ length (now s) ≡ sectorBytes ⌝ }
     ensures { λ r. ⌜ r ≡ isParkRecord (now (s .entry)) (wordsOf (now (s .entry))) ⌝ }
 {
-    if !crate::mark::starts_with(s, &crate::mark::PARK_MARK) {
+    if !mark::starts_with(s, &mark::PARK_MARK) {
         return false;
     }
-    if crate::sum::word_sum(s) != 0 {
+    if sum::word_sum(s) != 0 {
         return false;
     }
-    crate::word::words_zero(s, 4, 128)
+    word::words_zero(s, 4, 128)
 }
 
 // The tail's number.
@@ -37,7 +40,7 @@ pub fn parked_number(s: &[u8]) -> u32
     requires { ⌜ length (now s) ≡ sectorBytes ⌝ }
     ensures { λ r. ⌜ r ≡ at (wordsOf (now (s .entry))) 2 ⌝ }
 {
-    crate::word::word_at(s, 2)
+    word::word_at(s, 2)
 }
 
 // The tail's sector.
@@ -45,5 +48,5 @@ pub fn parked_tail(s: &[u8]) -> u32
     requires { ⌜ length (now s) ≡ sectorBytes ⌝ }
     ensures { λ r. ⌜ r ≡ at (wordsOf (now (s .entry))) 3 ⌝ }
 {
-    crate::word::word_at(s, 3)
+    word::word_at(s, 3)
 }

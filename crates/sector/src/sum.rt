@@ -4,6 +4,7 @@ ghost use Prim.Native.Nat.{_≤_};
 ghost use lib.ListN.{length};
 ghost use lib.Seq.{sets};
 ghost use Rattle.volume.specs.Word.{wordBytes, wordsOf, wordSum, balance};
+use crate::word;
 
 pub fn word_sum(s: &[u8]) -> u32
     ensures { λ r. ⌜ r ≡ wordSum (wordsOf (now (s .entry))) ⌝ }
@@ -12,7 +13,7 @@ pub fn word_sum(s: &[u8]) -> u32
     let mut sum: u32 = 0;
     let mut k = 0;
     while k < n {
-        sum = std::num::wrapping_add_u32(sum, crate::word::word_at(s, k));
+        sum = std::num::wrapping_add_u32(sum, word::word_at(s, k));
         k += 1;
     }
     sum
@@ -31,5 +32,5 @@ pub fn put_balance(s: &mut [u8])
     ensures { λ _. ⌜ now (s .exit) ≡ sets (now (s .entry)) 4 (wordBytes (balance (wordSum (wordsOf (now (s .entry)))))) ⌝ }
 {
     let sum = word_sum(s);
-    crate::word::put_word(s, 1, balance_of(sum));
+    word::put_word(s, 1, balance_of(sum));
 }
