@@ -1,0 +1,2 @@
+-- Laws of the definitions that the proofs of the calls cite.
+pub mod ReadLaws
