@@ -10,4 +10,3 @@ pub mod Balanced
 pub mod Parks
 pub mod Maps
 pub mod Encoding
-pub mod Codec

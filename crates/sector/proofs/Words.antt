@@ -1,14 +1,14 @@
 -- Words and bytes: where a word's bytes stand, what is made of bytes that words gave, and lengths.
-use Prim.Native.Nat.{ℕ, zero, suc, _+_, _*_, _/_, _%_, _^_, _≤_, _<_}
+use Prim.Native.Nat.{ℕ, zero, suc, _+_, _*_, _/_, _^_, _≤_, _<_}
 use mathlib.Core.Path.{_≡_, refl, sym, ap, _∙_}
 use mathlib.Core.List.{List, [], _∷_, _++_}
 use native.Mathlib.Omega.{arith}
 use native.Mathlib.Numerals.{add-one}
-use native.Mathlib.Nat.{div-div-eq-div-mul, div-add-mod, mod-eq-of-lt}
 use lib.ListN.{length, take, replicate, length-replicate, replicate-append-replicate}
 use lib.Seq.{sets, take-suc, length-take-le}
 use Rattle.volume.specs.Bounded.{at}
 use Rattle.volume.specs.Word.{word, wordBytes, wordsOf, bytesOf}
+use Rattle.volume.proofs.Codec.{word-bytes}
 use Rattle.sector.proofs.Runs.{sets-append}
 
 -- Every number of the list is a byte, or a word. (Past the end stands 0.)
@@ -61,25 +61,10 @@ length-wordsOf (a ∷ b ∷ []) = refl
 length-wordsOf (a ∷ b ∷ c ∷ []) = refl
 length-wordsOf (a ∷ b ∷ c ∷ d ∷ bs) = let e : length (wordsOf bs) ≡ length bs / 4 = length-wordsOf bs in omega arith
 
-sum-up : (a b c d w x y z : ℕ) → 256 * x + a ≡ w → 256 * y + b ≡ x → 256 * z + c ≡ y → d ≡ z → word a b c d ≡ w
-sum-up a b c d w x y z p q r s = omega arith
-
--- The four bytes of a word give it back.
-pub word-wordBytes : (w : ℕ) → w < 2 ^ 32 → word (w % 256) (w / 256 % 256) (w / 65536 % 256) (w / 16777216 % 256) ≡ w
-word-wordBytes w h =
-    let e₂ : w / 65536 ≡ w / 256 / 256 = sym (div-div-eq-div-mul w 256 256) in
-    let e₃ : w / 16777216 ≡ w / 65536 / 256 = sym (div-div-eq-div-mul w 65536 256) in
-    let top : w / 16777216 < 256 = omega arith in
-    let d₁ = div-add-mod w 256 in
-    let d₂ : 256 * (w / 65536) + w / 256 % 256 ≡ w / 256 = rw e₂ (div-add-mod (w / 256) 256) in
-    let d₃ : 256 * (w / 16777216) + w / 65536 % 256 ≡ w / 65536 = rw e₃ (div-add-mod (w / 65536) 256) in
-    let d₄ : w / 16777216 % 256 ≡ w / 16777216 = mod-eq-of-lt top in
-    sum-up (w % 256) (w / 256 % 256) (w / 65536 % 256) (w / 16777216 % 256) w (w / 256) (w / 65536) (w / 16777216) d₁ d₂ d₃ d₄
-
 pub words-of-bytes : (ws : List ℕ) → Words ws → wordsOf (bytesOf ws) ≡ ws
 unfolding bytesOf wordsOf
 words-of-bytes [] h = refl
-words-of-bytes (w ∷ ws) h = rw (word-wordBytes w (h 0), words-of-bytes ws (λ i. h (suc i)))
+words-of-bytes (w ∷ ws) h = rw (word-bytes w (h 0), words-of-bytes ws (λ i. h (suc i)))
 
 pub bytes-append : (xs ys : List ℕ) → bytesOf (xs ++ ys) ≡ bytesOf xs ++ bytesOf ys
 unfolding bytesOf

@@ -25,7 +25,7 @@ use Rattle.volume.proofs.Bounded.{bool?, and-l, and-r, and-i, cond-true
 abbrev pub isWord : ℕ → Bool
 isWord w = ltb w (2 ^ 32)
 
-word-bytes : (w : ℕ) → w < 2 ^ 32 → word (w % 256) (w / 256 % 256) (w / 65536 % 256) (w / 16777216 % 256) ≡ w
+pub word-bytes : (w : ℕ) → w < 2 ^ 32 → word (w % 256) (w / 256 % 256) (w / 65536 % 256) (w / 16777216 % 256) ≡ w
 word-bytes w h =
     let b : w / 256 / 256 ≡ w / 65536 = div-div-eq-div-mul w 256 256 in
     let c : w / 256 / 256 / 256 ≡ w / 16777216 = ap (λ (x : ℕ). x / 256) b ∙ div-div-eq-div-mul w 65536 256 in
