@@ -1,2 +1,3 @@
 -- Laws of the definitions that the proofs of the calls cite.
 pub mod ReadLaws
+pub mod Storing

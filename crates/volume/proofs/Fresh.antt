@@ -26,7 +26,7 @@ use Rattle.volume.proofs.Stores.{Outcome, applied-cases, applied-skip, 
 use Rattle.volume.proofs.Invariant.{Fits, Ground, Settled, some-pieces, view-at, view-below}
 use Rattle.volume.proofs.Members.{entries-count, entries-words, entries-past-l}
 
-applied-append : (xs ys : List Store) (image : ℕ → List ℕ) → applied (xs ++ ys) image ≡ applied ys (applied xs image)
+pub applied-append : (xs ys : List Store) (image : ℕ → List ℕ) → applied (xs ++ ys) image ≡ applied ys (applied xs image)
 unfolding applied
 applied-append [] ys image = refl
 applied-append (x ∷ xs) ys image = applied-append xs ys (updated image (x .sector) (x .bytes))

@@ -89,11 +89,11 @@ applied-at ss image s a f =
     ⊎-elim (λ w. absurd (w .1 s a refl)) (λ w. w .3 ∙ f (w .0) (w .1) (w .2)) (applied-cases ss image (s .sector))
 
 module _ (which : ℕ → Bool) (store : ℕ → Store) where
-  below-hit : (n : ℕ) → which n ≡ true → storesBelow which store (suc n) ≡ storesBelow which store n ++ (store n ∷ [])
+  pub below-hit : (n : ℕ) → which n ≡ true → storesBelow which store (suc n) ≡ storesBelow which store n ++ (store n ∷ [])
   unfolding storesBelow
   below-hit n e = cond-true (which n) (storesBelow which store n ++ (store n ∷ [])) (storesBelow which store n) e
 
-  below-miss : (n : ℕ) → which n ≡ false → storesBelow which store (suc n) ≡ storesBelow which store n
+  pub below-miss : (n : ℕ) → which n ≡ false → storesBelow which store (suc n) ≡ storesBelow which store n
   unfolding storesBelow
   below-miss n e = cond-false (which n) (storesBelow which store n ++ (store n ∷ [])) (storesBelow which store n) e
 

@@ -1,0 +1,31 @@
+// The stores of a format: zeros in every sector, then a fresh map.
+ghost use mathlib.Core.Path.{_≡_};
+ghost use Prim.Native.Nat.{_*_, _≤_, _<_};
+ghost use lib.ListN.{length, take};
+ghost use Rattle.types.specs.Geometry.{sectorBytes, piecesFor};
+ghost use Rattle.volume.specs.Bounded.{always, countBelow};
+ghost use Rattle.volume.specs.Tables.{sectorAt};
+ghost use Rattle.volume.specs.Store.{applied, storesBelow};
+ghost use Rattle.volume.specs.Format.{blankStore, pieceStore};
+ghost use Rattle.vlog.specs.Power.{powered};
+use crate::power::Power;
+use sector::image;
+use types::geometry::Geometry;
+
+// Zeros in sectors 0 to n - 1, ascending.
+pub fn blank_sectors(image: &mut [u8], n: u32, allowance: u32) -> Power
+    requires { ⌜ sectorBytes * n ≤ length (now image) ⌝ }
+    ensures { λ r. ⌜ (r ≡ powered (countBelow always n) allowance) × (sectorAt (now (image .exit)) ≡ applied (take allowance (storesBelow always blankStore n)) (sectorAt (now (image .entry)))) ⌝ }
+{
+    let mut left = allowance;
+    let mut k: u32 = 0;
+    while k < n {
+        if left == 0 {
+            return Power::Failed;
+        }
+        image::blank_sector(image, k as usize);
+        left -= 1;
+        k += 1;
+    }
+    Power::Left(left)
+}
