@@ -1,3 +1,4 @@
 -- Laws of the definitions that the proofs of the calls cite.
 pub mod ReadLaws
 pub mod Storing
+pub mod FormatLaws

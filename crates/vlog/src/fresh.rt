@@ -1,9 +1,9 @@
 // The stores of a format: zeros in every sector, then a fresh map.
 ghost use mathlib.Core.Path.{_≡_};
-ghost use Prim.Native.Nat.{_*_, _≤_, _<_};
+ghost use Prim.Native.Nat.{_+_, _*_, _≤_, _<_};
 ghost use lib.ListN.{length, take};
 ghost use Rattle.types.specs.Geometry.{sectorBytes, piecesFor};
-ghost use Rattle.volume.specs.Bounded.{always, countBelow};
+ghost use Rattle.volume.specs.Bounded.{always, countBelow, updated};
 ghost use Rattle.volume.specs.Tables.{sectorAt};
 ghost use Rattle.volume.specs.Store.{applied, storesBelow};
 ghost use Rattle.volume.specs.Format.{blankStore, pieceStore};
@@ -28,4 +28,39 @@ pub fn blank_sectors(image: &mut [u8], n: u32, allowance: u32) -> Power
         k += 1;
     }
     Power::Left(left)
+}
+
+// Piece p of a fresh map goes into sector p + 1 with number p + 1. Each after the first has one branch, to the one before.
+fn store_piece(image: &mut [u8], l: u32, pieces: u32, p: u32)
+    requires { ⌜ pieces ≡ piecesFor l ⌝ }
+    requires { ⌜ p < 256 ⌝ }
+    requires { ⌜ sectorBytes * p + 1024 ≤ length (now image) ⌝ }
+    ensures { λ _. ⌜ sectorAt (now (image .exit)) ≡ updated (sectorAt (now (image .entry))) (p + 1) (pieceStore l p .bytes) ⌝ }
+{
+    let entries = [0u32; 96];
+    let branches = [p];
+    let number = p + 1;
+    if p == 0 {
+        image::store_map(
+            image,
+            number as usize,
+            l,
+            number,
+            p,
+            number == pieces,
+            &branches[..0],
+            &entries,
+        );
+        return;
+    }
+    image::store_map(
+        image,
+        number as usize,
+        l,
+        number,
+        p,
+        number == pieces,
+        &branches[..1],
+        &entries,
+    );
 }
