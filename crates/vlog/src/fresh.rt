@@ -10,7 +10,6 @@ ghost use Rattle.volume.specs.Format.{blankStore, pieceStore};
 ghost use Rattle.vlog.specs.Power.{powered};
 use crate::power::Power;
 use sector::image;
-use types::geometry::Geometry;
 
 // Zeros in sectors 0 to n - 1, ascending.
 pub fn blank_sectors(image: &mut [u8], n: u32, allowance: u32) -> Power
@@ -63,4 +62,24 @@ fn store_piece(image: &mut [u8], l: u32, pieces: u32, p: u32)
         &branches[..1],
         &entries,
     );
+}
+
+// The pieces of a fresh map, ascending; only the last one closes.
+pub fn store_pieces(image: &mut [u8], l: u32, pieces: u32, allowance: u32) -> Power
+    requires { ⌜ pieces ≡ piecesFor l ⌝ }
+    requires { ⌜ pieces ≤ 256 ⌝ }
+    requires { ⌜ sectorBytes * pieces + sectorBytes ≤ length (now image) ⌝ }
+    ensures { λ r. ⌜ (r ≡ powered (countBelow always pieces) allowance) × (sectorAt (now (image .exit)) ≡ applied (take allowance (storesBelow always (pieceStore l) pieces)) (sectorAt (now (image .entry)))) ⌝ }
+{
+    let mut left = allowance;
+    let mut p: u32 = 0;
+    while p < pieces {
+        if left == 0 {
+            return Power::Failed;
+        }
+        store_piece(image, l, pieces, p);
+        left -= 1;
+        p += 1;
+    }
+    Power::Left(left)
 }

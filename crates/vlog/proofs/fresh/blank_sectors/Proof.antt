@@ -10,9 +10,6 @@ use Rattle.volume.specs.Format.{blankStore}
 use Rattle.vlog.proofs.Storing.{Storing, storing-starts, storing-stores, storing-fails, storing-ends, positive}
 use Rattle.vlog.proofs.fresh.blank_sectors.Statement.{statement}
 use Rattle.vlog.proofs.fresh.blank_sectors.Tie as tie
-use Rattle.vlog.proofs.fresh.blank_sectors.Reads as reads
-use Rattle.vlog.proofs.fresh.blank_sectors.Lts as lts
-use Rattle.sector.proofs.image.blank_sector.Reads as blank-sector-reads
 
 abbrev Inv-loop : tie.InvT-loop
 Inv-loop image₀ n allowance left₀ k₀ image left k =
@@ -21,15 +18,12 @@ Inv-loop image₀ n allowance left₀ k₀ image left k =
 abbrev μ-loop : tie.MeasureT-loop
 μ-loop image₀ n allowance left₀ k₀ image left k = n - k
 
--- src/fresh.rt:22:5
 loop-holds : tie.Need-loop-holds Inv-loop μ-loop
 loop-holds c = (omega arith, refl, storing-starts always blankStore (sectorAt (c .before .args .image .now)) (c .before .args .allowance))
 
--- src/fresh.rt:24:13
 same-length : tie.Need-same-length Inv-loop μ-loop
 same-length c = c .before .before .loop .inv .1
 
--- src/fresh.rt:24:13
 returns : tie.Need-returns Inv-loop μ-loop
 returns c =
     let a = c .before .before .before .before .args in
@@ -37,11 +31,9 @@ returns c =
     storing-fails always blankStore (sectorAt (a .image .now)) (a .allowance) (l .k) (a .n) (sectorAt (l .image)) (c .before .loop-test .taken) refl
     (subst (λ (x : ℕ). Storing always blankStore (sectorAt (a .image .now)) (a .allowance) (l .k) x (sectorAt (l .image))) (c .if1 .taken) (l .inv .2))
 
--- src/fresh.rt:26:36
 cast-blank-sector : tie.Need-cast-blank-sector Inv-loop μ-loop
 cast-blank-sector c = omega arith
 
--- src/fresh.rt:26:9
 blank-sector-requires : tie.Need-blank-sector-requires Inv-loop μ-loop
 blank-sector-requires c κs =
     let l = c .before .before .before .loop in
@@ -50,34 +42,30 @@ blank-sector-requires c κs =
     let e = l .inv .1 in
     omega arith
 
--- src/fresh.rt:27:9
 sub-left : tie.Need-sub-left Inv-loop μ-loop
 sub-left c = positive (c .before .before .before .before .before .before .loop .left) (c .before .before .before .before .if1 .left)
 
--- src/fresh.rt:28:9
 add-k : tie.Need-add-k Inv-loop μ-loop
 add-k c = omega arith
 
--- src/fresh.rt:22:5
 loop-less : tie.Need-loop-less Inv-loop μ-loop
 loop-less c = omega arith
 
--- src/fresh.rt:22:5
 loop-again : tie.Need-loop-again Inv-loop μ-loop
 loop-again c =
     let a = c .before .before .before .before .before .before .before .before .args in
     let l = c .before .before .before .before .before .before .loop in
-    let t = c .before .before .before .before .before .loop-test .taken in
-    (omega arith, c .before .before .blank-sector .kept .0 ∙ l .inv .1,
+    let t = c .before .before .before .before .before .loop-test .taken in (
+      omega arith,
+      c .before .before .blank-sector .kept .0 ∙ l .inv .1,
       rw add-one
-      (storing-stores always blankStore (sectorAt (a .image .now)) (a .allowance) (l .k) (l .left) (sectorAt (l .image)) _ refl
-      (positive (l .left) (c .before .before .before .before .if1 .left)) (l .inv .2) (c .before .before .blank-sector .ensures)))
+          (storing-stores always blankStore (sectorAt (a .image .now)) (a .allowance) (l .k) (l .left) (sectorAt (l .image)) _ refl
+          (positive (l .left) (c .before .before .before .before .if1 .left)) (l .inv .2) (c .before .before .blank-sector .ensures)),
+    )
 
--- src/fresh.rt:16:1
 same-length-2 : tie.Need-same-length-2 Inv-loop μ-loop
 same-length-2 c = c .before .loop .inv .1
 
--- src/fresh.rt:16:1
 returns-2 : tie.Need-returns-2 Inv-loop μ-loop
 returns-2 c =
     let a = c .before .before .before .args in

@@ -8,66 +8,49 @@ use Rattle.vlog.proofs.FormatLaws.{piece-made, no-branch, one-branch}
 use borrow.Author.Needs.{needs}
 use Rattle.vlog.proofs.fresh.store_piece.Statement.{statement}
 use Rattle.vlog.proofs.fresh.store_piece.Tie as tie
-use Rattle.vlog.proofs.fresh.store_piece.Reads as reads
-use Rattle.vlog.proofs.fresh.store_piece.Lts as lts
-use Rattle.sector.proofs.image.store_map.Reads as store-map-reads
 
--- src/fresh.rt:42:18
 add-number : tie.Need-add-number
 add-number c = search needs
 
--- src/fresh.rt:46:13
 cast-store-map : tie.Need-cast-store-map
 cast-store-map c = search needs
 
--- src/fresh.rt:51:13
 array-share-prefix-branches : tie.Need-array-share-prefix-branches
 array-share-prefix-branches c = search needs
 
--- src/fresh.rt:51:13
 slice-aggregate-store-map : tie.Need-slice-aggregate-store-map
 slice-aggregate-store-map c = search needs
 
--- src/fresh.rt:52:13
 slice-aggregate-store-map-2 : tie.Need-slice-aggregate-store-map-2
 slice-aggregate-store-map-2 c = search needs
 
--- src/fresh.rt:44:9
 store-map-requires : tie.Need-store-map-requires
 store-map-requires c κs = search needs
 
--- src/fresh.rt:54:9
 same-length : tie.Need-same-length
 same-length c = search needs
 
--- src/fresh.rt:54:9
 returns : tie.Need-returns
 returns c =
     let a = c .before .before .before .before .before .before .before .before .args in
     c .before .before .store-map .ensures
     ∙ ap (updated (sectorAt (a .image .now)) (a .p + 1)) (piece-made (a .l) (a .p) (a .pieces) [] (c .before .before .before .before .before .before .before .before .pre .0) (no-branch (a .p) (c .before .before .before .before .before .before .if1 .taken)))
 
--- src/fresh.rt:58:9
 cast-store-map-2 : tie.Need-cast-store-map-2
 cast-store-map-2 c = search needs
 
--- src/fresh.rt:63:9
 slice-aggregate-store-map-3 : tie.Need-slice-aggregate-store-map-3
 slice-aggregate-store-map-3 c = search needs
 
--- src/fresh.rt:64:9
 slice-aggregate-store-map-4 : tie.Need-slice-aggregate-store-map-4
 slice-aggregate-store-map-4 c = search needs
 
--- src/fresh.rt:56:5
 store-map-requires-2 : tie.Need-store-map-requires-2
 store-map-requires-2 c κs = search needs
 
--- src/fresh.rt:34:1
 same-length-2 : tie.Need-same-length-2
 same-length-2 c = search needs
 
--- src/fresh.rt:34:1
 returns-2 : tie.Need-returns-2
 returns-2 c =
     let a = c .before .before .before .before .before .before .before .before .args in
