@@ -1,0 +1,2 @@
+// Code on the lent tables.
+pub mod fill;
