@@ -1,2 +1,3 @@
 // Code on the lent tables.
+pub mod bits;
 pub mod fill;

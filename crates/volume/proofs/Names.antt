@@ -123,7 +123,7 @@ pub record Sound (n l : ℕ) (t : Tables) (tail number : ℕ) : Type 0 where
   pub tail-is : tail ≡ t .place (best (t .number) (piecesFor l))
   pub number-is : number ≡ t .number (best (t .number) (piecesFor l))
 
-beq-true : (a b : Bool) → Bool·beq a b ≡ true → a ≡ b
+pub beq-true : (a b : Bool) → Bool·beq a b ≡ true → a ≡ b
 beq-true true true e = refl
 beq-true true false e = absurd (true≢false (sym e))
 beq-true false true e = absurd (true≢false (sym e))
