@@ -1,22 +1,17 @@
 -- A map sector as code stores it, the words in order with zero for the balance and then the balance, and as it is read back.
 use Prim.Native.Nat.{ℕ, zero, suc, _+_, _*_, _-_, _^_, _≤_, _<_}
 use mathlib.Core.Bool.{Bool, true, false}
-use mathlib.Core.Path.{_≡_, refl, sym, ap, _∙_}
-use mathlib.Core.Option.{some}
+use mathlib.Core.Path.{_≡_, refl, ap, _∙_}
 use mathlib.Core.List.{List, [], _∷_, _++_, append-assoc}
 use native.Mathlib.Omega.{arith}
-use lib.ListN.{length, take, drop, replicate, length-append, length-replicate}
-use lib.Seq.{sets, take-at, drop-at, take-append-seam, drop-append-seam}
+use lib.ListN.{length, replicate, length-append, length-replicate}
+use lib.Seq.{sets}
 use lib.Dec.{eqb, leb}
-use borrow.Author.Tests.{le-leb, lt-ltb, eq-eqb}
-use Rattle.types.specs.Geometry.{within, piecesFor, entriesPerPiece}
-use Rattle.volume.specs.Bounded.{at, all, isZero}
-use Rattle.volume.specs.Word.{word, wordBytes, wordsOf, bytesOf, wordSum, balance, startsWith}
-use Rattle.volume.specs.MapSector.{mapMark, MapSector, kindOf, encoded, branchWords, entryWords, branchesFit, fields, valid, decoded}
-use Rattle.sector.specs.Header.{fieldsFit, headerFits}
+use Rattle.volume.specs.Bounded.{all, isZero}
+use Rattle.volume.specs.Word.{word, wordBytes, wordsOf, bytesOf, wordSum, balance}
+use Rattle.volume.specs.MapSector.{mapMark, MapSector, kindOf, encoded}
 use Rattle.sector.proofs.Words.{Words, words-cons, words-both, words-zeros}
-use Rattle.sector.proofs.Maps.{valid-entries}
-use Rattle.sector.proofs.Balanced.{laid-first, laid-next, sealed, balanced-length, balanced-starts, balanced-words, balanced-sum}
+use Rattle.sector.proofs.Balanced.{laid-first, laid-next, sealed, balanced-length}
 
 kind-bounded : (closing : Bool) → kindOf closing < 2 ^ 32
 kind-bounded true = omega arith
@@ -93,76 +88,6 @@ module _ (l number piece : ℕ) (closing : Bool) (branches entries : List ℕ) (
   abbrev sector : MapSector
   sector = record { number = number; piece = piece; closing = closing; branches = branches; entries = entries }
 
-  -- All 128 words, given the balance.
-  full : ℕ → List ℕ
-  full b = word 0x56 0x4C 0x4D 0x31 ∷ b ∷ words
-
   pub encoded-length : length (encoded l sector) ≡ 512
   unfolding encoded words spare
   encoded-length = balanced-length mapMark words refl ∙ ap (λ (n : ℕ). 4 * (2 + n)) words-long
-
-  encoded-words : Words words → wordsOf (encoded l sector) ≡ full (balance (wordSum (wordsOf mapMark ++ words)))
-  unfolding encoded full wordsOf words spare
-  encoded-words h = balanced-words mapMark words refl h
-
-  encoded-starts : startsWith mapMark (encoded l sector) ≡ true
-  unfolding encoded words spare
-  encoded-starts = balanced-starts mapMark words refl
-
-  encoded-sum : Words words → wordSum (wordsOf (encoded l sector)) ≡ 0
-  unfolding encoded words spare
-  encoded-sum h = balanced-sum mapMark words refl h
-
-  used-and-spare : take 24 (branches ++ (spare ++ entries)) ≡ branches ++ spare
-  unfolding spare
-  used-and-spare =
-      let e : length (branches ++ spare) ≡ 24 = simp (length-append, length-replicate) (omega arith) in
-      ap (take 24) (sym (append-assoc branches spare entries)) ∙ take-at (branches ++ spare) entries 24 e
-
-  after-branches : drop 24 (branches ++ (spare ++ entries)) ≡ entries
-  unfolding spare
-  after-branches =
-      let e : length (branches ++ spare) ≡ 24 = simp (length-append, length-replicate) (omega arith) in
-      ap (drop 24) (sym (append-assoc branches spare entries)) ∙ drop-at (branches ++ spare) entries 24 e
-
-  zeros-spare : all isZero spare ≡ true
-  unfolding spare
-  zeros-spare = zeros (24 - length branches)
-
-  full-header : (b : ℕ) → 1 ≤ number → piece < piecesFor l → headerFits l (full b) ≡ true
-  unfolding headerFits fieldsFit full words
-  full-header b hn hp = rw (le-leb 1 number hn, lt-ltb piece (piecesFor l) hp, kind-low closing, le-leb (length branches) 24 few, eq-eqb l l refl)
-
-  full-branches : (b n : ℕ) → all (within 1 (n - 1)) branches ≡ true → branchesFit n (at (full b) 6) (branchWords (full b)) ≡ true
-  unfolding branchesFit full words
-  full-branches b n h =
-      let used : take (length branches) (branches ++ spare) ≡ branches = take-append-seam branches spare in
-      let rest : drop (length branches) (branches ++ spare) ≡ spare = drop-append-seam branches spare in
-      rw (used-and-spare, used, rest, h) (zeros-spare)
-
-  full-entries : (b : ℕ) → all isZero (drop (l - entriesPerPiece * piece) entries) ≡ true
-      → all isZero (drop (l - entriesPerPiece * at (full b) 4) (entryWords (full b))) ≡ true
-  unfolding full words
-  full-entries b h = ap (λ (e : List ℕ). all isZero (drop (l - entriesPerPiece * piece) e)) after-branches ∙ h
-
-  full-fields : (b : ℕ) → fields (full b) ≡ sector
-  unfolding full words
-  full-fields b =
-      let used : take (length branches) (take 24 (branches ++ (spare ++ entries))) ≡ branches = ap (take (length branches)) used-and-spare ∙ take-append-seam branches spare in
-      rw (kind-back closing, used, after-branches)
-
-  full-valid : (n b : ℕ) (bs : List ℕ) → startsWith mapMark bs ≡ true → isZero (wordSum (full b)) ≡ true → 1 ≤ number → piece < piecesFor l
-      → all (within 1 (n - 1)) branches ≡ true → all isZero (drop (l - entriesPerPiece * piece) entries) ≡ true → valid n l bs (full b) ≡ true
-  full-valid n b bs t z hn hp hb he = valid-entries n l bs (full b) t z (full-header b hn hp) (full-branches b n hb) ∙ full-entries b he
-
-  -- A map sector says what it was made of.
-  pub decoded-encoded : (n : ℕ) → l < 2 ^ 32 → 1 ≤ number → number < 2 ^ 32 → piece < piecesFor l → Words branches → Words entries
-      → all (within 1 (n - 1)) branches ≡ true → all isZero (drop (l - entriesPerPiece * piece) entries) ≡ true
-      → decoded n l (encoded l sector) ≡ some sector
-  unfolding decoded
-  decoded-encoded n hl low high hp wb we hb he =
-      let b : ℕ = balance (wordSum (wordsOf mapMark ++ words)) in
-      let fit : Words words = words-fit hl high (omega arith) wb we in
-      let e : wordsOf (encoded l sector) ≡ full b = encoded-words fit in
-      let v : valid n l (encoded l sector) (full b) ≡ true = full-valid n b (encoded l sector) encoded-starts (ap (λ (ws : List ℕ). isZero (wordSum ws)) (sym e) ∙ ap isZero (encoded-sum fit)) low hp hb he in
-      rw (e, v) (ap some (full-fields b))

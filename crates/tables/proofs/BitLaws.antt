@@ -1,19 +1,20 @@
 -- Setting a bit of a byte, as a table of all bytes and bits that is computed once, and of a used map.
-use Prim.Native.Nat.{ℕ, _*_, _/_, _-_, _%_, _^_, _<_}
+use Prim.Native.Nat.{ℕ, _+_, _*_, _-_, _/_, _%_, _^_, _≤_, _<_}
 use mathlib.Core.Path.{_≡_, refl, sym, _∙_, ap, fun-ext}
 use mathlib.Core.Logic.{⊎-elim}
-use mathlib.Core.Bool.{Bool, true, false, cond, Bool·beq}
+use mathlib.Core.Bool.{Bool, true, false, cond, Bool·beq, not}
 use mathlib.Core.List.{List}
 use native.Mathlib.Nat.{div-add-mod}
+use native.Mathlib.Numerals.{add-one}
 use native.Mathlib.Omega.{arith}
 use lib.ListN.{length, getD, set}
 use lib.Seq.{getD-set-same, getD-set-other}
 use lib.Bits.{bitOr, bitAnd}
 use lib.Dec.{eqb}
 use borrow.Author.Tests.{eq-eqb, ne-eqb}
-use Rattle.volume.specs.Bounded.{allBelow, updated}
-use Rattle.volume.specs.Tables.{bitAt}
-use Rattle.volume.proofs.Bounded.{eq?, allBelow-at, cond-true, cond-false}
+use Rattle.volume.specs.Bounded.{allBelow, countBelow, updated}
+use Rattle.volume.specs.Tables.{bitAt, freeSectors}
+use Rattle.volume.proofs.Bounded.{eq?, allBelow-at, cond-true, cond-false, count-le, count-hit, count-miss}
 use Rattle.volume.proofs.Names.{beq-true}
 
 -- A byte in which bit i is put to a value: seen at bit j it is that value at i, and as before elsewhere.
@@ -85,3 +86,20 @@ pub bit-clear : (us : List ℕ) (k : ℕ) → k < 8 * length us → getD us (k /
 unfolding clearing
 bit-clear us k h b =
     put-bit us k (clearing (getD us (k / 8) 0) (k % 8)) false h (tried-put clearing false clear-table (getD us (k / 8) 0) (k % 8) b (omega arith))
+
+-- Free sectors counted, one more at a time.
+pub free-none : (us : List ℕ) → 0 ≡ freeSectors 0 (bitAt us)
+unfolding freeSectors countBelow
+free-none us = refl
+
+pub free-le : (k : ℕ) (us : List ℕ) → freeSectors k (bitAt us) ≤ k
+unfolding freeSectors
+free-le k us = count-le (λ j. not (bitAt us j)) k
+
+pub free-hit : (k : ℕ) (us : List ℕ) (b : Bool) → b ≡ bitAt us k → not b ≡ true → freeSectors k (bitAt us) + 1 ≡ freeSectors (k + 1) (bitAt us)
+unfolding freeSectors
+free-hit k us b e f = rw (add-one, add-one) (sym (count-hit (λ j. not (bitAt us j)) k (ap not (sym e) ∙ f)))
+
+pub free-miss : (k : ℕ) (us : List ℕ) (b : Bool) → b ≡ bitAt us k → not b ≡ false → freeSectors k (bitAt us) ≡ freeSectors (k + 1) (bitAt us)
+unfolding freeSectors
+free-miss k us b e f = rw add-one (sym (count-miss (λ j. not (bitAt us j)) k (ap not (sym e) ∙ f)))
