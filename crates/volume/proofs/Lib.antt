@@ -1,4 +1,5 @@
--- The samples of document 01 as theorems, and the rows that pin what they leave open.
+-- Laws of the definitions; whole histories, from the invariant to the theorem in History; the samples of document 01 as theorems, and
+-- the rows that pin what they leave open.
 pub mod Bounded
 pub mod Codec
 pub mod Names
