@@ -39,6 +39,10 @@ pub record Memory : Type 0 where
   pub image : ℕ → List ℕ
   pub tables : Tables
 
+-- The tables that lent slices hold: map words, live places, live numbers and the used map.
+abbrev pub tablesOf : List ℕ → List ℕ → List ℕ → List ℕ → Tables
+tablesOf map places numbers used = record { entry = at map; place = at places; number = at numbers; isUsed = bitAt used }
+
 -- What the lent slices hold.
 unfoldable pub memory : List ℕ → List ℕ → List ℕ → List ℕ → List ℕ → Memory
 memory image map places numbers used =
@@ -51,7 +55,7 @@ memory image map places numbers used =
         used = length used;
       };
       image = sectorAt image;
-      tables = record { entry = at map; place = at places; number = at numbers; isUsed = bitAt used };
+      tables = tablesOf map places numbers used;
     }
 
 -- Tables filled with zeros.
