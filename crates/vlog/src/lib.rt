@@ -1,5 +1,8 @@
 // The calls of the virtual log volume.
 pub mod checks;
+pub mod format;
 pub mod fresh;
+pub mod lent;
 pub mod power;
 pub mod read;
+pub mod size;
