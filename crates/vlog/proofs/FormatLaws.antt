@@ -21,10 +21,11 @@ use Rattle.volume.specs.Refusals.{judged}
 use Rattle.volume.specs.Store.{applied, storesBelow, After, after, performed, unlessRefused}
 use Rattle.volume.specs.Format.{blankStore, pieceStore, formatStores, formatTables, formatAction, sectorsIn, sizeChecks, formatOf}
 use Rattle.volume.proofs.Stores.{below-length}
-use Rattle.vlog.specs.declared.power.Power.{Power}
-use Rattle.vlog.specs.declared.power.Power.the-variants.{Left, Failed}
-use Rattle.vlog.specs.Power.{powered}
-use Rattle.vlog.proofs.Performing.{first-fails, second-runs, memory-left, call-cut, call-whole}
+use Rattle.power.specs.declared.allowance.Power.{Power}
+use Rattle.power.specs.declared.allowance.Power.the-variants.{Left, Failed}
+use Rattle.power.specs.Power.{powered}
+use Rattle.vlog.proofs.Performing.{memory-left, call-cut, call-whole}
+use Rattle.power.proofs.Runs.{first-fails, second-runs}
 
 pub piece-made : (l p pieces : ℕ) (branches : List ℕ) → pieces ≡ piecesFor l → branches ≡ cond (isZero p) [] (p ∷ [])
     → encoded l (record { number = p + 1; piece = p; closing = eqb (p + 1) pieces; branches = branches; entries = replicate 96 0 }) ≡ pieceStore l p .bytes

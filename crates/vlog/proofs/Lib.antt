@@ -1,6 +1,5 @@
 -- Laws of the definitions that the proofs of the calls cite.
 pub mod ReadLaws
-pub mod Storing
 pub mod Performing
 pub mod FormatLaws
 pub mod LentLaws

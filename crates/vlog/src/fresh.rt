@@ -7,8 +7,8 @@ ghost use Rattle.volume.specs.Bounded.{always, countBelow, updated};
 ghost use Rattle.volume.specs.Tables.{sectorAt};
 ghost use Rattle.volume.specs.Store.{applied, storesBelow};
 ghost use Rattle.volume.specs.Format.{blankStore, pieceStore};
-ghost use Rattle.vlog.specs.Power.{powered};
-use crate::power::Power;
+ghost use Rattle.power.specs.Power.{powered};
+use power::allowance::Power;
 use sector::image;
 
 // Zeros in sectors 0 to n - 1, ascending.

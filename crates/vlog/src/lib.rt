@@ -3,6 +3,5 @@ pub mod checks;
 pub mod format;
 pub mod fresh;
 pub mod lent;
-pub mod power;
 pub mod read;
 pub mod size;

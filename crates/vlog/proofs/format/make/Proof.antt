@@ -1,7 +1,7 @@
 -- The stores end in a cut or are whole; the tables follow.
 use mathlib.Core.Path.{sym, _∙_}
 use native.Mathlib.Omega.{arith}
-use Rattle.vlog.proofs.Performing.{left-enough}
+use Rattle.power.proofs.Runs.{left-enough}
 use Rattle.vlog.proofs.SizeLaws.{size-passed}
 use Rattle.vlog.proofs.FormatLaws.{format-cut, format-whole}
 use borrow.Author.Needs.{needs}

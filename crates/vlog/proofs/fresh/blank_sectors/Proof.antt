@@ -7,7 +7,7 @@ use lib.ListN.{length}
 use Rattle.volume.specs.Bounded.{always}
 use Rattle.volume.specs.Tables.{sectorAt}
 use Rattle.volume.specs.Format.{blankStore}
-use Rattle.vlog.proofs.Storing.{Storing, storing-starts, storing-stores, storing-fails, storing-ends, positive}
+use Rattle.power.proofs.Storing.{Storing, storing-starts, storing-stores, storing-fails, storing-ends, positive}
 use Rattle.vlog.proofs.fresh.blank_sectors.Statement.{statement}
 use Rattle.vlog.proofs.fresh.blank_sectors.Tie as tie
 

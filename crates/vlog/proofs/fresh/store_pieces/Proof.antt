@@ -7,7 +7,7 @@ use lib.ListN.{length}
 use Rattle.volume.specs.Bounded.{always}
 use Rattle.volume.specs.Tables.{sectorAt}
 use Rattle.volume.specs.Format.{pieceStore}
-use Rattle.vlog.proofs.Storing.{Storing, storing-starts, storing-stores, storing-fails, storing-ends, positive}
+use Rattle.power.proofs.Storing.{Storing, storing-starts, storing-stores, storing-fails, storing-ends, positive}
 use Rattle.vlog.proofs.fresh.store_pieces.Statement.{statement}
 use Rattle.vlog.proofs.fresh.store_pieces.Tie as tie
 

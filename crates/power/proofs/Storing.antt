@@ -14,8 +14,8 @@ use Rattle.volume.specs.Store.{Store, applied, storesBelow}
 use Rattle.volume.proofs.Bounded.{bool?, count-hit, count-miss, count-before}
 use Rattle.volume.proofs.Stores.{below-hit, below-miss, below-length}
 use Rattle.volume.proofs.Fresh.{applied-append}
-use Rattle.vlog.specs.declared.power.Power.the-variants.{Left, Failed}
-use Rattle.vlog.specs.Power.{powered}
+use Rattle.power.specs.declared.allowance.Power.the-variants.{Left, Failed}
+use Rattle.power.specs.Power.{powered}
 
 pub positive : (x : ℕ) → (x ≡ 0 → ⊥) → 0 < x
 positive zero f = absurd (f refl)

@@ -2,8 +2,8 @@
 use Prim.Native.Nat.{ℕ, _-_}
 use mathlib.Core.Bool.{cond}
 use lib.Dec.{ltb}
-use Rattle.vlog.specs.declared.power.Power.{Power}
-use Rattle.vlog.specs.declared.power.Power.the-variants.{Left, Failed}
+use Rattle.power.specs.declared.allowance.Power.{Power}
+use Rattle.power.specs.declared.allowance.Power.the-variants.{Left, Failed}
 
 unfoldable pub powered : ℕ → ℕ → Power
 powered needed allowance = cond (ltb allowance needed) Failed (Left (allowance - needed))

@@ -1,0 +1,2 @@
+-- How a run of stores ends.
+pub mod Power

@@ -1,0 +1,2 @@
+// Stores under an allowance: how a run of them ends.
+pub mod allowance;
