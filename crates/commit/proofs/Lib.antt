@@ -1,0 +1,3 @@
+-- Laws that the proofs of a commit's parts cite.
+pub mod FlagLaws
+pub mod PlaceLaws

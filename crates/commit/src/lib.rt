@@ -1,0 +1,3 @@
+// The parts of a commit: its plan, its stores, and the tables that it leaves.
+pub mod pieces;
+pub mod placing;
