@@ -1,3 +1,5 @@
 -- Laws that this crate's proofs cite, and its callers' may.
 pub mod BitLaws
 pub mod Filling
+pub mod Marking
+pub mod Numbering

@@ -1,3 +1,4 @@
 // Code on the lent tables.
 pub mod bits;
 pub mod fill;
+pub mod names;
