@@ -3,3 +3,5 @@ pub mod BitLaws
 pub mod Filling
 pub mod Marking
 pub mod Numbering
+pub mod SameBits
+pub mod Sounding

@@ -7,10 +7,11 @@ use mathlib.Core.List.{List, []}
 use native.Mathlib.Nat.{eq-or-lt-of-le, le-of-suc-le-suc}
 use native.Mathlib.Numerals.{add-one}
 use native.Mathlib.Omega.{arith}
-use lib.Dec.{eqb, ltb}
-use borrow.Author.Tests.{lt-ltb, le-ltb, ne-eqb}
+use lib.Dec.{eqb, leb, ltb}
+use borrow.Author.Tests.{eq-eqb, lt-ltb, le-ltb, ne-eqb}
 use Rattle.volume.specs.Bounded.{allBelow, best, elem, distinct, always, gathered}
-use Rattle.volume.proofs.Bounded.{bool?, clash, and-i, or-none, cond-true, cond-false, allBelow-at, distinct-rest, distinct-cons, gathered-own}
+use Rattle.tables.proofs.Marking.{not-false}
+use Rattle.volume.proofs.Bounded.{bool?, clash, not-of, and-i, or-none, cond-true, cond-false, allBelow-at, distinct-rest, distinct-cons, gathered-own}
 
 -- A test that fails below a bound.
 pub allBelow-not : (test : ℕ → Bool) (n k : ℕ) → k < n → test k ≡ false → false ≡ allBelow test n
@@ -83,16 +84,53 @@ module _ (num : ℕ → ℕ) where
       rw add-one
       (e ∙ sym (cond-false (ltb (num (best num i)) (num i)) i (best num i) (le-ltb _ _ (subst (λ (x : ℕ). num i ≤ num x) e h))))
 
--- The four tests of the numbers, in their order.
+-- Four tests, in their order.
 module _ (a b c d : Bool) where
-  pub four-first : a ≡ false → false ≡ (a && b && c && d)
+  four-first : a ≡ false → false ≡ (a && b && c && d)
   four-first e = rw e refl
 
-  pub four-second : a ≡ true → b ≡ false → false ≡ (a && b && c && d)
+  four-second : a ≡ true → b ≡ false → false ≡ (a && b && c && d)
   four-second e f = rw (e, f) refl
 
-  pub four-third : a ≡ true → b ≡ true → c ≡ false → false ≡ (a && b && c && d)
+  four-third : a ≡ true → b ≡ true → c ≡ false → false ≡ (a && b && c && d)
   four-third e f g = rw (e, f, g) refl
 
-  pub four-last : a ≡ true → b ≡ true → c ≡ true → d ≡ (a && b && c && d)
+  four-last : a ≡ true → b ≡ true → c ≡ true → d ≡ (a && b && c && d)
   four-last e f g = rw (e, f, g) refl
+
+-- The numbers agree with the tail.
+module _ (place num : ℕ → ℕ) (p tail number : ℕ) where
+  abbrev Apart : Bool
+  Apart = distinct (gathered always num [] p)
+
+  abbrev From1 : Bool
+  From1 = allBelow (λ q. leb 1 (num q)) p
+
+  abbrev Tail : Bool
+  Tail = eqb tail (place (best num p))
+
+  abbrev Newest : Bool
+  Newest = eqb number (num (best num p))
+
+  abbrev pub Agree : Bool
+  Agree = Apart && From1 && Tail && Newest
+
+  module _ (r : Bool) (e : r ≡ Apart) where
+    pub agree-apart : not r ≡ true → false ≡ Agree
+    agree-apart f = four-first Apart From1 Tail Newest (sym e ∙ not-of r f)
+
+    module _ (f : not r ≡ false) (s : Bool) (g : s ≡ From1) where
+      pub agree-from1 : not s ≡ true → false ≡ Agree
+      agree-from1 h = four-second Apart From1 Tail Newest (sym e ∙ not-false r f) (sym g ∙ not-of s h)
+
+      module _ (h : not s ≡ false) (q : ℕ) (b : q ≡ best num p) where
+        pub agree-tail : (tail ≡ place q → ⊥) → false ≡ Agree
+        agree-tail d =
+            four-third Apart From1 Tail Newest (sym e ∙ not-false r f) (sym g ∙ not-false s h)
+            (ne-eqb tail (place (best num p)) (subst (λ (x : ℕ). tail ≡ place x → ⊥) b d))
+
+        pub agree-number : tail ≡ place q → eqb number (num q) ≡ Agree
+        agree-number d =
+            ap (λ (x : ℕ). eqb number (num x)) b
+            ∙ four-last Apart From1 Tail Newest (sym e ∙ not-false r f) (sym g ∙ not-false s h)
+            (eq-eqb tail (place (best num p)) (subst (λ (x : ℕ). tail ≡ place x) b d))

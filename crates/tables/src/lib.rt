@@ -2,3 +2,5 @@
 pub mod bits;
 pub mod fill;
 pub mod names;
+pub mod numbers;
+pub mod soundness;
