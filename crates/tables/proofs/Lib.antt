@@ -5,3 +5,4 @@ pub mod Marking
 pub mod Numbering
 pub mod SameBits
 pub mod Sounding
+pub mod LiveLaws

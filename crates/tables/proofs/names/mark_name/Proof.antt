@@ -4,8 +4,6 @@ use Rattle.tables.proofs.Marking.{told-low, told-high, told-twice, told
 use borrow.Author.Needs.{needs}
 use Rattle.tables.proofs.names.mark_name.Statement.{statement}
 use Rattle.tables.proofs.names.mark_name.Tie as tie
-use Rattle.tables.proofs.bits.is_set.Reads as is-set-reads
-use Rattle.tables.proofs.bits.set_bit.Reads as set-bit-reads
 
 returns : tie.Need-returns
 returns c =

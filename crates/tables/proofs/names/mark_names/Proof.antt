@@ -9,10 +9,6 @@ use Rattle.volume.specs.Tables.{bitAt}
 use Rattle.tables.proofs.Marking.{Entries, zeros-marked, entries-start, places-refused, entries-skip, entry-marks, entry-refused, entries-end}
 use Rattle.tables.proofs.names.mark_names.Statement.{statement}
 use Rattle.tables.proofs.names.mark_names.Tie as tie
-use Rattle.sector.proofs.block.sector_of.Reads as sector-of-reads
-use Rattle.tables.proofs.bits.set_bit.Reads as set-bit-reads
-use Rattle.tables.proofs.names.mark_name.Reads as mark-name-reads
-use Rattle.tables.proofs.names.mark_places.Reads as mark-places-reads
 
 abbrev Inv-entries : tie.InvT-entries
 Inv-entries marks₀ n l map places i₀ marks i =

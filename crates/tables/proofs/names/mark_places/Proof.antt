@@ -11,7 +11,6 @@ use Rattle.volume.proofs.Bounded.{not-of}
 use Rattle.tables.proofs.Marking.{Marking, marked-none, marking-starts, marking-marks, marking-refused, left-marked, not-false}
 use Rattle.tables.proofs.names.mark_places.Statement.{statement}
 use Rattle.tables.proofs.names.mark_places.Tie as tie
-use Rattle.tables.proofs.names.mark_name.Reads as mark-name-reads
 
 abbrev Inv-loop : tie.InvT-loop
 Inv-loop marks₀ n places i₀ marks i =

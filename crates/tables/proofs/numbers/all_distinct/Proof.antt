@@ -9,7 +9,6 @@ use Rattle.volume.specs.Bounded.{at, distinct, always, gathered}
 use Rattle.tables.proofs.Numbering.{distinct-none, distinct-more, distinct-not}
 use Rattle.tables.proofs.numbers.all_distinct.Statement.{statement}
 use Rattle.tables.proofs.numbers.all_distinct.Tie as tie
-use Rattle.tables.proofs.numbers.stands_before.Reads as stands-before-reads
 
 abbrev Inv-loop : tie.InvT-loop
 Inv-loop numbers i₀ i = (i ≤ length numbers) × (distinct (gathered always (at numbers) [] i) ≡ true)

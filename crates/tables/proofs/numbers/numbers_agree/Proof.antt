@@ -7,8 +7,6 @@ use Rattle.tables.proofs.Numbering.{agree-apart, agree-from1, agree-tai
 use borrow.Author.Needs.{needs}
 use Rattle.tables.proofs.numbers.numbers_agree.Statement.{statement}
 use Rattle.tables.proofs.numbers.numbers_agree.Tie as tie
-use Rattle.tables.proofs.numbers.all_distinct.Reads as all-distinct-reads
-use Rattle.tables.proofs.numbers.all_from_1.Reads as all-from-1-reads
 
 all-distinct-requires : tie.Need-all-distinct-requires
 all-distinct-requires c κs = search needs

@@ -6,11 +6,6 @@ use Rattle.tables.proofs.Sounding.{blocks-some, sectors-some, sectors-m
 use borrow.Author.Needs.{needs}
 use Rattle.tables.proofs.soundness.is_consistent.Statement.{statement}
 use Rattle.tables.proofs.soundness.is_consistent.Tie as tie
-use Rattle.tables.proofs.bits.count_free.Reads as count-free-reads
-use Rattle.tables.proofs.names.mark_names.Reads as mark-names-reads
-use Rattle.tables.proofs.numbers.numbers_agree.Reads as numbers-agree-reads
-use Rattle.tables.proofs.soundness.bits_agree.Reads as bits-agree-reads
-use Rattle.types.proofs.geometry.Geometry.pieces_for.Reads as pieces-for-reads
 
 slice-aggregate-mark-names : tie.Need-slice-aggregate-mark-names
 slice-aggregate-mark-names c = search needs
