@@ -4,3 +4,4 @@ pub mod Performing
 pub mod FormatLaws
 pub mod LentLaws
 pub mod SizeLaws
+pub mod ParkLaws

@@ -3,5 +3,6 @@ pub mod checks;
 pub mod format;
 pub mod fresh;
 pub mod lent;
+pub mod park;
 pub mod read;
 pub mod size;
