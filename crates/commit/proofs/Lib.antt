@@ -1,3 +1,4 @@
 -- Laws that the proofs of a commit's parts cite.
 pub mod FlagLaws
 pub mod PlaceLaws
+pub mod ListLaws

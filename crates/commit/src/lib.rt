@@ -1,3 +1,4 @@
 // The parts of a commit: its plan, its stores, and the tables that it leaves.
+pub mod listing;
 pub mod pieces;
 pub mod placing;
