@@ -19,9 +19,6 @@ use Rattle.sector.proofs.Lists.{within-below, within-above, within-both}
 use Rattle.volume.proofs.Bounded.{bool?, and-l, and-r, and-i, not-of, allBelow-at, gathered-hit, gathered-miss}
 
 -- A chain of four tests, two of them for the new name.
-four-true : (a b c d : Bool) → a ≡ true → b ≡ true → c ≡ false → d ≡ true → (a && b && (not c && d)) ≡ true
-four-true a b c d p q r s = rw (p, q, r, s) refl
-
 four-range : (a b c d : Bool) → a ≡ false → (a && b && (not c && d)) ≡ false
 four-range a b c d p = rw p refl
 
@@ -60,14 +57,14 @@ module _ (n k : ℕ) (bits : ℕ → Bool) where
   pub told-low : k < 1 → Told false bits
   told-low h = (rw (within-below 1 (n - 1) k h) refl, refl)
 
-  pub told-high : 1 ≤ k → n - 1 < k → Told false bits
-  told-high h g = (rw (within-above 1 (n - 1) k h g) refl, refl)
+  pub told-high : 1 ≤ k → n ≤ k → Told false bits
+  told-high h g = (rw (within-above 1 (n - 1) k h (omega arith)) refl, refl)
 
-  pub told-twice : 1 ≤ k → k ≤ n - 1 → (b : Bool) → b ≡ bits k → b ≡ true → Told false bits
-  told-twice h g b e f = (rw (within-both 1 (n - 1) k h g, sym e ∙ f) refl, refl)
+  pub told-twice : 1 ≤ k → k < n → (b : Bool) → b ≡ bits k → b ≡ true → Told false bits
+  told-twice h g b e f = (rw (within-both 1 (n - 1) k h (omega arith), sym e ∙ f) refl, refl)
 
-  pub told-new : 1 ≤ k → k ≤ n - 1 → (b : Bool) → b ≡ bits k → b ≡ false → (after : ℕ → Bool) → after ≡ updated bits k true → Told true after
-  told-new h g b e f after u = (rw (within-both 1 (n - 1) k h g, sym e ∙ f) refl, u)
+  pub told-new : 1 ≤ k → k < n → (b : Bool) → b ≡ bits k → b ≡ false → (after : ℕ → Bool) → after ≡ updated bits k true → Told true after
+  told-new h g b e f after u = (rw (within-both 1 (n - 1) k h (omega arith), sym e ∙ f) refl, u)
 
 module _ (n : ℕ) where
   abbrev pub Fit : List ℕ → Bool

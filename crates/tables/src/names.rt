@@ -1,4 +1,4 @@
-// The sectors that tables name, marked in a bit map: so that none is named twice is seen in one pass.
+// The sectors that tables name, marked in a bit map: one pass shows whether any is named twice.
 ghost use mathlib.Core.Path.{_≡_};
 ghost use mathlib.Core.Bool.{true, cond, not, _&&_};
 ghost use mathlib.Core.List.{[]};
@@ -19,7 +19,7 @@ fn mark_name(marks: &mut [u8], n: u32, k: u32) -> bool
     if k < 1 {
         return false;
     }
-    if n - 1 < k {
+    if n <= k {
         return false;
     }
     if bits::is_set(marks, k as usize) {

@@ -10,9 +10,6 @@ returns c =
     let a = c .before .before .args in
     told-low (a .n) (a .k) (bitAt (a .marks .now)) (c .if1 .taken)
 
-sub-if2 : tie.Need-sub-if2
-sub-if2 c = search needs
-
 returns-2 : tie.Need-returns-2
 returns-2 c =
     let a = c .before .before .before .args in
@@ -47,7 +44,6 @@ mark-name-spec =
     tie.close
     (tie.spec
     returns
-    sub-if2
     returns-2
     is-set-requires
     same-length
