@@ -2,3 +2,4 @@
 pub mod FlagLaws
 pub mod PlaceLaws
 pub mod ListLaws
+pub mod EntryLaws
