@@ -3,3 +3,4 @@ pub mod FlagLaws
 pub mod PlaceLaws
 pub mod ListLaws
 pub mod EntryLaws
+pub mod StoreLaws

@@ -7,6 +7,9 @@ use lib.Dec.{eqb}
 use Rattle.volume.specs.Bounded.{at, anyBelow, tabled}
 use Rattle.volume.specs.Word.{wordsOf}
 use Rattle.volume.specs.MapSector.{valid}
+use Rattle.volume.specs.Entry.{stored}
+use Rattle.volume.specs.Tables.{sectorAt}
+use Rattle.volume.specs.Store.{Store}
 use Rattle.volume.specs.Commit.{Change, Plan}
 
 -- A piece is flagged by 1.
@@ -41,6 +44,10 @@ planOf branches written members dataSectors places =
 abbrev pub changeOf : List ℕ → List ℕ → ℕ → Change
 changeOf blocks entries dataSectors =
     record { blocks = blocks; dataSectors = dataSectors; content = λ _. []; entry = λ i _. at entries i }
+
+-- The store of block i of a run of bytes, flipped where it begins with the mark.
+abbrev pub blockStore : List ℕ → List ℕ → ℕ → Store
+blockStore places bytes i = record { sector = at places i; bytes = stored (sectorAt bytes i) }
 
 -- Used bits without the sectors of those below n that pass the test.
 unfoldable pub without : (ℕ → Bool) → (ℕ → Bool) → (ℕ → ℕ) → ℕ → ℕ → Bool

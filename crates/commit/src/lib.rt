@@ -3,3 +3,4 @@ pub mod entries;
 pub mod listing;
 pub mod pieces;
 pub mod placing;
+pub mod store;
