@@ -4,3 +4,5 @@ pub mod PlaceLaws
 pub mod ListLaws
 pub mod EntryLaws
 pub mod StoreLaws
+pub mod SettleLaws
+pub mod UsedLaws

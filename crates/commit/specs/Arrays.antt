@@ -1,13 +1,15 @@
 -- A commit as the arrays of the code hold it: flags of pieces, the plan, the change, and what is known of the live sectors.
-use Prim.Native.Nat.{ℕ, _≤_, _<_}
+use Prim.Native.Nat.{ℕ, _+_, _≤_, _<_, _^_}
 use mathlib.Core.Path.{_≡_}
 use mathlib.Core.Bool.{Bool, true, false, not, _&&_}
 use mathlib.Core.List.{List, []}
+use lib.ListN.{length}
 use lib.Dec.{eqb}
-use Rattle.volume.specs.Bounded.{at, anyBelow, tabled}
+use Rattle.types.specs.Geometry.{piecesFor}
+use Rattle.volume.specs.Bounded.{at, anyBelow, countBelow, tabled}
 use Rattle.volume.specs.Word.{wordsOf}
 use Rattle.volume.specs.MapSector.{valid}
-use Rattle.volume.specs.Entry.{stored}
+use Rattle.volume.specs.Entry.{isEmpty, sectorOf, stored}
 use Rattle.volume.specs.Tables.{sectorAt}
 use Rattle.volume.specs.Store.{Store}
 use Rattle.volume.specs.Commit.{Change, Plan}
@@ -52,3 +54,20 @@ blockStore places bytes i = record { sector = at places i; bytes = stored (secto
 -- Used bits without the sectors of those below n that pass the test.
 unfoldable pub without : (ℕ → Bool) → (ℕ → Bool) → (ℕ → ℕ) → ℕ → ℕ → Bool
 without bits test sector n k = bits k && not (anyBelow (λ i. test i && eqb k (sector i)) n)
+
+-- What the change of the tables relies on: the named blocks are below L and all different; each data sector's block gets an
+-- entry that names it, and each other block is emptied; as many sectors are taken as are written, and they are below N; the
+-- flags past P are clear; and the numbers suffice.
+pub record Settling (n l number : ℕ) (blocks entries taken : List ℕ) (dataSectors : ℕ) (written : List ℕ) : Type 0 where
+  pub inside : (i : ℕ) → i < length blocks → at blocks i < l
+  pub apart : (i j : ℕ) → i < j → j < length blocks → at blocks i ≡ at blocks j → ⊥
+  pub enough : length blocks ≤ length entries
+  pub few : dataSectors ≤ length blocks
+  pub full : (i : ℕ) → i < dataSectors → isEmpty (at entries i) ≡ false
+  pub names : (i : ℕ) → i < dataSectors → sectorOf (at entries i) ≡ at taken i
+  pub emptied : (i : ℕ) → dataSectors ≤ i → i < length blocks → at entries i ≡ 0
+  pub below : (i : ℕ) → i < length taken → at taken i < n
+  pub flags : piecesFor l ≤ length written
+  pub past : (p : ℕ) → piecesFor l ≤ p → flagged written p ≡ false
+  pub taken-all : dataSectors + countBelow (flagged written) (piecesFor l) ≡ length taken
+  pub numbers : number + countBelow (flagged written) (piecesFor l) < 2 ^ 32

@@ -3,4 +3,5 @@ pub mod entries;
 pub mod listing;
 pub mod pieces;
 pub mod placing;
+pub mod settle;
 pub mod store;
