@@ -6,3 +6,4 @@ pub mod EntryLaws
 pub mod StoreLaws
 pub mod SettleLaws
 pub mod UsedLaws
+pub mod PlanLaws

@@ -3,7 +3,7 @@ use Prim.Native.Nat.{ℕ, _+_, _≤_, _<_, _^_}
 use mathlib.Core.Path.{_≡_}
 use mathlib.Core.Bool.{Bool, true, false, not, _&&_}
 use mathlib.Core.List.{List, []}
-use lib.ListN.{length}
+use lib.ListN.{length, take}
 use lib.Dec.{eqb}
 use Rattle.types.specs.Geometry.{piecesFor}
 use Rattle.volume.specs.Bounded.{at, anyBelow, countBelow, tabled}
@@ -71,3 +71,11 @@ pub record Settling (n l number : ℕ) (blocks entries taken : List ℕ) (dataSe
   pub past : (p : ℕ) → piecesFor l ≤ p → flagged written p ≡ false
   pub taken-all : dataSectors + countBelow (flagged written) (piecesFor l) ≡ length taken
   pub numbers : number + countBelow (flagged written) (piecesFor l) < 2 ^ 32
+
+-- The plan, as it stands in the arrays.
+pub record Planning (plan : Plan) (count members : ℕ) (branches written : List ℕ) (dataSectors : ℕ) (taken : List ℕ) : Type 0 where
+  pub members-are : members ≡ plan .members
+  pub branches-are : take count branches ≡ plan .branches
+  pub few : count ≤ 24
+  pub written-are : flagged written ≡ plan .written
+  pub taken-are : take (dataSectors + members) taken ≡ plan .places

@@ -3,5 +3,6 @@ pub mod entries;
 pub mod listing;
 pub mod pieces;
 pub mod placing;
+pub mod plan;
 pub mod settle;
 pub mod store;
