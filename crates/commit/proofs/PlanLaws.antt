@@ -47,11 +47,11 @@ copied us marks xs m z e =
         (lt? k (length us))
 
 -- The listing looks at places and numbers alone.
-listing-any : (pieces : ℕ) (pl nu us : List ℕ) (view : View) (remaining : ℕ → Bool) (steps bound : ℕ) (reached : ℕ → Bool)
-    → listing pieces (tablesOf [] pl nu []) view remaining steps bound reached ≡ listing pieces (tablesOf [] pl nu us) view remaining steps bound reached
+pub listing-any : (pieces : ℕ) (mp mp′ pl nu us us′ : List ℕ) (view : View) (remaining : ℕ → Bool) (steps bound : ℕ) (reached : ℕ → Bool)
+    → listing pieces (tablesOf mp pl nu us) view remaining steps bound reached ≡ listing pieces (tablesOf mp′ pl nu us′) view remaining steps bound reached
 unfolding listing olderKey
-listing-any pieces pl nu us view remaining zero bound reached = refl
-listing-any pieces pl nu us view remaining (suc steps) bound reached = rw (listing-any pieces pl nu us view remaining steps _ _) refl
+listing-any pieces mp mp′ pl nu us us′ view remaining zero bound reached = refl
+listing-any pieces mp mp′ pl nu us us′ view remaining (suc steps) bound reached = rw (listing-any pieces mp mp′ pl nu us us′ view remaining steps _ _) refl
 
 -- A list of which the first 25 are known, by their count.
 module _ (bs xs : List ℕ) (r : ℕ) (same : take r bs ≡ take 25 xs) (few : r ≤ 25) (room : length bs ≡ 25) where
@@ -100,7 +100,7 @@ module _ (s : State) (pl nu us blocks : List ℕ) (view : View) (head count : �
   same-list =
       listing-is
       ∙ ap (take 25)
-      (listing-any (length nu) pl nu us view (unflagged (length nu) touched) (length nu) (suc (s .number)) (λ _. false)
+      (listing-any (length nu) [] [] pl nu [] us view (unflagged (length nu) touched) (length nu) (suc (s .number)) (λ _. false)
       ∙ ap (λ (k : ℕ). listing k (tablesOf [] pl nu us) view (tabled false k (λ q. not (flagged touched q))) k (suc (s .number)) (λ _. false)) lens
       ∙ ap (λ (f : ℕ → Bool). listing (piecesFor (s .l)) (tablesOf [] pl nu us) view (tabled false (piecesFor (s .l)) (λ q. not (f q))) (piecesFor (s .l)) (suc (s .number)) (λ _. false))
       touching)

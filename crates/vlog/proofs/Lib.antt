@@ -5,3 +5,7 @@ pub mod FormatLaws
 pub mod LentLaws
 pub mod SizeLaws
 pub mod ParkLaws
+pub mod BlockLaws
+pub mod CommitChecks
+pub mod CommitLaws
+pub mod CommitPlan

@@ -1,4 +1,6 @@
 // The calls of the virtual log volume.
+pub mod blocks;
+pub mod change;
 pub mod checks;
 pub mod format;
 pub mod fresh;
