@@ -9,3 +9,4 @@ pub mod BlockLaws
 pub mod CommitChecks
 pub mod CommitLaws
 pub mod CommitPlan
+pub mod WriteLaws

@@ -8,3 +8,4 @@ pub mod lent;
 pub mod park;
 pub mod read;
 pub mod size;
+pub mod write;
