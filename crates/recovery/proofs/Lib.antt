@@ -1,0 +1,3 @@
+-- Laws that the proofs of recovery cite.
+pub mod SignedLaws
+pub mod ClearLaws

@@ -1,0 +1,2 @@
+-- Recovery as the code goes about it.
+pub mod Signed
