@@ -1,3 +1,4 @@
 -- Laws that the proofs of recovery cite.
-pub mod SignedLaws
 pub mod ClearLaws
+pub mod Newest
+pub mod SignedLaws

@@ -1,3 +1,5 @@
 // Recovery: the log found again by a walk from its tail, or by a scan of all sectors.
 pub mod clear;
+pub mod fill_map;
+pub mod live;
 pub mod signed;
