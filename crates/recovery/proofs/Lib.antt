@@ -3,7 +3,9 @@ pub mod AgreeLaws
 pub mod ClearLaws
 pub mod Exchange
 pub mod Gathering
+pub mod KnownLaws
 pub mod Newest
 pub mod ScanLaws
 pub mod SignedLaws
+pub mod TargetLaws
 pub mod ViewLaws

@@ -6,10 +6,10 @@ use mathlib.Core.Bool.{Bool, true, false, cond, not, _&&_, true≢false}
 use mathlib.Core.List.{List, []}
 use mathlib.Core.Option.{Option, none, some}
 use native.Mathlib.Omega.{arith}
-use lib.ListN.{drop}
+use lib.ListN.{take, drop}
 use lib.Dec.{eqb, leb, ltb}
-use borrow.Author.Tests.{lt-ltb, le-ltb, ltb-true}
-use Rattle.types.specs.Geometry.{piecesFor, branchRoom, entriesPerPiece}
+use borrow.Author.Tests.{lt-ltb, le-ltb, ltb-true, leb-true}
+use Rattle.types.specs.Geometry.{within, piecesFor, branchRoom, entriesPerPiece}
 use Rattle.volume.specs.Bounded.{at, all, isZero, gathered}
 use Rattle.volume.specs.Word.{wordsOf, wordSum, startsWith}
 use Rattle.volume.specs.MapSector.{MapSector, View, mapMark, branchesFit, branchWords, entryWords, valid, fields, decoded}
@@ -30,6 +30,19 @@ fifth a b c d false f g h i j z = absurd (true≢false (sym z ∙ off a b c d f 
     off true false c d f g h i j = refl
     off false b c d f g h i j = refl
 
+-- The seventh and the ninth.
+module _ (a b c d e f g h i j : Bool) (z : (a && b && c && d && e && f && g && h && i && j) ≡ true) where
+  up-to-ninth : (a && b && c && d && e && f && g && h && i) ≡ true
+  up-to-ninth = and-l (a && b && c && d && e && f && g && h && i) j z
+
+  ninth : i ≡ true
+  ninth = and-r (a && b && c && d && e && f && g && h) i up-to-ninth
+
+  seventh : g ≡ true
+  seventh =
+      and-r (a && b && c && d && e && f) g
+      (and-l (a && b && c && d && e && f && g) h (and-l (a && b && c && d && e && f && g && h) i up-to-ninth))
+
 none-of : (b : Bool) → cond {A = ℕ} b 0 0 ≡ 0
 none-of true = refl
 none-of false = refl
@@ -38,7 +51,7 @@ module _ (n l : ℕ) (image : ℕ → List ℕ) where
   abbrev pub Seen : View
   Seen = imageView n l image
 
-  inside : (k : ℕ) → signedAt n l image k ≡ true → k < n
+  pub inside : (k : ℕ) → signedAt n l image k ≡ true → k < n
   unfolding signedAt below
   inside k e = ltb-true k n (and-l (ltb k n) (isSigned n l image k) e)
 
@@ -66,6 +79,25 @@ module _ (n l : ℕ) (image : ℕ → List ℕ) where
       let ws = wordsOf (image k) in
       ltb-true (at ws 4) (piecesFor l)
       (fifth (startsWith mapMark (image k)) (isZero (wordSum ws)) (leb 1 (at ws 2)) (isZero (at ws 3)) (ltb (at ws 4) (piecesFor l)) (leb (at ws 5) 1)
+      (leb (at ws 6) branchRoom) (eqb (at ws 7) l) (branchesFit n (at ws 6) (branchWords ws))
+      (all isZero (drop (l - entriesPerPiece * at ws 4) (entryWords ws))) (is-valid k e))
+
+  -- Its branches are sectors from 1 to n - 1.
+  pub signed-count : (k : ℕ) → signedAt n l image k ≡ true → at (wordsOf (image k)) 6 ≤ branchRoom
+  unfolding valid
+  signed-count k e =
+      let ws = wordsOf (image k) in
+      leb-true (at ws 6) branchRoom
+      (seventh (startsWith mapMark (image k)) (isZero (wordSum ws)) (leb 1 (at ws 2)) (isZero (at ws 3)) (ltb (at ws 4) (piecesFor l)) (leb (at ws 5) 1)
+      (leb (at ws 6) branchRoom) (eqb (at ws 7) l) (branchesFit n (at ws 6) (branchWords ws))
+      (all isZero (drop (l - entriesPerPiece * at ws 4) (entryWords ws))) (is-valid k e))
+
+  pub signed-branches : (k : ℕ) → signedAt n l image k ≡ true → all (within 1 (n - 1)) (take (at (wordsOf (image k)) 6) (branchWords (wordsOf (image k)))) ≡ true
+  unfolding valid branchesFit
+  signed-branches k e =
+      let ws = wordsOf (image k) in
+      and-l (all (within 1 (n - 1)) (take (at ws 6) (branchWords ws))) (all isZero (drop (at ws 6) (branchWords ws)))
+      (ninth (startsWith mapMark (image k)) (isZero (wordSum ws)) (leb 1 (at ws 2)) (isZero (at ws 3)) (ltb (at ws 4) (piecesFor l)) (leb (at ws 5) 1)
       (leb (at ws 6) branchRoom) (eqb (at ws 7) l) (branchesFit n (at ws 6) (branchWords ws))
       (all isZero (drop (l - entriesPerPiece * at ws 4) (entryWords ws))) (is-valid k e))
 

@@ -2,3 +2,4 @@
 pub mod Parted
 pub mod Scanned
 pub mod Signed
+pub mod Walking
