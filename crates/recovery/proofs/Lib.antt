@@ -7,5 +7,8 @@ pub mod KnownLaws
 pub mod Newest
 pub mod ScanLaws
 pub mod SignedLaws
+pub mod StartLaws
 pub mod TargetLaws
 pub mod ViewLaws
+pub mod WalkLaws
+pub mod WalkedLaws
