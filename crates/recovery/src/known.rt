@@ -1,6 +1,6 @@
 // Sectors that a walk reads, each summed once at most.
 ghost use mathlib.Core.Path.{_≡_};
-ghost use Prim.Native.Nat.{_*_, _≤_, _<_};
+ghost use Prim.Native.Nat.{_*_, _<_};
 ghost use lib.ListN.{length};
 ghost use Rattle.types.specs.Geometry.{sectorBytes};
 ghost use Rattle.volume.specs.Tables.{sectorAt};

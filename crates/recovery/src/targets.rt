@@ -6,7 +6,6 @@ ghost use lib.ListN.{length, set};
 ghost use lib.Dec.{ltb};
 ghost use Rattle.types.specs.Geometry.{sectorBytes, piecesFor};
 ghost use Rattle.volume.specs.Bounded.{at, isZero};
-ghost use Rattle.volume.specs.Word.{wordsOf};
 ghost use Rattle.volume.specs.Tables.{sectorAt};
 ghost use Rattle.volume.specs.Commit.{branchesIn};
 ghost use Rattle.volume.specs.Recover.{imageView, numberIn, targetWaits, targetsRead};
