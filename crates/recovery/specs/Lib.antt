@@ -1,0 +1,5 @@
+-- Recovery as the code goes about it.
+pub mod Parted
+pub mod Scanned
+pub mod Signed
+pub mod Walking
