@@ -10,3 +10,4 @@ pub mod CommitChecks
 pub mod CommitLaws
 pub mod CommitPlan
 pub mod WriteLaws
+pub mod RecoverLaws

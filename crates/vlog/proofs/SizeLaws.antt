@@ -85,3 +85,9 @@ size-passed im mp pl nu us l e =
       numbers = eqb-true (length nu) (piecesFor l) (and-r (c1 && c2) c3 (and-l (c1 && c2 && c3) c4 lens));
       used = eqb-true (length us) (usedBytes n) (and-r (c1 && c2 && c3) c4 lens);
     }
+
+pub size-range : (im mp pl nu us : List ℕ) (l : ℕ) → Pass ≡ judged (sizeChecks (memory im mp pl nu us) l) → geometryFits (length im / 512) l ≡ true
+unfolding sizeChecks imageFits memory
+size-range im mp pl nu us l e =
+    and-r (isZero (length im % 512)) (geometryFits (length im / 512) l)
+    (not-false (isZero (length im % 512) && geometryFits (length im / 512) l) (passes-first _ _ (sym e)))

@@ -7,5 +7,6 @@ pub mod fresh;
 pub mod lent;
 pub mod park;
 pub mod read;
+pub mod recover;
 pub mod size;
 pub mod write;
