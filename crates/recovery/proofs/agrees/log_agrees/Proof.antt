@@ -8,11 +8,6 @@ use Rattle.recovery.proofs.AgreeLaws.{names-fail, room-fails, numbers-d
 use borrow.Author.Needs.{needs}
 use Rattle.recovery.proofs.agrees.log_agrees.Statement.{statement}
 use Rattle.recovery.proofs.agrees.log_agrees.Tie as tie
-use Rattle.tables.proofs.bits.count_free.Reads as count-free-reads
-use Rattle.tables.proofs.fill.zero_bytes.Reads as zero-bytes-reads
-use Rattle.tables.proofs.names.mark_names.Reads as mark-names-reads
-use Rattle.tables.proofs.numbers.numbers_agree.Reads as numbers-agree-reads
-use Rattle.types.proofs.geometry.Geometry.pieces_for.Reads as pieces-for-reads
 
 zero-bytes-requires : tie.Need-zero-bytes-requires
 zero-bytes-requires c κs = search needs

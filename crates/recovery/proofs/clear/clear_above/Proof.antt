@@ -10,8 +10,6 @@ use Rattle.volume.specs.Format.{blankStore}
 use Rattle.power.proofs.Storing.{Storing, storing-starts, storing-skips, storing-stores, storing-fails, storing-ends, positive}
 use Rattle.recovery.proofs.clear.clear_above.Statement.{statement}
 use Rattle.recovery.proofs.clear.clear_above.Tie as tie
-use Rattle.sector.proofs.image.blank_sector.Reads as blank-sector-reads
-use Rattle.tables.proofs.bits.is_set.Reads as is-set-reads
 
 abbrev Inv-sectors : tie.InvT-sectors
 Inv-sectors image₀ n above allowance left₀ k₀ image left k = (k ≤ n) × (length image ≡ length image₀) × Storing (bitAt above) blankStore (sectorAt image₀) allowance k left (sectorAt image)

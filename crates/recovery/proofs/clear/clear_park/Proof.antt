@@ -5,7 +5,6 @@ use Rattle.recovery.proofs.ClearLaws.{park-done, park-fails, park-clear
 use borrow.Author.Needs.{needs}
 use Rattle.recovery.proofs.clear.clear_park.Statement.{statement}
 use Rattle.recovery.proofs.clear.clear_park.Tie as tie
-use Rattle.sector.proofs.image.blank_sector.Reads as blank-sector-reads
 
 returns : tie.Need-returns
 returns c = let a = c .before .before .args in park-done (a .done) (a .allowance) (sectorAt (a .image .now)) (c .if1 .taken)

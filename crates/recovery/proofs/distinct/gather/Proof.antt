@@ -7,7 +7,6 @@ use Rattle.recovery.specs.Signed.{numberAt}
 use Rattle.recovery.proofs.Gathering.{Gathering, those, gathering-none, gathering-skips, gathering-more}
 use Rattle.recovery.proofs.distinct.gather.Statement.{statement}
 use Rattle.recovery.proofs.distinct.gather.Tie as tie
-use Rattle.recovery.proofs.signed.number_at.Reads as number-at-reads
 
 abbrev Inv-sectors : tie.InvT-sectors
 Inv-sectors image n marks xs₀ from₀ k₀ xs from k = (k ≤ n) × Gathering (numberAt (bitAt marks) (sectorAt image)) xs₀ xs from k

@@ -7,7 +7,6 @@ use Rattle.recovery.proofs.Exchange.{lent-end}
 use borrow.Author.Needs.{needs}
 use Rattle.recovery.proofs.distinct.numbers_distinct.Statement.{statement}
 use Rattle.recovery.proofs.distinct.numbers_distinct.Tie as tie
-use Rattle.recovery.proofs.distinct.words_distinct.Reads as words-distinct-reads
 
 slice-aggregate-gather : tie.Need-slice-aggregate-gather
 slice-aggregate-gather c = search needs

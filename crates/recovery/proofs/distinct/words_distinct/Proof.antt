@@ -4,7 +4,6 @@ use native.Mathlib.Omega.{arith}
 use Rattle.recovery.proofs.Exchange.{words-agree}
 use Rattle.recovery.proofs.distinct.words_distinct.Statement.{statement}
 use Rattle.recovery.proofs.distinct.words_distinct.Tie as tie
-use Rattle.recovery.proofs.distinct.distinct_below.Reads as distinct-below-reads
 
 distinct-below-requires : tie.Need-distinct-below-requires
 distinct-below-requires c κs = (omega arith, words-agree (c .before .before .args .xs .now) (λ i. (c .before .slice-known .given i) .fits))

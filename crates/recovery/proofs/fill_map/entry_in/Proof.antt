@@ -12,7 +12,6 @@ use Rattle.sector.proofs.Sectors.{sector-length}
 use borrow.Author.Needs.{needs}
 use Rattle.recovery.proofs.fill_map.entry_in.Statement.{statement}
 use Rattle.recovery.proofs.fill_map.entry_in.Tie as tie
-use Rattle.sector.proofs.map_sector.entry_at.Reads as entry-at-reads
 
 cast-entries : tie.Need-cast-entries
 cast-entries c = search needs

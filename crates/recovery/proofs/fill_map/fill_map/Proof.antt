@@ -12,7 +12,6 @@ use Rattle.tables.proofs.Filling.{Filled, filled-none, filled-length, filled-mo
 use lib.ListN.{set}
 use Rattle.recovery.proofs.fill_map.fill_map.Statement.{statement}
 use Rattle.recovery.proofs.fill_map.fill_map.Tie as tie
-use Rattle.recovery.proofs.fill_map.entry_in.Reads as entry-in-reads
 
 abbrev Inv-loop : tie.InvT-loop
 Inv-loop image places map₀ b₀ map b = Filled (λ i. at (entryWords (wordsOf (sectorAt image (at places (pieceOf i))))) (indexOf i)) map₀ b map

@@ -12,9 +12,6 @@ use Rattle.recovery.proofs.SignedLaws.{is-signed}
 use borrow.Author.Needs.{needs}
 use Rattle.recovery.proofs.known.is_signed.Statement.{statement}
 use Rattle.recovery.proofs.known.is_signed.Tie as tie
-use Rattle.sector.proofs.map_sector.is_valid.Reads as is-valid-reads
-use Rattle.tables.proofs.bits.is_set.Reads as is-set-reads
-use Rattle.tables.proofs.bits.set_bit.Reads as set-bit-reads
 
 is-set-requires : tie.Need-is-set-requires
 is-set-requires c κs = let p = c .before .before .before .before .pre in let r = p .1 .1 .seenRoom in let h = p .1 .0 in omega arith

@@ -14,8 +14,6 @@ use Rattle.recovery.specs.Signed.{pieceAt}
 use Rattle.recovery.proofs.Newest.{Live, live-none, live-skip, live-raise, live-all, keys-zero, keys-above, key-own, keys-other, number-marked}
 use Rattle.recovery.proofs.live.find_live.Statement.{statement}
 use Rattle.recovery.proofs.live.find_live.Tie as tie
-use Rattle.recovery.proofs.signed.number_at.Reads as number-at-reads
-use Rattle.sector.proofs.map_sector.piece_of.Reads as piece-of-reads
 
 abbrev Inv-sectors : tie.InvT-sectors
 Inv-sectors image n marks c places₀ numbers₀ k₀ places numbers k =

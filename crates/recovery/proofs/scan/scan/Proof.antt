@@ -6,8 +6,6 @@ use Rattle.tables.proofs.Sounding.{sectors-some, sectors-most}
 use borrow.Author.Needs.{needs}
 use Rattle.recovery.proofs.scan.scan.Statement.{statement}
 use Rattle.recovery.proofs.scan.scan.Tie as tie
-use Rattle.recovery.proofs.scan.scan_signed.Reads as scan-signed-reads
-use Rattle.recovery.proofs.signed.mark_signed.Reads as mark-signed-reads
 
 slice-aggregate-mark-signed : tie.Need-slice-aggregate-mark-signed
 slice-aggregate-mark-signed c = search needs

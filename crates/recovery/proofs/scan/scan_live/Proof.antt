@@ -12,9 +12,6 @@ use Rattle.recovery.proofs.ScanLaws.{place-inside}
 use borrow.Author.Needs.{needs}
 use Rattle.recovery.proofs.scan.scan_live.Statement.{statement}
 use Rattle.recovery.proofs.scan.scan_live.Tie as tie
-use Rattle.recovery.proofs.fill_map.fill_map.Reads as fill-map-reads
-use Rattle.recovery.proofs.live.find_live.Reads as find-live-reads
-use Rattle.tables.proofs.fill.zero_words.Reads as zero-words-reads
 
 zero-words-requires : tie.Need-zero-words-requires
 zero-words-requires c κs = search needs

@@ -9,10 +9,6 @@ use Rattle.recovery.proofs.ScanLaws.{tail-newest, scan-none, scan-damag
 use borrow.Author.Needs.{needs}
 use Rattle.recovery.proofs.scan.scan_signed.Statement.{statement}
 use Rattle.recovery.proofs.scan.scan_signed.Tie as tie
-use Rattle.recovery.proofs.scan.scan_tables.Reads as scan-tables-reads
-use Rattle.recovery.proofs.signed.closing_at.Reads as closing-at-reads
-use Rattle.recovery.proofs.signed.mark_above.Reads as mark-above-reads
-use Rattle.recovery.proofs.signed.newest_closing.Reads as newest-closing-reads
 
 newest-closing-requires : tie.Need-newest-closing-requires
 newest-closing-requires c κs = let a = c .before .before .before .before .before .before .before .args in let p = c .before .before .before .before .before .before .before .pre in let s = sectors-some (a .n) (a .l) (p .0) in (omega arith, (p .1 .0, p .1 .1 .0))

@@ -8,9 +8,6 @@ use Rattle.recovery.proofs.ScanLaws.{distinct-fails, tables-decide}
 use borrow.Author.Needs.{needs}
 use Rattle.recovery.proofs.scan.scan_tables.Statement.{statement}
 use Rattle.recovery.proofs.scan.scan_tables.Tie as tie
-use Rattle.recovery.proofs.agrees.log_agrees.Reads as log-agrees-reads
-use Rattle.recovery.proofs.distinct.numbers_distinct.Reads as numbers-distinct-reads
-use Rattle.recovery.proofs.scan.scan_live.Reads as scan-live-reads
 
 numbers-distinct-requires : tie.Need-numbers-distinct-requires
 numbers-distinct-requires c κs = let a = c .before .before .before .before .before .before .args in let p = c .before .before .before .before .before .before .pre in (p .1 .0, (p .1 .1 .0, sectors-most (a .n) (a .l) (p .0)))

@@ -9,8 +9,6 @@ use Rattle.recovery.proofs.Newest.{closing-none, closing-some}
 use borrow.Author.Needs.{needs}
 use Rattle.recovery.proofs.signed.closing_at.Statement.{statement}
 use Rattle.recovery.proofs.signed.closing_at.Tie as tie
-use Rattle.recovery.proofs.signed.number_at.Reads as number-at-reads
-use Rattle.sector.proofs.map_sector.is_closing.Reads as is-closing-reads
 
 sector-requires : tie.Need-sector-requires
 sector-requires c κs = search needs

@@ -10,8 +10,6 @@ use Rattle.recovery.specs.Signed.{below, numberAt}
 use Rattle.recovery.proofs.SignedLaws.{marks-none, marks-miss, marks-hit}
 use Rattle.recovery.proofs.signed.mark_above.Statement.{statement}
 use Rattle.recovery.proofs.signed.mark_above.Tie as tie
-use Rattle.recovery.proofs.signed.number_at.Reads as number-at-reads
-use Rattle.tables.proofs.bits.set_bit.Reads as set-bit-reads
 
 abbrev Inv-sectors : tie.InvT-sectors
 Inv-sectors image n marks c above₀ k₀ above k = (k ≤ n) × (length above ≡ length above₀) × (bitAt above ≡ below (λ j. ltb c (numberAt (bitAt marks) (sectorAt image) j)) k)

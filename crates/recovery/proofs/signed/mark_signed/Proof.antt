@@ -11,8 +11,6 @@ use Rattle.recovery.specs.Signed.{below, isSigned}
 use Rattle.recovery.proofs.SignedLaws.{marks-none, marks-miss, marks-hit, is-signed, signed-all}
 use Rattle.recovery.proofs.signed.mark_signed.Statement.{statement}
 use Rattle.recovery.proofs.signed.mark_signed.Tie as tie
-use Rattle.sector.proofs.map_sector.is_valid.Reads as is-valid-reads
-use Rattle.tables.proofs.bits.set_bit.Reads as set-bit-reads
 
 abbrev Inv-sectors : tie.InvT-sectors
 Inv-sectors image n l marks₀ k₀ marks k = (k ≤ n) × (length marks ≡ length marks₀) × (bitAt marks ≡ below (isSigned n l (sectorAt image)) k)

@@ -9,7 +9,6 @@ use Rattle.recovery.specs.Signed.{closingAt}
 use Rattle.recovery.proofs.Newest.{Newest, newest-first, newest-more, newest-same}
 use Rattle.recovery.proofs.signed.newest_closing.Statement.{statement}
 use Rattle.recovery.proofs.signed.newest_closing.Tie as tie
-use Rattle.recovery.proofs.signed.closing_at.Reads as closing-at-reads
 
 abbrev Inv-loop : tie.InvT-loop
 Inv-loop image n marks found₀ highest₀ k₀ found highest k = (k ≤ n) × Newest (closingAt (bitAt marks) (sectorAt image)) k found highest

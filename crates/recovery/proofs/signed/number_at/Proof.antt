@@ -9,8 +9,6 @@ use Rattle.recovery.proofs.SignedLaws.{number-none, number-some}
 use borrow.Author.Needs.{needs}
 use Rattle.recovery.proofs.signed.number_at.Statement.{statement}
 use Rattle.recovery.proofs.signed.number_at.Tie as tie
-use Rattle.sector.proofs.map_sector.number_of.Reads as number-of-reads
-use Rattle.tables.proofs.bits.is_set.Reads as is-set-reads
 
 is-set-requires : tie.Need-is-set-requires
 is-set-requires c κs = search needs

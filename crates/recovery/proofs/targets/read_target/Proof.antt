@@ -11,9 +11,6 @@ use Rattle.recovery.proofs.TargetLaws.{signed-here, target-unsigned, pi
 use borrow.Author.Needs.{needs}
 use Rattle.recovery.proofs.targets.read_target.Statement.{statement}
 use Rattle.recovery.proofs.targets.read_target.Tie as tie
-use Rattle.recovery.proofs.known.is_signed.Reads as is-signed-reads
-use Rattle.sector.proofs.map_sector.number_of.Reads as number-of-reads
-use Rattle.sector.proofs.map_sector.piece_of.Reads as piece-of-reads
 
 is-signed-requires : tie.Need-is-signed-requires
 is-signed-requires c κs = search needs

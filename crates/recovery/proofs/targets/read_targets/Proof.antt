@@ -14,10 +14,6 @@ use Rattle.recovery.proofs.ViewLaws.{inside}
 use Rattle.recovery.proofs.TargetLaws.{holder-is, count-most, count-is, target-is, target-low, target-high, Reading, reading-starts, reading-more, reading-ends}
 use Rattle.recovery.proofs.targets.read_targets.Statement.{statement}
 use Rattle.recovery.proofs.targets.read_targets.Tie as tie
-use Rattle.recovery.proofs.targets.read_target.Reads as read-target-reads
-use Rattle.sector.proofs.map_sector.branch_at.Reads as branch-at-reads
-use Rattle.sector.proofs.map_sector.branch_count.Reads as branch-count-reads
-use Rattle.sector.proofs.map_sector.number_of.Reads as number-of-reads
 
 abbrev Inv-loop : tie.InvT-loop
 Inv-loop seen₀ good₀ waiting₀ numbers₀ taken image n l k s holder count i₀ seen good waiting numbers i =

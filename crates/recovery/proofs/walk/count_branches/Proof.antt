@@ -12,7 +12,6 @@ use Rattle.recovery.specs.Walking.{branchWordCount}
 use Rattle.recovery.proofs.WalkedLaws.{count-none, count-more}
 use Rattle.recovery.proofs.walk.count_branches.Statement.{statement}
 use Rattle.recovery.proofs.walk.count_branches.Tie as tie
-use Rattle.sector.proofs.map_sector.branch_count.Reads as branch-count-reads
 
 abbrev Inv-loop : tie.InvT-loop
 Inv-loop image places count₀ i₀ count i = (i ≤ length places) × (count ≡ branchWordCount (sectorAt image) (at places) i) × (count ≤ 24 * i)

@@ -11,10 +11,6 @@ use Rattle.recovery.proofs.StartLaws.{no-record, no-start, start-here}
 use borrow.Author.Needs.{needs}
 use Rattle.recovery.proofs.walk.parked_at.Statement.{statement}
 use Rattle.recovery.proofs.walk.parked_at.Tie as tie
-use Rattle.recovery.proofs.walk.starts_at.Reads as starts-at-reads
-use Rattle.sector.proofs.park.is_park.Reads as is-park-reads
-use Rattle.sector.proofs.park.parked_number.Reads as parked-number-reads
-use Rattle.sector.proofs.park.parked_tail.Reads as parked-tail-reads
 
 sector-requires : tie.Need-sector-requires
 sector-requires c κs = search needs

@@ -11,7 +11,6 @@ use Rattle.tables.proofs.Filling.{Filled, filled-none, filled-length, filled-mo
 use Rattle.sector.proofs.Sectors.{sector-length}
 use Rattle.recovery.proofs.walk.read_numbers.Statement.{statement}
 use Rattle.recovery.proofs.walk.read_numbers.Tie as tie
-use Rattle.sector.proofs.map_sector.number_of.Reads as number-of-reads
 
 abbrev Inv-loop : tie.InvT-loop
 Inv-loop numbers₀ image places i₀ numbers i = Filled (λ q. at (wordsOf (sectorAt image (at places q))) 2) numbers₀ i numbers

@@ -13,9 +13,6 @@ use Rattle.recovery.proofs.StartLaws.{starts-low, starts-high, starts-u
 use borrow.Author.Needs.{needs}
 use Rattle.recovery.proofs.walk.starts_at.Statement.{statement}
 use Rattle.recovery.proofs.walk.starts_at.Tie as tie
-use Rattle.sector.proofs.map_sector.is_closing.Reads as is-closing-reads
-use Rattle.sector.proofs.map_sector.is_valid.Reads as is-valid-reads
-use Rattle.sector.proofs.map_sector.number_of.Reads as number-of-reads
 
 returns : tie.Need-returns
 returns c = let a = c .before .before .args in starts-low (a .n) (a .l) (sectorAt (a .image .now)) (a .tail) (a .number) (c .if1 .taken)

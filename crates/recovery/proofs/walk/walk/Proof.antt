@@ -11,9 +11,6 @@ use Rattle.recovery.proofs.WalkedLaws.{found-nowhere, found-low, found-
 use borrow.Author.Needs.{needs}
 use Rattle.recovery.proofs.walk.walk.Statement.{statement}
 use Rattle.recovery.proofs.walk.walk.Tie as tie
-use Rattle.recovery.proofs.walk.count_branches.Reads as count-branches-reads
-use Rattle.recovery.proofs.walk.parked_at.Reads as parked-at-reads
-use Rattle.recovery.proofs.walk.walk_tables.Reads as walk-tables-reads
 
 parked-at-requires : tie.Need-parked-at-requires
 parked-at-requires c κs = let a = c .before .before .before .before .before .args in let s = sectors-some (a .n) (a .l) (c .before .before .before .before .before .pre .0) in (c .before .before .before .before .before .pre .1 .0, omega arith)

@@ -7,8 +7,6 @@ use Rattle.recovery.proofs.ScanLaws.{is-map}
 use borrow.Author.Needs.{needs}
 use Rattle.recovery.proofs.walk.walk_fill.Statement.{statement}
 use Rattle.recovery.proofs.walk.walk_fill.Tie as tie
-use Rattle.recovery.proofs.fill_map.fill_map.Reads as fill-map-reads
-use Rattle.recovery.proofs.walk.read_numbers.Reads as read-numbers-reads
 
 fill-map-requires : tie.Need-fill-map-requires
 fill-map-requires c κs = search needs

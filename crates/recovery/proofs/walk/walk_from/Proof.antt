@@ -10,8 +10,6 @@ use Rattle.recovery.proofs.WalkLaws.{known-none, zeros-part}
 use borrow.Author.Needs.{needs}
 use Rattle.recovery.proofs.walk.walk_from.Statement.{statement}
 use Rattle.recovery.proofs.walk.walk_from.Tie as tie
-use Rattle.recovery.proofs.walk.walk_waiting.Reads as walk-waiting-reads
-use Rattle.types.proofs.geometry.Geometry.pieces_for.Reads as pieces-for-reads
 
 pieces-for-requires : tie.Need-pieces-for-requires
 pieces-for-requires c κs = search needs

@@ -6,7 +6,6 @@ use Rattle.recovery.proofs.WalkLaws.{newest-inside, step-none, newest-s
 use borrow.Author.Needs.{needs}
 use Rattle.recovery.proofs.walk.walk_step.Statement.{statement}
 use Rattle.recovery.proofs.walk.walk_step.Tie as tie
-use Rattle.recovery.proofs.targets.read_targets.Reads as read-targets-reads
 
 newest-requires : tie.Need-newest-requires
 newest-requires c κs = let h = c .before .before .before .before .before .before .before .pre .1 .0 in let e = c .before .before .before .before .before .before .before .pre .1 .1 .1 .numbersLong in omega arith

@@ -11,8 +11,6 @@ use Rattle.recovery.specs.Walking.{Known, walkOf, Waits}
 use Rattle.recovery.proofs.WalkLaws.{walked-none, walked-more}
 use Rattle.recovery.proofs.walk.walk_steps.Statement.{statement}
 use Rattle.recovery.proofs.walk.walk_steps.Tie as tie
-use Rattle.recovery.proofs.walk.walk_step.Reads as walk-step-reads
-use Rattle.types.proofs.geometry.Geometry.pieces_for.Reads as pieces-for-reads
 
 abbrev Inv-loop : tie.InvT-loop
 Inv-loop seen₀ good₀ waiting₀ numbers₀ taken₀ image n l pieces step₀ seen good waiting numbers taken step =

@@ -9,11 +9,6 @@ use Rattle.recovery.proofs.WalkedLaws.{places-long, place-below, walk-f
 use borrow.Author.Needs.{needs}
 use Rattle.recovery.proofs.walk.walk_tables.Statement.{statement}
 use Rattle.recovery.proofs.walk.walk_tables.Tie as tie
-use Rattle.recovery.proofs.agrees.log_agrees.Reads as log-agrees-reads
-use Rattle.recovery.proofs.walk.all_taken.Reads as all-taken-reads
-use Rattle.recovery.proofs.walk.walk_fill.Reads as walk-fill-reads
-use Rattle.recovery.proofs.walk.walk_from.Reads as walk-from-reads
-use Rattle.tables.proofs.fill.zero_words.Reads as zero-words-reads
 
 zero-words-requires : tie.Need-zero-words-requires
 zero-words-requires c κs = search needs

@@ -14,9 +14,6 @@ use Rattle.recovery.proofs.WalkLaws.{tail-inside, start-waits, walk-is}
 use borrow.Author.Needs.{needs}
 use Rattle.recovery.proofs.walk.walk_waiting.Statement.{statement}
 use Rattle.recovery.proofs.walk.walk_waiting.Tie as tie
-use Rattle.recovery.proofs.walk.walk_steps.Reads as walk-steps-reads
-use Rattle.sector.proofs.map_sector.number_of.Reads as number-of-reads
-use Rattle.sector.proofs.map_sector.piece_of.Reads as piece-of-reads
 
 sector-requires : tie.Need-sector-requires
 sector-requires c κs =
