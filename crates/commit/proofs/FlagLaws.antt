@@ -10,16 +10,12 @@ use lib.ListN.{length, getD, set, replicate}
 use lib.Seq.{getD-set-same, getD-set-other}
 use lib.Dec.{eqb, ltb}
 use borrow.Author.Tests.{eq-eqb, ne-eqb, lt-ltb, le-ltb}
+use Rattle.tables.proofs.Filling.{zeros-get}
 use Rattle.types.specs.Geometry.{pieceOf}
 use Rattle.volume.specs.Bounded.{at, anyBelow, countBelow, updated}
 use Rattle.volume.specs.Commit.{touches}
 use Rattle.volume.proofs.Bounded.{lt?, eq?, count-hit, count-miss}
 use Rattle.commit.specs.Arrays.{flagged}
-
-zeros-get : (n k : ℕ) → _≡_ {A = ℕ} (getD (replicate n 0) k 0) 0
-zeros-get zero k = refl
-zeros-get (suc n) zero = refl
-zeros-get (suc n) (suc k) = zeros-get n k
 
 pub none-flagged : (flags : List ℕ) (n : ℕ) → flags ≡ replicate n 0 → flagged flags ≡ (λ _. false)
 unfolding flagged

@@ -104,6 +104,13 @@ module _ (reached pl nu : List ℕ) (p b bound : ℕ) (only : (q : ℕ) → at p
       rw (eq-eqb q p z, eq-eqb (at pl q) b (ap (at pl) z ∙ e), lt-ltb (at nu q) bound (subst (λ (x : ℕ). at nu x < bound) (sym z) h)) (also (flagged reached q)))
       (λ (z : q ≡ p → ⊥). rw (ne-eqb q p z) (away q (λ (f : at pl q ≡ b). z (only q f .0)))) (eq? q p))
 
+-- A test of a whole list, at one place.
+pub all-at : (test : ℕ → Bool) (xs : List ℕ) (i : ℕ) → all test xs ≡ true → i < length xs → test (at xs i) ≡ true
+unfolding all
+all-at test [] i e h = absurd (not-suc-le-zero h)
+all-at test (x ∷ xs) zero e h = and-l (test x) (all test xs) e
+all-at test (x ∷ xs) (suc i) e h = all-at test xs i (and-r (test x) (all test xs) e) (le-of-suc-le-suc h)
+
 -- A signed sector: its branches are sectors, and at most 24 of them.
 module _ (n l : ℕ) (bytes : List ℕ) (signed : valid n l bytes (wordsOf bytes) ≡ true) where
   abbrev ws : List ℕ
@@ -131,12 +138,6 @@ module _ (n l : ℕ) (bytes : List ℕ) (signed : valid n l bytes (wordsOf bytes
   fit : branchesFit n (at ws 6) (branchWords ws) ≡ true
   unfolding valid c1 c2 c3 c4 c5
   fit = and-r (c1 && c2 && c3) c4 (and-l (c1 && c2 && c3 && c4) c5 signed)
-
-  all-at : (test : ℕ → Bool) (xs : List ℕ) (i : ℕ) → all test xs ≡ true → i < length xs → test (at xs i) ≡ true
-  unfolding all
-  all-at test [] i e h = absurd (not-suc-le-zero h)
-  all-at test (x ∷ xs) zero e h = and-l (test x) (all test xs) e
-  all-at test (x ∷ xs) (suc i) e h = all-at test xs i (and-r (test x) (all test xs) e) (le-of-suc-le-suc h)
 
   pub branch-inside : (i : ℕ) → length (branchWords ws) ≡ 24 → i < at ws 6 → (1 ≤ at (branchWords ws) i) × (at (branchWords ws) i ≤ n - 1)
   unfolding branchesFit

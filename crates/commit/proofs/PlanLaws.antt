@@ -9,6 +9,7 @@ use lib.ListN.{length, getD, take, drop, replicate, List·getD-append, List·get
 use lib.Seq.{getD-append-add, getD-drop, take-all, length-take-le}
 use lib.Dec.{eqb, ltb}
 use borrow.Author.Tests.{lt-ltb, le-ltb, eqb-true}
+use Rattle.tables.proofs.Filling.{zeros-get}
 use Rattle.types.specs.declared.state.State.{State}
 use Rattle.types.specs.Geometry.{piecesFor, pieceOf}
 use Rattle.volume.specs.Bounded.{at, listFrom, tabled, countBelow}
@@ -18,11 +19,6 @@ use Rattle.volume.specs.Placing.{base, placeOf}
 use Rattle.volume.specs.Commit.{touches, olderKey, listing, branchesFor, planned}
 use Rattle.volume.proofs.Bounded.{bool?, lt?, clash, tabled-at, tabled-past, listFrom-at, length-listFrom, anyBelow-none, count-le}
 use Rattle.commit.specs.Arrays.{flagged, unflagged, changeOf, Planning}
-
-zeros-get : (n k : ℕ) → _≡_ {A = ℕ} (getD (replicate n 0) k 0) 0
-zeros-get zero k = refl
-zeros-get (suc n) zero = refl
-zeros-get (suc n) (suc k) = zeros-get n k
 
 -- A copy of the used map in a longer one.
 pub copied : (us marks xs : List ℕ) (m : ℕ) → marks ≡ replicate m 0 → xs ≡ listFrom (at us) 0 (length us) ++ drop (length us) marks → bitAt xs ≡ bitAt us

@@ -6,7 +6,7 @@ use mathlib.Core.List.{List, [], _∷_, _++_, append-nil}
 use native.Mathlib.Nat.{not-suc-le-zero, le-of-suc-le-suc}
 use native.Mathlib.Numerals.{add-one}
 use native.Mathlib.Omega.{arith}
-use lib.ListN.{length, set, drop, replicate, length-append, length-drop}
+use lib.ListN.{length, getD, set, drop, replicate, length-append, length-drop}
 use lib.Seq.{drop-length}
 use Rattle.volume.specs.Bounded.{listFrom}
 use Rattle.volume.proofs.Bounded.{length-listFrom}
@@ -54,3 +54,9 @@ pub zeros : (from n : ℕ) → listFrom {A = ℕ} (λ _. 0) from n ≡ replicate
 unfolding listFrom
 zeros from zero = refl
 zeros from (suc n) = ap (λ (l : List ℕ). 0 ∷ l) (zeros (suc from) n)
+
+-- Zeros, read anywhere.
+pub zeros-get : (n k : ℕ) → _≡_ {A = ℕ} (getD (replicate n 0) k 0) 0
+zeros-get zero k = refl
+zeros-get (suc n) zero = refl
+zeros-get (suc n) (suc k) = zeros-get n k

@@ -28,6 +28,7 @@ use Rattle.volume.proofs.Names.{sound, piece}
 use Rattle.volume.proofs.Invariant.{fits}
 use Rattle.volume.proofs.Steps.{passes-first, passes-rest}
 use Rattle.commit.specs.Arrays.{Live}
+use Rattle.commit.proofs.ListLaws.{all-at}
 use Rattle.vlog.proofs.ReadLaws.{StateTest, TablesTest}
 
 module _ (s : State) (im mp pl nu us : List ℕ) (head : ℕ) (blocks : List ℕ) (fit : Bool) (count : ℕ) (b1 : Bool) (f1 : StateTest s im b1) where
@@ -151,12 +152,6 @@ pub record Passed (s : State) (im mp pl nu us : List ℕ) (head : ℕ) (blocks :
   pub live : Live (s .n) (s .l) (sectorAt im) (at pl) (piecesFor (s .l))
   pub room : count + piecesFor (s .l) ≤ freeSectors (s .n) (bitAt us)
   pub few : s .number ≤ 4294967039
-
-all-at : (test : ℕ → Bool) (xs : List ℕ) (i : ℕ) → all test xs ≡ true → i < length xs → test (at xs i) ≡ true
-unfolding all
-all-at test [] i e h = absurd (not-suc-le-zero h)
-all-at test (x ∷ xs) zero e h = and-l (test x) (all test xs) e
-all-at test (x ∷ xs) (suc i) e h = all-at test xs i (and-r (test x) (all test xs) e) (le-of-suc-le-suc h)
 
 -- Rising numbers are all different.
 rising : (blocks : List ℕ) (m : ℕ) → allBelow (λ i. ltb (at blocks i) (at blocks (suc i))) m ≡ true → (i j : ℕ) → i < j → j ≤ m → at blocks i < at blocks j

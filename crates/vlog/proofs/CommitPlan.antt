@@ -9,6 +9,7 @@ use lib.ListN.{length, getD, take, drop, replicate, length-append, length-drop, 
 use lib.Seq.{getD-append-add, getD-drop}
 use lib.Dec.{eqb}
 use borrow.Author.Tests.{eq-eqb, ne-eqb}
+use Rattle.tables.proofs.Filling.{zeros-get}
 use Rattle.types.specs.declared.state.State.{State}
 use Rattle.types.specs.Geometry.{piecesFor, pieceOf}
 use Rattle.volume.specs.Bounded.{at, countBelow, isZero, listFrom}
@@ -28,11 +29,6 @@ use Rattle.commit.proofs.PlanLaws.{listing-any}
 use Rattle.vlog.specs.Commit.{planAction, changeWith, changeBy}
 use Rattle.vlog.proofs.CommitChecks.{Passed}
 use Rattle.vlog.proofs.CommitLaws.{action-plan, action-change}
-
-zeros-get : (n k : ℕ) → _≡_ {A = ℕ} (getD (replicate n 0) k 0) 0
-zeros-get zero k = refl
-zeros-get (suc n) zero = refl
-zeros-get (suc n) (suc k) = zeros-get n k
 
 module _ (s : State) (im mp pl nu us : List ℕ) (head : ℕ) (blocks bytes : List ℕ) (count : ℕ) (p : Passed s im mp pl nu us head blocks count)
     (how : (count ≡ 0) ⊎ (count ≡ length blocks)) where

@@ -9,6 +9,7 @@ use native.Mathlib.Omega.{arith}
 use lib.ListN.{getD, replicate}
 use lib.Dec.{eqb, ltb}
 use borrow.Author.Tests.{eq-eqb, ne-eqb, lt-ltb, le-ltb}
+use Rattle.tables.proofs.Filling.{zeros-get}
 use Rattle.types.specs.Geometry.{piecesFor}
 use Rattle.volume.specs.Bounded.{at, elem, always, gathered, listFrom, tabled, updated}
 use Rattle.volume.specs.Tables.{bitAt, tablesOf, zeroTables, namedBy, usedBy}
@@ -16,11 +17,6 @@ use Rattle.volume.specs.Format.{formatTables}
 use Rattle.volume.proofs.Bounded.{lt?, eq?, gathered-has, gathered-own, not-elem, tabled-at}
 
 -- Zeros.
-zeros-get : (n k : ℕ) → _≡_ {A = ℕ} (getD (replicate n 0) k 0) 0
-zeros-get zero k = refl
-zeros-get (suc n) zero = refl
-zeros-get (suc n) (suc k) = zeros-get n k
-
 pub zeros-at : (n : ℕ) → at (replicate n 0) ≡ (λ _. 0)
 zeros-at n = fun-ext (zeros-get n)
 
