@@ -58,7 +58,10 @@ slice-write-places c =
     omega arith
 
 sector-after-requires : tie.Need-sector-after-requires Inv-loop μ-loop
-sector-after-requires c κs = c .before .before .before .before .find-place .ensures .1
+sector-after-requires c κs =
+    let h = c .before .before .before .before .find-place .ensures .1 in
+    let i = c .before .before .before .before .before .before .before .before .before .before .pre .1 .0 in
+    omega arith
 
 add-j : tie.Need-add-j Inv-loop μ-loop
 add-j c =
