@@ -5,9 +5,3 @@ pub mod FormatLaws
 pub mod LentLaws
 pub mod SizeLaws
 pub mod ParkLaws
-pub mod BlockLaws
-pub mod CommitChecks
-pub mod CommitLaws
-pub mod CommitPlan
-pub mod WriteLaws
-pub mod RecoverLaws

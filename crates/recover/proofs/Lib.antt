@@ -1,0 +1,2 @@
+-- Laws of the definitions that the proof of recover cites.
+pub mod RecoverLaws

@@ -1,0 +1,2 @@
+// The recover call.
+pub mod recover;

@@ -1,0 +1,2 @@
+-- A commit with a plan that is made already.
+pub mod Commit
