@@ -21,6 +21,8 @@
  *
  * A storing call is told how many sectors it may store (its allowance). With fewer than it needs it makes that many,
  * from the front, and answers 10, as if the power had failed there. VLOG_NO_LIMIT is always enough.
+ *
+ * Nothing is allocated. A recover takes up to 300 KB of stack, any other call up to 16 KB.
  */
 #ifndef VLOG_H
 #define VLOG_H
@@ -103,7 +105,7 @@ vlog_result vlog_format(vlog_state state,
                         uint32_t l, uint32_t allowance);
 
 /* Writes 1 to 64 blocks, all or none: 512 bytes for each number, in the order of the numbers. Free sectors are sought
- * from the head upwards (a sector below N, as the one that lies nearest to a disk's arm). */
+ * from the head upwards: a sector below N, as the one nearest to a disk's arm. */
 vlog_result vlog_write(vlog_state state,
                        uint8_t *image, size_t image_length,
                        uint32_t *map, size_t map_length,

@@ -6,8 +6,6 @@ use Rattle.volume.specs.Calls.{dropOf}
 use borrow.Author.Needs.{needs}
 use Rattle.capi.proofs.calls.vlog_drop.Statement.{statement}
 use Rattle.capi.proofs.calls.vlog_drop.Tie as tie
-use Rattle.capi.proofs.plain.result_of.Reads as result-of-reads
-use Rattle.capi.proofs.plain.state_of.Reads as state-of-reads
 
 state-of-requires : tie.Need-state-of-requires
 state-of-requires c κs = search needs

@@ -3,7 +3,6 @@ use Rattle.capi.proofs.PlainLaws.{plain-is}
 use borrow.Author.Needs.{needs}
 use Rattle.capi.proofs.plain.plain_of.Statement.{statement}
 use Rattle.capi.proofs.plain.plain_of.Tie as tie
-use Rattle.capi.proofs.plain.phase_number.Reads as phase-number-reads
 
 phase-number-requires : tie.Need-phase-number-requires
 phase-number-requires c κs = search needs

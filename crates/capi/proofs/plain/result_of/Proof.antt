@@ -3,8 +3,6 @@ use Rattle.capi.proofs.PlainLaws.{result-is}
 use borrow.Author.Needs.{needs}
 use Rattle.capi.proofs.plain.result_of.Statement.{statement}
 use Rattle.capi.proofs.plain.result_of.Tie as tie
-use Rattle.capi.proofs.plain.state_left.Reads as state-left-reads
-use Rattle.types.proofs.answer.Answer.sectors_read.Reads as sectors-read-reads
 
 number-requires : tie.Need-number-requires
 number-requires c κs = search needs

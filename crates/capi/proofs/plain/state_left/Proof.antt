@@ -3,7 +3,6 @@ use Rattle.capi.proofs.PlainLaws.{left-accepted, left-late, left-kept}
 use borrow.Author.Needs.{needs}
 use Rattle.capi.proofs.plain.state_left.Statement.{statement}
 use Rattle.capi.proofs.plain.state_left.Tie as tie
-use Rattle.capi.proofs.plain.plain_of.Reads as plain-of-reads
 
 plain-of-requires : tie.Need-plain-of-requires
 plain-of-requires c κs = search needs

@@ -3,7 +3,6 @@ use Rattle.capi.proofs.PlainLaws.{state-is}
 use borrow.Author.Needs.{needs}
 use Rattle.capi.proofs.plain.state_of.Statement.{statement}
 use Rattle.capi.proofs.plain.state_of.Tie as tie
-use Rattle.capi.proofs.plain.phase_of.Reads as phase-of-reads
 
 phase-of-requires : tie.Need-phase-of-requires
 phase-of-requires c κs = search needs
