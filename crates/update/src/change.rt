@@ -18,7 +18,6 @@ ghost use Rattle.volume.specs.Calls.{viewOf, commitChecks};
 ghost use Rattle.commit.specs.Arrays.{flagged, planOf, Settling};
 ghost use Rattle.update.specs.Commit.{planAction, changeWith, changeBy};
 use crate::blocks;
-use vlog::checks;
 use commit::entries;
 use commit::plan;
 use commit::settle;
@@ -32,6 +31,7 @@ use types::answer::Verdict;
 use types::geometry::Geometry;
 use types::state::Outcome;
 use types::state::State;
+use vlog::checks;
 
 // A tail with a greater number leaves too few numbers for another commit.
 const GREATEST: u32 = 4_294_967_039;

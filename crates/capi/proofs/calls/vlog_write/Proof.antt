@@ -1,0 +1,51 @@
+-- The definition of write, its outcome in numbers.
+use Rattle.capi.proofs.Numbers.{call-in-numbers}
+use Rattle.types.specs.declared.state.State.{State}
+use Rattle.volume.specs.Tables.{memory}
+use Rattle.volume.specs.Calls.{writeOf}
+use borrow.Author.Needs.{needs}
+use Rattle.capi.proofs.calls.vlog_write.Statement.{statement}
+use Rattle.capi.proofs.calls.vlog_write.Tie as tie
+
+state-of-requires : tie.Need-state-of-requires
+state-of-requires c κs = search needs
+
+write-requires : tie.Need-write-requires
+write-requires c κs = search needs
+
+result-of-requires : tie.Need-result-of-requires
+result-of-requires c κs = search needs
+
+same-length : tie.Need-same-length
+same-length c = search needs
+
+same-length-2 : tie.Need-same-length-2
+same-length-2 c = search needs
+
+same-length-3 : tie.Need-same-length-3
+same-length-3 c = search needs
+
+same-length-4 : tie.Need-same-length-4
+same-length-4 c = search needs
+
+same-length-5 : tie.Need-same-length-5
+same-length-5 c = search needs
+
+returns : tie.Need-returns
+returns c =
+    let a = c .before .before .before .before .before .before .before .before .before .before .before .before .before .before .before .before .before .before .before .before .before .before .before .before .before .args in
+    call-in-numbers (a .c) _ (c .before .before .before .before .before .before .before .before .before .before .before .write .result) _ (c .result-of .result) (c .before .before .before .before .before .before .before .before .before .before .before .before .before .before .before .before .before .state-of .ensures) (c .result-of .ensures) (λ (s : State). writeOf s (memory (a .image .now) (a .map .now) (a .places .now) (a .numbers .now) (a .used .now)) (a .head) (a .blocks .now) (a .bytes .now) (a .allowance)) (c .before .before .before .before .before .before .before .before .before .before .before .write .ensures)
+
+pub vlog-write-spec : {M : Type 1} → statement M
+vlog-write-spec =
+    tie.close
+    (tie.spec
+    state-of-requires
+    write-requires
+    result-of-requires
+    same-length
+    same-length-2
+    same-length-3
+    same-length-4
+    same-length-5
+    returns)

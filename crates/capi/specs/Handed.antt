@@ -1,0 +1,32 @@
+-- What an exported call hands back and leaves, as one value to be equated with a definition.
+use Prim.Native.Nat.{ℕ}
+use mathlib.Core.List.{List}
+use Rattle.volume.specs.Tables.{Memory}
+use Rattle.volume.specs.Store.{After}
+use Rattle.volume.specs.Calls.{ReadAfter}
+use Rattle.capi.specs.declared.plain.CState.{CState}
+use Rattle.capi.specs.declared.plain.CResult.{CResult}
+use Rattle.capi.specs.Plain.{resultOf}
+
+pub record Handed : Type 0 where
+  pub result : CResult
+  pub memory : Memory
+
+abbrev pub handed : CResult → Memory → Handed
+handed result memory = record { result = result; memory = memory }
+
+-- A call's definition, its outcome in numbers.
+abbrev pub inNumbers : CState → After → Handed
+inNumbers c a = handed (resultOf c (a .outcome)) (a .memory)
+
+-- Of a read: its 512 bytes too.
+pub record ReadHanded : Type 0 where
+  pub result : CResult
+  pub memory : Memory
+  pub out : List ℕ
+
+abbrev pub readHanded : CResult → Memory → List ℕ → ReadHanded
+readHanded result memory out = record { result = result; memory = memory; out = out }
+
+abbrev pub readInNumbers : CState → ReadAfter → ReadHanded
+readInNumbers c a = readHanded (resultOf c (a .outcome)) (a .memory) (a .out)

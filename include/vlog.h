@@ -1,0 +1,165 @@
+/*
+ * A virtual log volume: a block layer that never overwrites in place, so that a power failure loses nothing that was
+ * accepted.
+ *
+ * A volume is an image of N sectors of 512 bytes. It shows L blocks of 512 bytes, numbered from 0. L is 1 to 24,576,
+ * P is L / 96 rounded up, and N is 2P + 2 to 65,536.
+ *
+ * A call works on memory alone: the image and the tables that it is lent. All lengths are in elements:
+ *
+ *     image     512 * N bytes
+ *     map       L words
+ *     places    P words
+ *     numbers   P words
+ *     used      N / 8 bytes, rounded up
+ *
+ * Whatever these hold, a call returns and touches nothing else. Each pointer must be valid for its length, aligned for
+ * its type and not null (a length of 0 too), and nothing lent for writing may overlap anything else that is lent.
+ *
+ * A caller hands each call the state, and goes on with the state in the result. A state for the first format or recover
+ * may hold anything: those two look at nothing in it.
+ *
+ * A storing call is told how many sectors it may store (its allowance). With fewer than it needs it makes that many,
+ * from the front, and answers 10, as if the power had failed there. VLOG_NO_LIMIT is always enough.
+ *
+ * Nothing is allocated. A recover takes up to 300 KB of stack, any other call up to 16 KB.
+ */
+#ifndef VLOG_H
+#define VLOG_H
+
+#include <stddef.h>
+#include <stdint.h>
+
+#ifdef __cplusplus
+extern "C" {
+#endif
+
+#define VLOG_SECTOR 512u
+#define VLOG_NO_LIMIT UINT32_MAX
+
+/* The tables' lengths. */
+#define VLOG_PIECES(l) (((uint32_t)(l) + 95u) / 96u)
+#define VLOG_USED_BYTES(n) (((uint32_t)(n) + 7u) / 8u)
+
+/* Phases. Any other number counts as cut. */
+enum {
+    VLOG_RUNNING = 0, /* every call */
+    VLOG_PARKED = 1,  /* read, format and recover */
+    VLOG_CUT = 2      /* format and recover */
+};
+
+/* Answers. The lowest number that applies is the one given. */
+enum {
+    VLOG_ACCEPTED = 0,
+    /* 1 to 7 change nothing: the state comes back as it was handed in, the image and the tables are as they were. */
+    VLOG_SIZE = 1,            /* N, L or the image's length: not in the ranges above, or the image is not 512 * N bytes
+                                 of the state's N (for format and recover: not whole sectors) */
+    VLOG_BUFFER_LENGTH = 2,   /* a table, the bytes or the 512 bytes of a read have the wrong length */
+    VLOG_BLOCK_NUMBERS = 3,   /* expected: 1 to 64 strictly ascending numbers below L, and a head below N; for a read,
+                                 a number below L */
+    VLOG_WRONG_PHASE = 4,     /* write, drop and park need running, read needs running or parked */
+    VLOG_INCONSISTENT = 5,    /* the tables are not sound or do not agree with the image: recover them; for a read, its
+                                 entry of the map names a sector outside 1 to N - 1 */
+    VLOG_NO_ROOM = 6,         /* a write needs as many free sectors as it has blocks, and P more: drop blocks first */
+    VLOG_NUMBERS_USED_UP = 7, /* the tail's number is above 4,294,967,039: copy to a fresh volume */
+    /* 8 and 9, of a recover: the image is as it was, the tables are zeros, the phase is cut. */
+    VLOG_NO_LOG = 8,          /* no sector of the image closes a commit: not a volume of L blocks, or not formatted */
+    VLOG_DAMAGED_LOG = 9,     /* two map sectors have one number, a piece is missing, or the tables are not sound */
+    /* 10: the allowed stores were made, more were needed. The phase is cut: recover. (A cut format is done again.) */
+    VLOG_POWER_FAILED = 10
+};
+
+/* How a recover found the log. */
+enum { VLOG_WALK = 1, VLOG_SCAN = 2 };
+
+typedef struct {
+    uint32_t n;      /* sectors of the image */
+    uint32_t l;      /* blocks that it shows */
+    uint32_t tail;   /* the sector of the newest map sector, */
+    uint32_t number; /* and its number */
+    uint32_t phase;
+} vlog_state;
+
+typedef struct {
+    uint32_t answer; /* 0, or the number of the refusal */
+    uint32_t stores; /* sectors stored; 0 on every refusal but 10 */
+    uint32_t way;    /* of an accepted recover: VLOG_WALK or VLOG_SCAN, else 0 */
+    uint32_t read;   /* and the sectors that it read, else 0 */
+    uint32_t n, l, tail, number, phase; /* the state to go on with */
+} vlog_result;
+
+/* The state of a result. */
+static inline vlog_state vlog_state_of(vlog_result r)
+{
+    vlog_state s = {r.n, r.l, r.tail, r.number, r.phase};
+    return s;
+}
+
+/* Makes an empty volume of l blocks in the image, with N + P stores. N is taken from the image's length. */
+vlog_result vlog_format(vlog_state state,
+                        uint8_t *image, size_t image_length,
+                        uint32_t *map, size_t map_length,
+                        uint32_t *places, size_t places_length,
+                        uint32_t *numbers, size_t numbers_length,
+                        uint8_t *used, size_t used_length,
+                        uint32_t l, uint32_t allowance);
+
+/* Writes 1 to 64 blocks, all or none: 512 bytes for each number, in the order of the numbers. Free sectors are sought
+ * from the head upwards: a sector below N, as the one nearest to a disk's arm. */
+vlog_result vlog_write(vlog_state state,
+                       uint8_t *image, size_t image_length,
+                       uint32_t *map, size_t map_length,
+                       uint32_t *places, size_t places_length,
+                       uint32_t *numbers, size_t numbers_length,
+                       uint8_t *used, size_t used_length,
+                       uint32_t head,
+                       const uint32_t *blocks, size_t blocks_length,
+                       const uint8_t *bytes, size_t bytes_length,
+                       uint32_t allowance);
+
+/* Drops 1 to 64 blocks, all or none: they read as zeros, and their sectors are free. */
+vlog_result vlog_drop(vlog_state state,
+                      uint8_t *image, size_t image_length,
+                      uint32_t *map, size_t map_length,
+                      uint32_t *places, size_t places_length,
+                      uint32_t *numbers, size_t numbers_length,
+                      uint8_t *used, size_t used_length,
+                      uint32_t head,
+                      const uint32_t *blocks, size_t blocks_length,
+                      uint32_t allowance);
+
+/* Fills out, 512 bytes, with a block. A block never written, or dropped, is zeros. */
+vlog_result vlog_read(vlog_state state,
+                      const uint8_t *image, size_t image_length,
+                      const uint32_t *map, size_t map_length,
+                      const uint32_t *places, size_t places_length,
+                      const uint32_t *numbers, size_t numbers_length,
+                      const uint8_t *used, size_t used_length,
+                      uint32_t block,
+                      uint8_t *out, size_t out_length);
+
+/* Notes the tail in sector 0, with one store, so that the next recover can walk and need not scan. A parked volume can
+ * be read; to write again, recover it. */
+vlog_result vlog_park(vlog_state state,
+                      uint8_t *image, size_t image_length,
+                      const uint32_t *map, size_t map_length,
+                      const uint32_t *places, size_t places_length,
+                      const uint32_t *numbers, size_t numbers_length,
+                      const uint8_t *used, size_t used_length,
+                      uint32_t allowance);
+
+/* Finds the log of a volume of l blocks in the image and fills the tables from it: by a walk if it was parked and the
+ * walk finds all, otherwise by a scan of all sectors. */
+vlog_result vlog_recover(vlog_state state,
+                         uint8_t *image, size_t image_length,
+                         uint32_t *map, size_t map_length,
+                         uint32_t *places, size_t places_length,
+                         uint32_t *numbers, size_t numbers_length,
+                         uint8_t *used, size_t used_length,
+                         uint32_t l, uint32_t allowance);
+
+#ifdef __cplusplus
+}
+#endif
+
+#endif
