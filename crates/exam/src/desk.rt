@@ -125,7 +125,7 @@ fn is_refused(desk: Desk, call: Call, r: Request, line: &[u8]) -> bool {
     match trouble {
         Trouble::Fine => false,
         _ => {
-            say::say_trouble(number, line, Call::Unknown, 0, trouble);
+            say::say_obstacle(number, line, trouble);
             true
         }
     }

@@ -188,6 +188,14 @@ fn say_form(call: Call) {
     }
 }
 
+// The start of what was found, where it is long.
+fn shortened(text: &[u8]) -> &[u8] {
+    if text.len() > 40 {
+        return words::part(text, 0, 40);
+    }
+    text
+}
+
 // Where in the line the trouble is: the word there, or the line's end.
 fn say_place(line: &[u8], at: usize) {
     let word = words::part(line, at, words::word_end(line, at));
@@ -196,7 +204,7 @@ fn say_place(line: &[u8], at: usize) {
         return;
     }
     say(b", found ");
-    say(word);
+    say(shortened(word));
 }
 
 // A line that is not understood: what was expected, and what stands there.
@@ -206,5 +214,15 @@ pub fn say_trouble(number: u32, line: &[u8], call: Call, at: usize, trouble: Tro
     say_call_trouble(trouble);
     say_form(call);
     say_place(line, at);
+    say(b"\n");
+}
+
+// A call that is understood and cannot be made here.
+pub fn say_obstacle(number: u32, line: &[u8], trouble: Trouble) {
+    say_count(b"line ", number);
+    say(b": ");
+    say_call_trouble(trouble);
+    say(b", found ");
+    say(shortened(line));
     say(b"\n");
 }
