@@ -1,0 +1,45 @@
+use Prim.Native.Nat.{_-_}
+use borrow.Author.Needs.{needs}
+use Rattle.exam.proofs.calls.show_sectors.Statement.{statement}
+use Rattle.exam.proofs.calls.show_sectors.Tie as tie
+
+abbrev Inv-loop : tie.InvT-loop
+Inv-loop image n l k₀ k = Unit {0}
+
+abbrev μ-loop : tie.MeasureT-loop
+μ-loop image n l k₀ k = n - k
+
+loop-holds : tie.Need-loop-holds Inv-loop μ-loop
+loop-holds c = tt
+
+sector-part-requires : tie.Need-sector-part-requires Inv-loop μ-loop
+sector-part-requires c κs = search needs
+
+say-sector-requires : tie.Need-say-sector-requires Inv-loop μ-loop
+say-sector-requires c κs = search needs
+
+add-k : tie.Need-add-k Inv-loop μ-loop
+add-k c = search needs
+
+loop-less : tie.Need-loop-less Inv-loop μ-loop
+loop-less c = search needs
+
+loop-again : tie.Need-loop-again Inv-loop μ-loop
+loop-again c = tt
+
+returns : tie.Need-returns Inv-loop μ-loop
+returns c = search needs
+
+pub show-sectors-spec : {M : Type 1} → statement M
+show-sectors-spec =
+    tie.close
+    (tie.spec
+    Inv-loop
+    μ-loop
+    loop-holds
+    sector-part-requires
+    say-sector-requires
+    add-k
+    loop-less
+    loop-again
+    returns)

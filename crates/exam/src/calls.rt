@@ -1,0 +1,279 @@
+// The calls on the volume, and their answers.
+use paper::request::Call;
+use paper::request::Request;
+use paper::say;
+use paper::sector_line;
+use paper::words;
+use restart::recover;
+use sector::block;
+use types::answer::Answer;
+use types::geometry::Geometry;
+use types::state::Outcome;
+use types::state::State;
+use update::write;
+use vlog::format;
+use vlog::park;
+use vlog::read;
+ghost use Prim.Native.Nat.{_≤_, _*_};
+
+// The calls that may store.
+fn store(
+    call: Call,
+    r: Request,
+    s: State,
+    image: &mut [u8],
+    map: &mut [u32],
+    places: &mut [u32],
+    numbers: &mut [u32],
+    used: &mut [u8],
+    blocks: &[u32],
+    bytes: &[u8],
+) -> Outcome {
+    let stores = r.stores;
+    let first = r.first;
+    let l = s.l;
+    match call {
+        Call::Format => format::format(s, image, map, places, numbers, used, first, stores),
+        Call::Write => write::write(
+            s,
+            image,
+            map,
+            places,
+            numbers,
+            used,
+            first,
+            blocks,
+            bytes,
+            stores,
+        ),
+        Call::Drop => write::drop(s, image, map, places, numbers, used, first, blocks, stores),
+        Call::Park => park::park(s, image, map, places, numbers, used, stores),
+        _ => recover::recover(s, image, map, places, numbers, used, l, stores),
+    }
+}
+
+// Reads a block, and says it.
+fn say_read(
+    s: State,
+    image: &[u8],
+    map: &[u32],
+    places: &[u32],
+    numbers: &[u32],
+    used: &[u8],
+    block: u32,
+) -> Outcome {
+    let mut out = [0u8; 512];
+    let done = read::read(s, image, map, places, numbers, used, block, &mut out);
+    let answer = done.answer;
+    say::say_count(b"read ", block);
+    if answer.number() != 0 {
+        say::say_refusal(answer);
+        return done;
+    }
+    say::say(b": accepted; ");
+    say::say_block(&out);
+    say::say(b"\n");
+    done
+}
+
+// Whether a block is not all zeros. Its line is said where that is asked for.
+fn is_shown(
+    s: State,
+    image: &[u8],
+    map: &[u32],
+    places: &[u32],
+    numbers: &[u32],
+    used: &[u8],
+    block: u32,
+    aloud: bool,
+) -> bool {
+    let mut out = [0u8; 512];
+    read::read(s, image, map, places, numbers, used, block, &mut out);
+    if block::is_blank(&out) {
+        return false;
+    }
+    if aloud {
+        say::say_count(b"block ", block);
+        say::say(b" ");
+        say::say_block(&out);
+        say::say(b"\n");
+    }
+    true
+}
+
+// One more where a block is shown.
+fn counted(count: u32, shown: bool) -> u32 {
+    if shown {
+        if count < 65536 {
+            return count + 1;
+        }
+    }
+    count
+}
+
+// How many blocks are not all zeros.
+fn show_blocks(
+    s: State,
+    image: &[u8],
+    map: &[u32],
+    places: &[u32],
+    numbers: &[u32],
+    used: &[u8],
+    aloud: bool,
+) -> u32 {
+    let l = s.l;
+    let mut count = 0u32;
+    let mut b = 0u32;
+    while b < l {
+        let shown = is_shown(s, image, map, places, numbers, used, b, aloud);
+        count = counted(count, shown);
+        b += 1;
+    }
+    count
+}
+
+// The blocks that are not all zeros, where reading block 0 is not refused.
+fn show(
+    s: State,
+    image: &[u8],
+    map: &[u32],
+    places: &[u32],
+    numbers: &[u32],
+    used: &[u8],
+) -> Outcome {
+    let mut out = [0u8; 512];
+    let done = read::read(s, image, map, places, numbers, used, 0, &mut out);
+    let answer = done.answer;
+    say::say(b"show");
+    if answer.number() != 0 {
+        say::say_refusal(answer);
+        return done;
+    }
+    say::say_count(
+        b": ",
+        show_blocks(s, image, map, places, numbers, used, false),
+    );
+    say::say(b" blocks\n");
+    show_blocks(s, image, map, places, numbers, used, true);
+    done
+}
+
+// The bytes of so many sectors.
+fn bytes_of(sectors: u32) -> usize
+    ensures { λ r. ⌜ r ≤ 4294967296 * 512 ⌝ }
+{
+    sectors as usize * 512
+}
+
+// The bytes of sector k.
+fn sector_part(image: &[u8], k: u32) -> &[u8] {
+    let first = bytes_of(k);
+    words::part(image, first, first + 512)
+}
+
+// The sectors of the image, a line each.
+fn show_sectors(image: &[u8], n: u32, l: u32) {
+    let mut k = 0u32;
+    while k < n {
+        sector_line::say_sector(sector_part(image, k), k, n, l);
+        k += 1;
+    }
+}
+
+fn say_done(call: Call, done: Outcome) {
+    let answer = done.answer;
+    let state = done.state;
+    say::say_answer(call, answer, state);
+}
+
+// A call on the parts that belong to the volume.
+fn perform(
+    call: Call,
+    r: Request,
+    s: State,
+    image: &mut [u8],
+    map: &mut [u32],
+    places: &mut [u32],
+    numbers: &mut [u32],
+    used: &mut [u8],
+    blocks: &[u32],
+    bytes: &[u8],
+) -> Outcome {
+    match call {
+        Call::Read => say_read(s, image, map, places, numbers, used, r.first),
+        Call::Show => show(s, image, map, places, numbers, used),
+        Call::Sectors => {
+            show_sectors(image, s.n, s.l);
+            Outcome {
+                answer: Answer::Accepted { stores: 0 },
+                state: s,
+            }
+        }
+        _ => {
+            let done = store(call, r, s, image, map, places, numbers, used, blocks, bytes);
+            say_done(call, done);
+            done
+        }
+    }
+}
+
+// x where it is at most `most`, and otherwise 0.
+fn within(x: usize, most: usize) -> usize
+    ensures { λ r. ⌜ r ≤ most ⌝ }
+{
+    if x <= most {
+        return x;
+    }
+    0
+}
+
+// The bytes of the blocks of a line.
+fn bytes_part(bytes: &[u8], count: usize) -> &[u8] {
+    if count < 1024 {
+        return words::part(bytes, 0, count * 512);
+    }
+    words::part(bytes, 0, 0)
+}
+
+// The blocks from `from` up to `to`; none where these are no positions of the list.
+fn blocks_part(blocks: &[u32], from: usize, to: usize) -> &[u32] {
+    if to <= blocks.len() {
+        if from <= to {
+            return &blocks[from..to];
+        }
+    }
+    &blocks[..0]
+}
+
+// Lends the parts that belong to a volume of this size: of an image or a map that is out of range, nothing.
+pub fn lend(
+    call: Call,
+    r: Request,
+    s: State,
+    size: Geometry,
+    image: &mut [u8],
+    map: &mut [u32],
+    places: &mut [u32],
+    numbers: &mut [u32],
+    used: &mut [u8],
+    blocks: &[u32],
+    bytes: &[u8],
+) -> Outcome {
+    let n = within(bytes_of(size.n), image.len());
+    let l = within(size.l as usize, map.len());
+    let p = within(Geometry::pieces_for(size.l) as usize, places.len());
+    let q = within(p, numbers.len());
+    let u = within(size.used_bytes() as usize, used.len());
+    perform(
+        call,
+        r,
+        s,
+        &mut image[..n],
+        &mut map[..l],
+        &mut places[..p],
+        &mut numbers[..q],
+        &mut used[..u],
+        blocks_part(blocks, 0, r.count),
+        bytes_part(bytes, r.count),
+    )
+}

@@ -1,0 +1,213 @@
+// The desk: it takes a line apart, lends the volume's parts to the call, and keeps the state.
+use crate::calls;
+use paper::data::Trouble;
+use paper::request;
+use paper::request::Call;
+use paper::request::Request;
+use paper::say;
+use types::geometry::Geometry;
+use types::state::State;
+
+pub struct Desk {
+    pub state: State,
+    // Whether there is a volume.
+    pub open: bool,
+    // Whether a line was not understood.
+    pub stopped: bool,
+    // The line's number, from 1, and where in the paper the next one begins.
+    pub line: u32,
+    pub at: usize,
+}
+
+// Sectors that the program holds.
+const HELD: u32 = 4096;
+
+// The number after a line's.
+fn counted(line: u32) -> u32 {
+    if line < 4_294_967_295 {
+        return line + 1;
+    }
+    line
+}
+
+impl Desk {
+    pub fn opened() -> Desk {
+        Desk {
+            state: State::lost(0, 0),
+            open: false,
+            stopped: false,
+            line: 0,
+            at: 0,
+        }
+    }
+
+    // The desk at the next line; the one after it begins at `at`.
+    pub fn moved(self, at: usize) -> Desk {
+        let state = self.state;
+        Desk {
+            state,
+            open: self.open,
+            stopped: self.stopped,
+            line: counted(self.line),
+            at,
+        }
+    }
+
+    fn stop(self) -> Desk {
+        let state = self.state;
+        Desk {
+            state,
+            open: self.open,
+            stopped: true,
+            line: self.line,
+            at: self.at,
+        }
+    }
+
+    fn with(self, state: State, open: bool) -> Desk {
+        Desk {
+            state,
+            open,
+            stopped: self.stopped,
+            line: self.line,
+            at: self.at,
+        }
+    }
+}
+
+// What stops a call whose line is understood: no volume, or one that is larger than the program holds.
+fn obstacle(desk: Desk, call: Call, r: Request) -> Trouble {
+    match call {
+        Call::Format => {
+            let g = Geometry {
+                n: r.second,
+                l: r.first,
+            };
+            if g.n > HELD {
+                if g.fits() {
+                    return Trouble::Sectors;
+                }
+            }
+            Trouble::Fine
+        }
+        _ => {
+            if desk.open {
+                return Trouble::Fine;
+            }
+            Trouble::Volume
+        }
+    }
+}
+
+// The sectors and blocks to lend: those of the format, or of the volume that is there. None where they are out of range.
+fn lent(desk: Desk, call: Call, r: Request) -> Geometry {
+    match call {
+        Call::Format => Geometry {
+            n: r.second,
+            l: r.first,
+        },
+        _ => Geometry {
+            n: desk.state.n,
+            l: desk.state.l,
+        },
+    }
+}
+
+// Whether a line is turned back, with the words for it.
+fn is_refused(desk: Desk, call: Call, r: Request, line: &[u8]) -> bool {
+    let number = desk.line;
+    if !r.is_fine() {
+        let found = r.trouble;
+        say::say_trouble(number, line, call, r.at, found);
+        return true;
+    }
+    let trouble = obstacle(desk, call, r);
+    match trouble {
+        Trouble::Fine => false,
+        _ => {
+            say::say_obstacle(number, line, trouble);
+            true
+        }
+    }
+}
+
+// The volume's parts for a call, and the call.
+fn answer_request(
+    desk: Desk,
+    call: Call,
+    r: Request,
+    image: &mut [u8],
+    map: &mut [u32],
+    places: &mut [u32],
+    numbers: &mut [u32],
+    used: &mut [u8],
+    blocks: &[u32],
+    bytes: &[u8],
+) -> Desk {
+    let size = lent(desk, call, r);
+    let state = desk.state;
+    let left = calls::lend(
+        call,
+        r,
+        state,
+        size,
+        image,
+        map,
+        places,
+        numbers,
+        used,
+        blocks,
+        bytes,
+    );
+    let answer = left.answer;
+    let after = left.state;
+    desk.with(after, answer.number() != 1)
+}
+
+// A line that asks for a call.
+fn answer_call(
+    desk: Desk,
+    call: Call,
+    line: &[u8],
+    image: &mut [u8],
+    map: &mut [u32],
+    places: &mut [u32],
+    numbers: &mut [u32],
+    used: &mut [u8],
+) -> Desk {
+    let mut blocks = [0u32; 128];
+    let mut bytes = [0u8; 65536];
+    let r = request::request_of(line, call, &mut blocks, &mut bytes);
+    if is_refused(desk, call, r, line) {
+        return desk.stop();
+    }
+    answer_request(
+        desk,
+        call,
+        r,
+        image,
+        map,
+        places,
+        numbers,
+        used,
+        &blocks,
+        &bytes,
+    )
+}
+
+// A line of the paper.
+pub fn answer_line(
+    desk: Desk,
+    line: &[u8],
+    image: &mut [u8],
+    map: &mut [u32],
+    places: &mut [u32],
+    numbers: &mut [u32],
+    used: &mut [u8],
+) -> Desk {
+    let call = request::call_of(line);
+    match call {
+        Call::Nothing => desk,
+        _ => answer_call(desk, call, line, image, map, places, numbers, used),
+    }
+}

@@ -1,0 +1,390 @@
+// A line of a paper, taken apart: the call, its numbers, its blocks and the plug.
+use crate::data;
+use crate::data::Data;
+use crate::data::Trouble;
+use crate::words;
+use crate::words::Number;
+use sector::mark;
+
+pub enum Call {
+    // A blank line or a comment.
+    Nothing,
+    Unknown,
+    Format,
+    Write,
+    Drop,
+    Read,
+    Park,
+    Recover,
+    Show,
+    Sectors,
+}
+
+pub struct Request {
+    // The numbers of a call, as many as were taken: L and N, or the head, or the block to read.
+    pub first: u32,
+    pub second: u32,
+    pub taken: u32,
+    // The blocks of a write or a drop that were taken.
+    pub count: usize,
+    // The plug: stores that the call may make.
+    pub stores: u32,
+    pub plugged: bool,
+    // Where the line goes on, or where the trouble is.
+    pub at: usize,
+    pub trouble: Trouble,
+}
+
+// The most blocks in a line.
+pub const MOST: usize = 128;
+
+impl Request {
+    fn fresh(at: usize) -> Request {
+        Request {
+            first: 0,
+            second: 0,
+            taken: 0,
+            count: 0,
+            stores: 4_294_967_295,
+            plugged: false,
+            at,
+            trouble: Trouble::Fine,
+        }
+    }
+
+    pub fn wrong(self, at: usize, trouble: Trouble) -> Request {
+        Request {
+            first: self.first,
+            second: self.second,
+            taken: self.taken,
+            count: self.count,
+            stores: self.stores,
+            plugged: self.plugged,
+            at,
+            trouble,
+        }
+    }
+
+    fn with_plug(self, stores: u32, at: usize) -> Request {
+        Request {
+            first: self.first,
+            second: self.second,
+            taken: self.taken,
+            count: self.count,
+            stores,
+            plugged: true,
+            at,
+            trouble: Trouble::Fine,
+        }
+    }
+
+    fn with_first(self, first: u32, at: usize) -> Request {
+        Request {
+            first,
+            second: self.second,
+            taken: 1,
+            count: self.count,
+            stores: self.stores,
+            plugged: self.plugged,
+            at,
+            trouble: Trouble::Fine,
+        }
+    }
+
+    fn with_second(self, second: u32, at: usize) -> Request {
+        Request {
+            first: self.first,
+            second,
+            taken: 2,
+            count: self.count,
+            stores: self.stores,
+            plugged: self.plugged,
+            at,
+            trouble: Trouble::Fine,
+        }
+    }
+
+    fn with_count(self, count: usize, at: usize) -> Request {
+        Request {
+            first: self.first,
+            second: self.second,
+            taken: self.taken,
+            count,
+            stores: self.stores,
+            plugged: self.plugged,
+            at,
+            trouble: Trouble::Fine,
+        }
+    }
+
+    pub fn is_fine(self) -> bool {
+        let trouble = self.trouble;
+        match trouble {
+            Trouble::Fine => true,
+            _ => false,
+        }
+    }
+}
+
+// The calls that change the volume's blocks.
+fn commit_named(word: &[u8]) -> Call {
+    if words::is_word(word, b"format") {
+        return Call::Format;
+    }
+    if words::is_word(word, b"write") {
+        return Call::Write;
+    }
+    if words::is_word(word, b"drop") {
+        return Call::Drop;
+    }
+    Call::Unknown
+}
+
+// The others.
+fn other_named(word: &[u8]) -> Call {
+    if words::is_word(word, b"read") {
+        return Call::Read;
+    }
+    if words::is_word(word, b"park") {
+        return Call::Park;
+    }
+    if words::is_word(word, b"recover") {
+        return Call::Recover;
+    }
+    if words::is_word(word, b"show") {
+        return Call::Show;
+    }
+    if words::is_word(word, b"sectors") {
+        return Call::Sectors;
+    }
+    Call::Unknown
+}
+
+// The call that a line asks for. A line whose first byte is # is a comment.
+pub fn call_of(line: &[u8]) -> Call {
+    let start = words::word_start(line, 0);
+    if start >= line.len() {
+        return Call::Nothing;
+    }
+    if words::byte_at(line, 0) == 35 {
+        return Call::Nothing;
+    }
+    let word = words::part(line, start, words::word_end(line, start));
+    let commit = commit_named(word);
+    match commit {
+        Call::Unknown => other_named(word),
+        _ => commit,
+    }
+}
+
+// How many numbers come after a call's name.
+fn wanted(call: Call) -> u32 {
+    match call {
+        Call::Format => 2,
+        Call::Write => 1,
+        Call::Drop => 1,
+        Call::Read => 1,
+        _ => 0,
+    }
+}
+
+fn makes_stores(call: Call) -> bool {
+    match call {
+        Call::Format => true,
+        Call::Write => true,
+        Call::Drop => true,
+        Call::Park => true,
+        Call::Recover => true,
+        _ => false,
+    }
+}
+
+fn takes_blocks(call: Call) -> bool {
+    match call {
+        Call::Write => true,
+        Call::Drop => true,
+        _ => false,
+    }
+}
+
+// stores=K, from `at` up to `end`.
+fn take_plug(line: &[u8], at: usize, end: usize, call: Call, r: Request) -> Request {
+    if !makes_stores(call) {
+        return r.wrong(at, Trouble::PlugHere);
+    }
+    if r.plugged {
+        return r.wrong(at, Trouble::PlugTwice);
+    }
+    let word = words::part(line, at, end);
+    let number = words::number_in(words::part(word, 7, word.len()));
+    match number {
+        Number::Nothing => r.wrong(at, Trouble::Plug),
+        Number::Value(stores) => r.with_plug(stores, end),
+    }
+}
+
+// One of the numbers after a call's name.
+fn take_number(word: &[u8], at: usize, end: usize, r: Request) -> Request {
+    let number = words::number_in(word);
+    match number {
+        Number::Nothing => r.wrong(at, Trouble::Number),
+        Number::Value(value) => {
+            if r.taken == 0 {
+                return r.with_first(value, end);
+            }
+            r.with_second(value, end)
+        }
+    }
+}
+
+// A block's number goes into the list.
+fn take_block(r: Request, at: usize, end: usize, block: u32, blocks: &mut [u32]) -> Request {
+    let count = r.count;
+    if count < blocks.len() {
+        blocks[count] = block;
+        return r.with_count(count + 1, end);
+    }
+    r.wrong(at, Trouble::Many)
+}
+
+// B of a drop.
+fn take_drop(word: &[u8], at: usize, end: usize, r: Request, blocks: &mut [u32]) -> Request {
+    let number = words::number_in(word);
+    match number {
+        Number::Nothing => r.wrong(at, Trouble::Number),
+        Number::Value(block) => take_block(r, at, end, block, blocks),
+    }
+}
+
+// The data of the block that is next in the list.
+fn fill_block(bytes: &mut [u8], count: usize, text: &[u8], hex: bool) {
+    if count < MOST {
+        let first = count * 512;
+        let end = first + 512;
+        if end <= bytes.len() {
+            data::fill(&mut bytes[first..end], text, hex);
+        }
+    }
+}
+
+// DATA of a write, from `from` on, of the block that was named at `at`.
+fn take_data(
+    line: &[u8],
+    at: usize,
+    from: usize,
+    r: Request,
+    block: u32,
+    blocks: &mut [u32],
+    bytes: &mut [u8],
+) -> Request {
+    let found = data::data_at(line, from);
+    let trouble = found.trouble;
+    match trouble {
+        Trouble::Fine => {
+            fill_block(
+                bytes,
+                r.count,
+                words::part(line, found.from, found.to),
+                found.hex,
+            );
+            take_block(r, at, found.next, block, blocks)
+        }
+        _ => r.wrong(found.next, trouble),
+    }
+}
+
+// B=DATA of a write.
+fn take_write(line: &[u8], at: usize, r: Request, blocks: &mut [u32], bytes: &mut [u8]) -> Request {
+    let equals = words::find(line, at, 61);
+    let number = words::number_in(words::part(line, at, equals));
+    match number {
+        Number::Nothing => r.wrong(at, Trouble::Block),
+        Number::Value(block) => take_data(
+            line,
+            at,
+            words::after(line, equals),
+            r,
+            block,
+            blocks,
+            bytes,
+        ),
+    }
+}
+
+// The word at `at`, after a call's name.
+fn take_word(
+    line: &[u8],
+    at: usize,
+    call: Call,
+    r: Request,
+    blocks: &mut [u32],
+    bytes: &mut [u8],
+) -> Request {
+    let end = words::word_end(line, at);
+    let word = words::part(line, at, end);
+    if mark::starts_with(word, b"stores=") {
+        return take_plug(line, at, end, call, r);
+    }
+    if r.taken < wanted(call) {
+        return take_number(word, at, end, r);
+    }
+    match call {
+        Call::Write => take_write(line, at, r, blocks, bytes),
+        Call::Drop => take_drop(word, at, end, r, blocks),
+        _ => r.wrong(at, Trouble::More),
+    }
+}
+
+// The words after a call's name, from `from` on. Each takes a byte at least, so the bytes of the line are turns enough.
+fn take_words(
+    line: &[u8],
+    from: usize,
+    call: Call,
+    blocks: &mut [u32],
+    bytes: &mut [u8],
+) -> Request {
+    let mut r = Request::fresh(from);
+    let mut turn = 0;
+    while turn < line.len() {
+        let at = words::word_start(line, r.at);
+        if at >= line.len() {
+            return r;
+        }
+        r = take_word(line, at, call, r, blocks, bytes);
+        if !r.is_fine() {
+            return r;
+        }
+        turn += 1;
+    }
+    r
+}
+
+// A request whose words end too soon.
+fn whole(line: &[u8], call: Call, r: Request) -> Request {
+    if !r.is_fine() {
+        return r;
+    }
+    if r.taken < wanted(call) {
+        return r.wrong(line.len(), Trouble::FewNumbers);
+    }
+    if takes_blocks(call) {
+        if r.count == 0 {
+            return r.wrong(line.len(), Trouble::FewBlocks);
+        }
+    }
+    r
+}
+
+// What a line asks of a call. The blocks and their bytes go into the lists.
+pub fn request_of(line: &[u8], call: Call, blocks: &mut [u32], bytes: &mut [u8]) -> Request {
+    let start = words::word_start(line, 0);
+    match call {
+        Call::Unknown => Request::fresh(start).wrong(start, Trouble::Call),
+        Call::Nothing => Request::fresh(start),
+        _ => {
+            let from = words::word_end(line, start);
+            let r = take_words(line, from, call, blocks, bytes);
+            whole(line, call, r)
+        }
+    }
+}
