@@ -2,4 +2,3 @@
 pub mod Parted
 pub mod Scanned
 pub mod Signed
-pub mod Walking

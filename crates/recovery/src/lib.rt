@@ -1,11 +1,8 @@
-// Recovery: the log found again by a walk from its tail, or by a scan of all sectors.
+// Recovery: the log found again by a scan of all sectors.
 pub mod agrees;
 pub mod clear;
 pub mod distinct;
 pub mod fill_map;
-pub mod known;
 pub mod live;
 pub mod scan;
 pub mod signed;
-pub mod targets;
-pub mod walk;

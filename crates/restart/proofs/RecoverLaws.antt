@@ -23,9 +23,9 @@ use Rattle.power.specs.declared.allowance.Power.the-variants.{Left, Failed}
 use Rattle.power.specs.Power.{powered}
 use Rattle.power.proofs.Runs.{first-fails, second-runs}
 use Rattle.recovery.specs.declared.scan.Found.the-variants as scan
-use Rattle.recovery.specs.declared.walk.Way.the-variants as walk
 use Rattle.recovery.specs.Scanned.{scanFound, scanAbove}
-use Rattle.recovery.specs.Walking.{walkFound}
+use Rattle.walker.specs.declared.walk.Way.the-variants as walk
+use Rattle.walker.specs.Walking.{walkFound}
 use Rattle.vlog.proofs.Performing.{memory-left, call-cut, call-whole}
 
 -- Sector 0 needs no store of its own.

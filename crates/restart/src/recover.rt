@@ -17,8 +17,6 @@ use power::allowance::Power;
 use recovery::clear;
 use recovery::scan;
 use recovery::scan::Found;
-use recovery::walk;
-use recovery::walk::Way;
 use sector::block;
 use sector::image;
 use tables::bits;
@@ -29,6 +27,8 @@ use types::state::Outcome;
 use types::state::State;
 use vlog::lent;
 use vlog::size;
+use walker::walk;
+use walker::walk::Way;
 
 // Zeros over the uncommitted sectors, ascending, and finally over sector 0 unless it is zero by then.
 fn clear_all(image: &mut [u8], n: u32, above: &[u8], allowance: u32) -> Power

@@ -5,8 +5,8 @@ use native.Mathlib.Omega.{arith}
 use lib.ListN.{length}
 use Rattle.volume.specs.Tables.{sectorAt, tablesOf}
 use Rattle.volume.specs.Recover.{imageView}
-use Rattle.recovery.specs.declared.walk.Way.{Way}
-use Rattle.recovery.specs.Walking.{walkFound}
+use Rattle.walker.specs.declared.walk.Way.{Way}
+use Rattle.walker.specs.Walking.{walkFound}
 use Rattle.vlog.proofs.SizeLaws.{size-passed, size-range}
 use Rattle.restart.proofs.RecoverLaws.{walk-found, walk-failed}
 use borrow.Author.Needs.{needs}
