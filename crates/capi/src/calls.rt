@@ -10,8 +10,8 @@ use crate::plain;
 use crate::plain::CResult;
 use crate::plain::CState;
 use restart::recover;
+use setup::format;
 use update::write;
-use vlog::format;
 use vlog::park;
 use vlog::read;
 

@@ -1,7 +1,6 @@
 -- Laws of the definitions that the proofs of the calls cite.
 pub mod ReadLaws
 pub mod Performing
-pub mod FormatLaws
 pub mod LentLaws
 pub mod SizeLaws
 pub mod ParkLaws

@@ -8,8 +8,8 @@ use Rattle.volume.specs.Bounded.{always}
 use Rattle.volume.specs.Tables.{sectorAt}
 use Rattle.volume.specs.Format.{pieceStore}
 use Rattle.power.proofs.Storing.{Storing, storing-starts, storing-stores, storing-fails, storing-ends, positive}
-use Rattle.vlog.proofs.fresh.store_pieces.Statement.{statement}
-use Rattle.vlog.proofs.fresh.store_pieces.Tie as tie
+use Rattle.setup.proofs.fresh.store_pieces.Statement.{statement}
+use Rattle.setup.proofs.fresh.store_pieces.Tie as tie
 
 abbrev Inv-loop : tie.InvT-loop
 Inv-loop image₀ l pieces allowance left₀ p₀ image left p =

@@ -10,14 +10,14 @@ ghost use Rattle.volume.specs.Format.{formatStores, formatAction, sizeChecks, f
 ghost use Rattle.power.specs.Power.{powered};
 ghost use Rattle.types.specs.declared.answer.Verdict.the-variants.{Pass};
 use crate::fresh;
-use crate::lent;
-use crate::size;
 use power::allowance::Power;
 use types::answer::Answer;
 use types::answer::Verdict;
 use types::geometry::Geometry;
 use types::state::Outcome;
 use types::state::State;
+use vlog::lent;
+use vlog::size;
 
 // All stores of a format, in order, under the allowance.
 fn store_all(image: &mut [u8], n: u32, l: u32, pieces: u32, allowance: u32) -> Power

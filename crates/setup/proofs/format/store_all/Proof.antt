@@ -1,11 +1,11 @@
 -- The blanks and the pieces are the two parts of the definition's list.
 use mathlib.Core.Path.{sym, _∙_}
-use Rattle.vlog.proofs.FormatLaws.{format-fails, format-runs}
+use Rattle.setup.proofs.FormatLaws.{format-fails, format-runs}
 use borrow.Author.Needs.{needs}
-use Rattle.vlog.proofs.format.store_all.Statement.{statement}
-use Rattle.vlog.proofs.format.store_all.Tie as tie
-use Rattle.vlog.proofs.fresh.blank_sectors.Reads as blank-sectors-reads
-use Rattle.vlog.proofs.fresh.store_pieces.Reads as store-pieces-reads
+use Rattle.setup.proofs.format.store_all.Statement.{statement}
+use Rattle.setup.proofs.format.store_all.Tie as tie
+use Rattle.setup.proofs.fresh.blank_sectors.Reads as blank-sectors-reads
+use Rattle.setup.proofs.fresh.store_pieces.Reads as store-pieces-reads
 
 blank-sectors-requires : tie.Need-blank-sectors-requires
 blank-sectors-requires c κs = search needs

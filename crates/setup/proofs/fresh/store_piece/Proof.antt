@@ -4,10 +4,10 @@ use mathlib.Core.Path.{_∙_, ap}
 use mathlib.Core.List.{[], _∷_}
 use Rattle.volume.specs.Bounded.{updated}
 use Rattle.volume.specs.Tables.{sectorAt}
-use Rattle.vlog.proofs.FormatLaws.{piece-made, no-branch, one-branch}
+use Rattle.setup.proofs.FormatLaws.{piece-made, no-branch, one-branch}
 use borrow.Author.Needs.{needs}
-use Rattle.vlog.proofs.fresh.store_piece.Statement.{statement}
-use Rattle.vlog.proofs.fresh.store_piece.Tie as tie
+use Rattle.setup.proofs.fresh.store_piece.Statement.{statement}
+use Rattle.setup.proofs.fresh.store_piece.Tie as tie
 
 add-number : tie.Need-add-number
 add-number c = search needs

@@ -2,15 +2,15 @@
 use mathlib.Core.Path.{sym, _∙_}
 use native.Mathlib.Omega.{arith}
 use Rattle.power.proofs.Runs.{left-enough}
 use Rattle.vlog.proofs.SizeLaws.{size-passed}
-use Rattle.vlog.proofs.FormatLaws.{format-cut, format-whole}
+use Rattle.setup.proofs.FormatLaws.{format-cut, format-whole}
 use borrow.Author.Needs.{needs}
-use Rattle.vlog.proofs.format.make.Statement.{statement}
-use Rattle.vlog.proofs.format.make.Tie as tie
+use Rattle.setup.proofs.format.make.Statement.{statement}
+use Rattle.setup.proofs.format.make.Tie as tie
 use Rattle.types.proofs.geometry.Geometry.pieces_for.Reads as pieces-for-reads
-use Rattle.vlog.proofs.format.store_all.Reads as store-all-reads
 use Rattle.vlog.proofs.lent.fresh_tables.Reads as fresh-tables-reads
 use Rattle.vlog.proofs.lent.zero_tables.Reads as zero-tables-reads
+use Rattle.setup.proofs.format.store_all.Reads as store-all-reads
 
 cast-n : tie.Need-cast-n
 cast-n c =

@@ -8,8 +8,8 @@ use Rattle.volume.specs.Bounded.{always}
 use Rattle.volume.specs.Tables.{sectorAt}
 use Rattle.volume.specs.Format.{blankStore}
 use Rattle.power.proofs.Storing.{Storing, storing-starts, storing-stores, storing-fails, storing-ends, positive}
-use Rattle.vlog.proofs.fresh.blank_sectors.Statement.{statement}
-use Rattle.vlog.proofs.fresh.blank_sectors.Tie as tie
+use Rattle.setup.proofs.fresh.blank_sectors.Statement.{statement}
+use Rattle.setup.proofs.fresh.blank_sectors.Tie as tie
 
 abbrev Inv-loop : tie.InvT-loop
 Inv-loop image₀ n allowance left₀ k₀ image left k =

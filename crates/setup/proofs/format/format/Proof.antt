@@ -1,11 +1,11 @@
 -- A refused format hands everything back; otherwise it is the definition's action.
 use mathlib.Core.Path.{sym, _∙_}
 use Rattle.vlog.proofs.SizeLaws.{by-lengths}
-use Rattle.vlog.proofs.FormatLaws.{format-refused, format-passed}
+use Rattle.setup.proofs.FormatLaws.{format-refused, format-passed}
 use borrow.Author.Needs.{needs}
-use Rattle.vlog.proofs.format.format.Statement.{statement}
-use Rattle.vlog.proofs.format.format.Tie as tie
 use Rattle.vlog.proofs.size.size_verdict.Reads as size-verdict-reads
+use Rattle.setup.proofs.format.format.Statement.{statement}
+use Rattle.setup.proofs.format.format.Tie as tie
 
 size-verdict-requires : tie.Need-size-verdict-requires
 size-verdict-requires c κs = search needs

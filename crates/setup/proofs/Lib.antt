@@ -1,0 +1,2 @@
+-- Laws of the definition of a format, which its proofs cite.
+pub mod FormatLaws
