@@ -1,8 +1,5 @@
-// The parts of a commit: its plan, its stores, and the tables that it leaves.
-pub mod entries;
+// The plan of a commit: its touched pieces, branches and places.
 pub mod listing;
 pub mod pieces;
 pub mod placing;
 pub mod plan;
-pub mod settle;
-pub mod store;

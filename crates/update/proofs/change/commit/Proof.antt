@@ -11,7 +11,7 @@ use Rattle.update.proofs.CommitPlan.{few-data, some-members, total-few,
 use borrow.Author.Needs.{needs}
 use Rattle.update.proofs.change.commit.Statement.{statement}
 use Rattle.update.proofs.change.commit.Tie as tie
-use Rattle.commit.proofs.entries.entries_for.Reads as entries-for-reads
+use Rattle.apply.proofs.entries.entries_for.Reads as entries-for-reads
 use Rattle.update.proofs.change.carry_out.Reads as carry-out-reads
 
 slice-aggregate-plan : tie.Need-slice-aggregate-plan
