@@ -13,6 +13,7 @@ ghost use Rattle.volume.specs.Store.{applied, storesBelow};
 ghost use Rattle.volume.specs.Commit.{memberStore};
 ghost use Rattle.power.specs.Power.{powered};
 ghost use Rattle.commit.specs.Arrays.{flagged, planOf, changeOf, blockStore};
+ghost use Rattle.apply.specs.Ready.{Ready};
 use crate::entries;
 use power::allowance::Power;
 use sector::image;
@@ -112,16 +113,7 @@ fn store_members(
     allowance: u32,
 ) -> Power
     requires { ⌜ length (now image) ≡ sectorBytes * s .n ⌝ }
-    requires { ⌜ length (now map) ≡ s .l ⌝ }
-    requires { ⌜ length (now blocks) ≤ length (now news) ⌝ }
-    requires { ⌜ ((i : ℕ) → i < length (now blocks) → at (now blocks) i < s .l) ⌝ }
-    requires { ⌜ ((i : ℕ) → i < length (now taken) → at (now taken) i < s .n) ⌝ }
-    requires { ⌜ count + members ≡ length (now taken) ⌝ }
-    requires { ⌜ length (now branches) ≤ branchRoom ⌝ }
-    requires { ⌜ s .number + members < 2 ^ 32 ⌝ }
-    requires { ⌜ piecesFor (s .l) ≤ 256 ⌝ }
-    requires { ⌜ piecesFor (s .l) ≤ length (now written) ⌝ }
-    requires { ⌜ members ≡ countBelow (flagged (now written)) (piecesFor (s .l)) ⌝ }
+    requires { ⌜ Ready s (now map) (now blocks) (now news) (now taken) count (now branches) (now written) members ⌝ }
     ensures { λ r. ⌜ (r ≡ powered (countBelow (flagged (now (written .entry))) (piecesFor (s .l))) allowance) × (sectorAt (now (image .exit)) ≡ applied (take allowance (storesBelow (flagged (now (written .entry))) (memberStore s (tablesOf (now (map .entry)) [] [] []) (planOf (now (branches .entry)) (now (written .entry)) members count (now (taken .entry))) (changeOf (now (blocks .entry)) (now (news .entry)) count)) (piecesFor (s .l)))) (sectorAt (now (image .entry)))) ⌝ }
 {
     let pieces = Geometry::pieces_for(s.l);
@@ -172,16 +164,7 @@ pub fn store(
     allowance: u32,
 ) -> Power
     requires { ⌜ length (now image) ≡ sectorBytes * s .n ⌝ }
-    requires { ⌜ length (now map) ≡ s .l ⌝ }
-    requires { ⌜ length (now blocks) ≤ length (now news) ⌝ }
-    requires { ⌜ ((i : ℕ) → i < length (now blocks) → at (now blocks) i < s .l) ⌝ }
-    requires { ⌜ ((i : ℕ) → i < length (now taken) → at (now taken) i < s .n) ⌝ }
-    requires { ⌜ count + members ≡ length (now taken) ⌝ }
-    requires { ⌜ length (now branches) ≤ branchRoom ⌝ }
-    requires { ⌜ s .number + members < 2 ^ 32 ⌝ }
-    requires { ⌜ piecesFor (s .l) ≤ 256 ⌝ }
-    requires { ⌜ piecesFor (s .l) ≤ length (now written) ⌝ }
-    requires { ⌜ members ≡ countBelow (flagged (now written)) (piecesFor (s .l)) ⌝ }
+    requires { ⌜ Ready s (now map) (now blocks) (now news) (now taken) count (now branches) (now written) members ⌝ }
     requires { ⌜ length (now bytes) ≡ sectorBytes * count ⌝ }
     ensures { λ r. ⌜ (r ≡ powered (length (storesBelow always (blockStore (now (taken .entry)) (now (bytes .entry))) count ++ storesBelow (flagged (now (written .entry))) (memberStore s (tablesOf (now (map .entry)) [] [] []) (planOf (now (branches .entry)) (now (written .entry)) members count (now (taken .entry))) (changeOf (now (blocks .entry)) (now (news .entry)) count)) (piecesFor (s .l)))) allowance) × (sectorAt (now (image .exit)) ≡ applied (take allowance (storesBelow always (blockStore (now (taken .entry)) (now (bytes .entry))) count ++ storesBelow (flagged (now (written .entry))) (memberStore s (tablesOf (now (map .entry)) [] [] []) (planOf (now (branches .entry)) (now (written .entry)) members count (now (taken .entry))) (changeOf (now (blocks .entry)) (now (news .entry)) count)) (piecesFor (s .l)))) (sectorAt (now (image .entry)))) ⌝ }
 {

@@ -12,8 +12,8 @@ use Rattle.apply.proofs.store.store_members.Reads as store-members-read
 store-data-requires : tie.Need-store-data-requires
 store-data-requires c κs =
     let r = c .before .before .before .before .before .before .before .before .before .pre in
-    let e = r .1 .1 .1 .1 .1 .0 in
-    (r .0, (r .1 .1 .1 .1 .1 .1 .1 .1 .1 .1 .1, (omega arith, r .1 .1 .1 .1 .0)))
+    let e = r .1 .0 .taken-all in
+    (r .0, (r .1 .1, (omega arith, r .1 .0 .below)))
 
 enum-told : tie.Need-enum-told
 enum-told c = search needs
@@ -24,7 +24,7 @@ enum-known-stored c = search needs
 store-members-requires : tie.Need-store-members-requires
 store-members-requires c κs =
     let r = c .before .before .before .before .before .before .before .before .before .before .before .before .before .before .before .before .pre in
-    (c .before .before .before .before .before .before .store-data .kept .0 ∙ r .0, (r .1 .0, (r .1 .1 .0, (r .1 .1 .1 .0, (r .1 .1 .1 .1 .0, (r .1 .1 .1 .1 .1 .0, (r .1 .1 .1 .1 .1 .1 .0, (r .1 .1 .1 .1 .1 .1 .1 .0, (r .1 .1 .1 .1 .1 .1 .1 .1 .0, (r .1 .1 .1 .1 .1 .1 .1 .1 .1 .0, r .1 .1 .1 .1 .1 .1 .1 .1 .1 .1 .0))))))))))
+    (c .before .before .before .before .before .before .store-data .kept .0 ∙ r .0, r .1 .0)
 
 same-length : tie.Need-same-length
 same-length c = search needs

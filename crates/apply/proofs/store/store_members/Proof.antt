@@ -39,7 +39,7 @@ shared-slice-read-if1 : tie.Need-shared-slice-read-if1 Inv-pieces μ-pieces
 shared-slice-read-if1 c =
     let t = c .before .pieces-test .taken in
     let e = c .before .before .before .pieces-for .ensures in
-    let h = c .before .before .before .before .before .before .before .before .before .before .before .pre .1 .1 .1 .1 .1 .1 .1 .1 .1 .0 in
+    let h = c .before .before .before .before .before .before .before .before .before .before .before .pre .1 .flags in
     omega arith
 
 add-p : tie.Need-add-p Inv-pieces μ-pieces
@@ -79,10 +79,10 @@ store-member-requires c κs =
     let e = c .before .before .before .before .before .before .pieces-for .ensures in
     let r = c .before .before .before .before .before .before .before .before .before .before .before .before .before .before .pre in
     let b = count-before (flagged (a .written .now)) (l .p) (piecesFor (a .s .l)) (omega arith) (is-flagged (a .written .now) (l .p) (c .before .before .if1 .left)) in
-    let m = r .1 .1 .1 .1 .1 .1 .1 .1 .1 .1 in
+    let m = r .1 .counted in
     let j = l .inv .2 in
-    let most = r .1 .1 .1 .1 .1 .1 .1 .1 .0 in
-    (l .inv .1 ∙ r .0, (r .1 .0, (r .1 .1 .0, (r .1 .1 .1 .0, (r .1 .1 .1 .1 .0, (r .1 .1 .1 .1 .1 .0, (r .1 .1 .1 .1 .1 .1 .0, (r .1 .1 .1 .1 .1 .1 .1 .0, (omega arith, omega arith)))))))))
+    let most = r .1 .most in
+    (l .inv .1 ∙ r .0, (r .1 .whole, (r .1 .enough, (r .1 .inside, (r .1 .below, (r .1 .taken-all, (r .1 .room, (r .1 .numbers, (omega arith, omega arith)))))))))
 
 sub-left : tie.Need-sub-left Inv-pieces μ-pieces
 sub-left c = positive (c .before .before .before .before .before .before .before .before .pieces .left) (c .before .before .before .before .if2 .left)
@@ -94,8 +94,8 @@ add-j c =
     let t = c .before .before .before .before .before .before .before .pieces-test .taken in
     let e = c .before .before .before .before .before .before .before .before .before .pieces-for .ensures in
     let b = count-before (flagged (a .written .now)) (l .p) (piecesFor (a .s .l)) (omega arith) (is-flagged (a .written .now) (l .p) (c .before .before .before .before .before .if1 .left)) in
-    let m = c .before .before .before .before .before .before .before .before .before .before .before .before .before .before .before .before .before .pre .1 .1 .1 .1 .1 .1 .1 .1 .1 .1 in
-    let k = c .before .before .before .before .before .before .before .before .before .before .before .before .before .before .before .before .before .pre .1 .1 .1 .1 .1 .1 .1 .0 in
+    let m = c .before .before .before .before .before .before .before .before .before .before .before .before .before .before .before .before .before .pre .1 .counted in
+    let k = c .before .before .before .before .before .before .before .before .before .before .before .before .before .before .before .before .before .pre .1 .numbers in
     let j = l .inv .2 in
     omega arith
 

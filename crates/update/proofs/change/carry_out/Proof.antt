@@ -18,8 +18,24 @@ store-requires c κs =
     let m = r .1 .1 .1 .1 .1 .1 .1 .1 .0 in
     let all = g .taken-all in
     let num = g .numbers in
-    let most = fits (a .s .n) (a .s .l) (r .0) .most in
-    (r .1 .0, (r .1 .1 .0, (g .enough, (g .inside, (g .below, (omega arith, (r .1 .1 .1 .1 .1 .1 .1 .1 .1 .1 .0, (omega arith, (omega arith, (g .flags, (m, r .1 .1 .1 .1 .1 .1 .1 .1 .1 .1 .1)))))))))))
+    let most = fits (a .s .n) (a .s .l) (r .0) .most in (
+      r .1 .0,
+      (
+        record {
+          whole = r .1 .1 .0;
+          enough = g .enough;
+          inside = g .inside;
+          below = g .below;
+          taken-all = omega arith;
+          room = r .1 .1 .1 .1 .1 .1 .1 .1 .1 .1 .0;
+          numbers = omega arith;
+          most = omega arith;
+          flags = g .flags;
+          counted = m;
+        },
+        r .1 .1 .1 .1 .1 .1 .1 .1 .1 .1 .1,
+      ),
+    )
 
 enum-told : tie.Need-enum-told
 enum-told c = search needs

@@ -1,0 +1,2 @@
+-- A commit as it is carried out.
+pub mod Ready
