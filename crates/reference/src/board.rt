@@ -1,0 +1,219 @@
+// The board: one array of words with everything that a call is lent and hands back. The image lies on it word by word, the used map with a word
+// a sector. A word past its end reads as 0 and is not written.
+
+// The state: N, L, the tail's sector and number, and the phase (0 running, 1 parked, 2 cut).
+pub const STATE_N: u32 = 0;
+
+pub const STATE_L: u32 = 1;
+
+pub const TAIL: u32 = 2;
+
+pub const NUMBER: u32 = 3;
+
+pub const PHASE: u32 = 4;
+
+// The arguments: which call (0 format, 1 write, 2 drop, 3 read, 4 park, 5 recover), the L of a format or a recover, the head, the count of
+// blocks, and the stores that may be made. A read's block is the first of the blocks.
+pub const CALL: u32 = 5;
+
+pub const BLOCK_COUNT: u32 = 6;
+
+pub const HEAD: u32 = 7;
+
+pub const COUNT: u32 = 8;
+
+pub const ALLOWED: u32 = 9;
+
+// The lengths lent, in bytes or words: the image, the tables, and the bytes of a write or the buffer of a read.
+pub const IMAGE_LENGTH: u32 = 10;
+
+pub const MAP_LENGTH: u32 = 11;
+
+pub const PLACES_LENGTH: u32 = 12;
+
+pub const NUMBERS_LENGTH: u32 = 13;
+
+pub const USED_LENGTH: u32 = 14;
+
+pub const BYTES_LENGTH: u32 = 15;
+
+// What was answered: 0 or the refusal's number, the stores made, the way (1 walk, 2 scan) and the sectors read.
+pub const ANSWER: u32 = 16;
+
+pub const STORES: u32 = 17;
+
+pub const WAY: u32 = 18;
+
+pub const READS: u32 = 19;
+
+// Within a call: stores listed, branches listed, where the next search begins, members made, and the newest closing number of a scan.
+pub const LISTED: u32 = 20;
+
+pub const BRANCH_COUNT: u32 = 21;
+
+pub const NEXT: u32 = 22;
+
+pub const MEMBERS: u32 = 23;
+
+pub const LAST_PLACE: u32 = 24;
+
+pub const FOUND_TAIL: u32 = 25;
+
+pub const FOUND_NUMBER: u32 = 26;
+
+// The blocks that a call names, their words, and the words of a read.
+pub const BLOCKS: u32 = 64;
+
+pub const DATA: u32 = 160;
+
+pub const OUT: u32 = 10400;
+
+// The tables lent. Within tables: the map from 0, then these.
+pub const LENT: u32 = 10528;
+
+pub const PLACES: u32 = 4800;
+
+pub const NUMBERS: u32 = 4864;
+
+pub const USED: u32 = 4928;
+
+pub const TABLE_WORDS: u32 = 5184;
+
+pub const IMAGE: u32 = 15712;
+
+// A call's caller may keep words of its own from here up to the next.
+pub const CALLER: u32 = 32096;
+
+// Scratch: the tables that a call makes, how often each sector is named, and flags and words for each piece.
+pub const MADE: u32 = 40000;
+
+pub const TALLY: u32 = 45184;
+
+pub const TOUCHED: u32 = 45440;
+
+pub const JUDGED: u32 = 45504;
+
+pub const REACHED: u32 = 45568;
+
+pub const BRANCHES: u32 = 45632;
+
+pub const WAITING: u32 = 45696;
+
+pub const DONE: u32 = 45760;
+
+// The stores listed: their places, and their words.
+pub const LIST_PLACES: u32 = 45824;
+
+pub const LIST: u32 = 46080;
+
+pub const SIZE: usize = 69120;
+
+// The sum, with wrapping.
+pub fn plus(x: u32, y: u32) -> u32 {
+    std::num::wrapping_add_u32(x, y)
+}
+
+// The bytes of so many sectors, with wrapping.
+pub fn bytes(sectors: u32) -> u32 {
+    (sectors as u64 * 512 % 4_294_967_296) as u32
+}
+
+fn get_at(board: &[u32], at: usize) -> u32 {
+    if at < board.len() {
+        return board[at];
+    }
+    0
+}
+
+fn put_at(board: &mut [u32], at: usize, x: u32) {
+    if at < board.len() {
+        board[at] = x;
+    }
+}
+
+// Word i of those that begin at `from`.
+pub fn get(board: &[u32], from: u32, i: u32) -> u32 {
+    get_at(board, from as usize + i as usize)
+}
+
+pub fn put(board: &mut [u32], from: u32, i: u32, x: u32) {
+    put_at(board, from as usize + i as usize, x);
+}
+
+// Word i of the k-th sector of those that begin at `from`.
+pub fn word(board: &[u32], from: u32, k: u32, i: u32) -> u32 {
+    get_at(board, from as usize + k as usize * 128 + i as usize)
+}
+
+pub fn put_word(board: &mut [u32], from: u32, k: u32, i: u32, x: u32) {
+    put_at(board, from as usize + k as usize * 128 + i as usize, x);
+}
+
+pub fn fill(board: &mut [u32], from: u32, count: u32, x: u32) {
+    for i in 0..count {
+        put(board, from, i, x);
+    }
+}
+
+fn copy_one(board: &mut [u32], to: u32, from: u32, i: u32) {
+    let x = get(board, from, i);
+    put(board, to, i, x);
+}
+
+pub fn copy(board: &mut [u32], to: u32, from: u32, count: u32) {
+    for i in 0..count {
+        copy_one(board, to, from, i);
+    }
+}
+
+fn copy_word(board: &mut [u32], to: u32, j: u32, from: u32, k: u32, i: u32) {
+    let x = word(board, from, k, i);
+    put_word(board, to, j, i, x);
+}
+
+// Copies the k-th sector from `from` to the j-th from `to`.
+pub fn copy_sector(board: &mut [u32], to: u32, j: u32, from: u32, k: u32) {
+    for i in 0..128u32 {
+        copy_word(board, to, j, from, k, i);
+    }
+}
+
+pub fn fill_sector(board: &mut [u32], from: u32, k: u32, x: u32) {
+    for i in 0..128u32 {
+        put_word(board, from, k, i, x);
+    }
+}
+
+pub fn is_zero_sector(board: &[u32], from: u32, k: u32) -> bool {
+    for i in 0..128u32 {
+        if word(board, from, k, i) != 0 {
+            return false;
+        }
+    }
+    true
+}
+
+// Pieces of a map of l entries: l / 96, rounded up.
+pub fn pieces(l: u32) -> u32 {
+    if l % 96 == 0 {
+        return l / 96;
+    }
+    l / 96 + 1
+}
+
+// Bytes of a used map: one bit a sector.
+pub fn used_bytes(n: u32) -> u32 {
+    if n % 8 == 0 {
+        return n / 8;
+    }
+    n / 8 + 1
+}
+
+// The sum of a sector's words, with wrapping.
+pub fn sum(board: &[u32], from: u32, k: u32) -> u32 {
+    let mut s = 0u32;
+    for i in 0..128u32 {
+        s = plus(s, word(board, from, k, i));
+    }
+    s
+}

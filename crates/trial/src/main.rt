@@ -1,0 +1,73 @@
+// Tries the code against the second implementation and the plain disk, on small volumes: the script on standard input, random histories with the
+// power cut at each store, damaged images and damaged memory. The numbers are the same in every run.
+mod cells;
+mod chance;
+mod cuts;
+mod damage;
+mod disk;
+mod histories;
+mod lend;
+mod plugs;
+mod report;
+mod script;
+
+use reference::board;
+
+fn try_script() {
+    let mut text = [0u8; 65536];
+    let length = io::read_full(0, &mut text);
+    let mut b = [0u32; board::SIZE];
+    script::run(&mut b, &text[..length]);
+    report::say_script(&b);
+}
+
+// Random histories on one volume. Every `often`-th call is cut at each of its stores.
+fn try_history(l: u32, n: u32, spread: u32, calls: u32, often: u32) {
+    let mut b = [0u32; board::SIZE];
+    histories::limit(&mut b, 4, 6);
+    histories::run(&mut b, l, n, spread, calls, often);
+    report::say_history(&b, l, n);
+}
+
+// Drops of many pieces, so that commits fold.
+fn try_folds(l: u32, n: u32, spread: u32, calls: u32, often: u32) {
+    let mut b = [0u32; board::SIZE];
+    histories::limit(&mut b, 3, 49);
+    histories::run(&mut b, l, n, spread, calls, often);
+    report::say_history(&b, l, n);
+}
+
+fn try_damage(l: u32, n: u32, spread: u32, calls: u32) {
+    let mut b = [0u32; board::SIZE];
+    histories::limit(&mut b, 3, 4);
+    damage::run(&mut b, l, n, spread, calls, true);
+    report::say_damage(&b, b"damaged images", l, n);
+}
+
+fn try_damaged_memory(l: u32, n: u32, spread: u32, calls: u32) {
+    let mut b = [0u32; board::SIZE];
+    histories::limit(&mut b, 3, 4);
+    damage::run(&mut b, l, n, spread, calls, false);
+    report::say_damage(&b, b"damaged memory", l, n);
+}
+
+fn try_plugs() {
+    let mut b = [0u32; board::SIZE];
+    plugs::run(&mut b);
+}
+
+fn main() {
+    try_script();
+    try_history(2, 4, 1, 1500, 1);
+    try_history(97, 6, 8, 1500, 1);
+    try_history(200, 8, 20, 1500, 1);
+    try_history(200, 12, 20, 1500, 1);
+    try_history(1000, 48, 50, 400, 2);
+    try_history(2593, 90, 96, 80, 4);
+    try_folds(4704, 128, 96, 80, 6);
+    try_damage(2, 4, 1, 2000);
+    try_damage(200, 12, 20, 3000);
+    try_damage(1000, 48, 50, 400);
+    try_damaged_memory(200, 12, 20, 3000);
+    try_plugs();
+}
