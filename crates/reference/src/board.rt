@@ -1,30 +1,27 @@
 // The board: one array of words with everything that a call is lent and hands back. The image lies on it word by word, the used map with a word
 // a sector. A word past its end reads as 0 and is not written.
 
-// The state: N, L, the tail's sector and number, and the phase (0 running, 1 parked, 2 cut).
+// The state.
 pub const STATE_N: u32 = 0;
 
 pub const STATE_L: u32 = 1;
-
+// The tail's sector, and its number.
 pub const TAIL: u32 = 2;
 
 pub const NUMBER: u32 = 3;
-
+// 0 running, 1 parked, 2 cut.
 pub const PHASE: u32 = 4;
-
-// The arguments: which call (0 format, 1 write, 2 drop, 3 read, 4 park, 5 recover), the L of a format or a recover, the head, the count of
-// blocks, and the stores that may be made. A read's block is the first of the blocks.
+// Which call: 0 format, 1 write, 2 drop, 3 read, 4 park, 5 recover.
 pub const CALL: u32 = 5;
-
+// The L that a format or a recover is given.
 pub const BLOCK_COUNT: u32 = 6;
 
 pub const HEAD: u32 = 7;
-
+// How many blocks a write or a drop names.
 pub const COUNT: u32 = 8;
-
+// The stores that may be made.
 pub const ALLOWED: u32 = 9;
-
-// The lengths lent, in bytes or words: the image, the tables, and the bytes of a write or the buffer of a read.
+// The lengths lent: the image's and the used map's in bytes, those of the other tables in words.
 pub const IMAGE_LENGTH: u32 = 10;
 
 pub const MAP_LENGTH: u32 = 11;
@@ -34,21 +31,19 @@ pub const PLACES_LENGTH: u32 = 12;
 pub const NUMBERS_LENGTH: u32 = 13;
 
 pub const USED_LENGTH: u32 = 14;
-
+// The bytes of a write, or of a read's buffer.
 pub const BYTES_LENGTH: u32 = 15;
-
-// What was answered: 0 or the refusal's number, the stores made, the way (1 walk, 2 scan) and the sectors read.
+// What was answered: 0, or the refusal's number.
 pub const ANSWER: u32 = 16;
 
 pub const STORES: u32 = 17;
-
+// 1 walk, 2 scan.
 pub const WAY: u32 = 18;
-
+// The sectors read.
 pub const READS: u32 = 19;
-
-// Within a call: stores listed, branches listed, where the next search begins, members made, and the newest closing number of a scan.
+// Within a call, the stores that are listed so far.
 pub const LISTED: u32 = 20;
-
+// Within a commit: branches of the first member, where the next search begins, members made, and the last one's sector.
 pub const BRANCH_COUNT: u32 = 21;
 
 pub const NEXT: u32 = 22;
@@ -56,21 +51,19 @@ pub const NEXT: u32 = 22;
 pub const MEMBERS: u32 = 23;
 
 pub const LAST_PLACE: u32 = 24;
-
+// Within a recovery, the tail that was found and its number.
 pub const FOUND_TAIL: u32 = 25;
 
 pub const FOUND_NUMBER: u32 = 26;
-
-// The blocks that a call names, their words, and the words of a read.
+// The blocks that a call names; a read's is the first.
 pub const BLOCKS: u32 = 64;
-
+// The words of a write's blocks, 128 for each.
 pub const DATA: u32 = 160;
-
+// The words of a read.
 pub const OUT: u32 = 10400;
-
-// The tables lent. Within tables: the map from 0, then these.
+// The tables lent.
 pub const LENT: u32 = 10528;
-
+// Within tables: the map from 0 on, and these.
 pub const PLACES: u32 = 4800;
 
 pub const NUMBERS: u32 = 4864;
@@ -80,15 +73,13 @@ pub const USED: u32 = 4928;
 pub const TABLE_WORDS: u32 = 5184;
 
 pub const IMAGE: u32 = 15712;
-
-// A call's caller may keep words of its own from here up to the next.
+// From here up to the next, the caller may keep words of its own.
 pub const CALLER: u32 = 32096;
-
-// Scratch: the tables that a call makes, how often each sector is named, and flags and words for each piece.
+// The tables that a call makes, before it keeps them.
 pub const MADE: u32 = 40000;
-
+// How often each sector is named.
 pub const TALLY: u32 = 45184;
-
+// Flags of a commit, for each piece: written, looked at, and reached or listed; and the branches that are listed.
 pub const TOUCHED: u32 = 45440;
 
 pub const JUDGED: u32 = 45504;
@@ -96,16 +87,15 @@ pub const JUDGED: u32 = 45504;
 pub const REACHED: u32 = 45568;
 
 pub const BRANCHES: u32 = 45632;
-
+// Of a walk, for each piece: the sector that waits, 0 where none does, and whether it is done.
 pub const WAITING: u32 = 45696;
 
 pub const DONE: u32 = 45760;
-
 // The stores listed: their places, and their words.
 pub const LIST_PLACES: u32 = 45824;
 
 pub const LIST: u32 = 46080;
-
+// The words of a board.
 pub const SIZE: usize = 69120;
 
 // The sum, with wrapping.

@@ -1,21 +1,20 @@
 // What the trial keeps on the board beside the volume.
+use crate::lend;
 use reference::board;
 
-// The generator's state, and the volume's blocks that are written: every SPREAD-th, at most so many in a write or a drop.
+// The generator's state.
 pub const SEED: u32 = 32096;
-
+// Of the volume's blocks every so-manieth is written.
 pub const SPREAD: u32 = 32097;
-
+// The most blocks in a write, and in a drop.
 pub const MOST_WRITTEN: u32 = 32098;
 
 pub const MOST_DROPPED: u32 = 32099;
-
-// Counts: calls, power cuts, those in recoveries, recoveries by a walk, folds, commits that wrapped, blocks read and held to the plain disk,
-// facts of samples, differences, and of the first difference what it was, in which call, and how many calls had been made.
+// The counts from here on are taken back from a copy of the board.
 pub const COUNTS: u32 = 32100;
 
 pub const CALLS: u32 = 32100;
-
+// Power cuts, and those of them in recoveries.
 pub const CUTS: u32 = 32101;
 
 pub const RECOVERY_CUTS: u32 = 32102;
@@ -25,38 +24,36 @@ pub const WALKS: u32 = 32103;
 pub const FOLDS: u32 = 32104;
 
 pub const WRAPS: u32 = 32105;
-
+// Blocks held to the plain disk, and facts of a script.
 pub const BLOCKS_READ: u32 = 32106;
 
 pub const FACTS: u32 = 32107;
 
 pub const DIFFERENCES: u32 = 32108;
-
+// Of the first difference: what it was, in which call, after how many calls, and in which line of a script.
 pub const FIRST: u32 = 32109;
 
 pub const FIRST_CALL: u32 = 32110;
 
 pub const FIRST_AT: u32 = 32111;
-// How often each number, 0 to 10, was answered, the line of a script at the first difference, and folds cut.
-pub const ANSWERED: u32 = 32112;
 
 pub const FIRST_LINE: u32 = 32124;
-
+// How often each number, 0 to 10, was answered.
+pub const ANSWERED: u32 = 32112;
+// Power cuts in folds.
 pub const FOLD_CUTS: u32 = 32125;
 
 pub const COUNT_WORDS: u32 = 28;
-
-// The block where the next one is chosen, the seeds of the blocks of a write, and the plain disk: a seed for each block.
+// The block that is named next.
 pub const CURSOR: u32 = 32128;
 // Of a script: the bytes that a call is lent too many, and the line.
 pub const BYTES_MORE: u32 = 32129;
 
 pub const LINE: u32 = 32130;
-
+// The seeds of the blocks of a write.
 pub const SEEDS: u32 = 32136;
-
+// The plain disk: a seed for each block.
 pub const DISK: u32 = 32256;
-
 // What may differ, beside what the comparison of both finds (1 to 11).
 pub const PLAIN_DISK: u32 = 12;
 
@@ -121,17 +118,12 @@ fn keep_words(c: &mut [u32], b: &[u32], from: u32, count: u32) {
     }
 }
 
-// Words of the image that a board lends.
-fn image_words(b: &[u32]) -> u32 {
-    get(b, board::IMAGE_LENGTH) / 512 * 128
-}
-
 // Puts the volume, the call and the counts of one board on another, which was blank.
 pub fn keep(c: &mut [u32], b: &[u32]) {
     keep_words(c, b, 0, board::DATA);
     keep_words(c, b, board::DATA, get(b, board::BYTES_LENGTH) / 4);
     keep_words(c, b, board::LENT, board::TABLE_WORDS);
-    keep_words(c, b, board::IMAGE, image_words(b));
+    keep_words(c, b, board::IMAGE, lend::image_words(b));
     keep_words(c, b, board::CALLER, DISK - board::CALLER);
     keep_words(c, b, DISK, get(b, board::BLOCK_COUNT));
 }

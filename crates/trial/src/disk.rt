@@ -5,7 +5,6 @@ use reference::board;
 use sector::word;
 use types::state::State;
 use vlog::read;
-ghost use Prim.Native.Nat.{_≤_};
 
 fn mixed(seed: u32, i: u32) -> u32 {
     ((seed as u64 * 2654435761 + i as u64 * 40503) % 4294967296) as u32
@@ -206,16 +205,6 @@ fn shows_blocks(
     true
 }
 
-fn length(b: &[u32], cell: u32, most: usize) -> usize
-    ensures { λ r. ⌜ r ≤ most ⌝ }
-{
-    let length = cells::get(b, cell) as usize;
-    if length <= most {
-        return length;
-    }
-    0
-}
-
 fn shows_lent(
     b: &[u32],
     image: &[u8],
@@ -225,11 +214,11 @@ fn shows_lent(
     used: &[u8],
     spread: u32,
 ) -> bool {
-    let n = length(b, board::IMAGE_LENGTH, image.len());
-    let l = length(b, board::MAP_LENGTH, map.len());
-    let p = length(b, board::PLACES_LENGTH, places.len());
-    let q = length(b, board::NUMBERS_LENGTH, numbers.len());
-    let u = length(b, board::USED_LENGTH, used.len());
+    let n = lend::length(b, board::IMAGE_LENGTH, image.len());
+    let l = lend::length(b, board::MAP_LENGTH, map.len());
+    let p = lend::length(b, board::PLACES_LENGTH, places.len());
+    let q = lend::length(b, board::NUMBERS_LENGTH, numbers.len());
+    let u = lend::length(b, board::USED_LENGTH, used.len());
     shows_blocks(
         b,
         lend::state_of(b),

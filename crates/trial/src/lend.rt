@@ -203,7 +203,7 @@ fn call(
 }
 
 // A length that stands on the board, where it is at most `most`, and otherwise 0.
-fn length(b: &[u32], cell: u32, most: usize) -> usize
+pub fn length(b: &[u32], cell: u32, most: usize) -> usize
     ensures { λ r. ⌜ r ≤ most ⌝ }
 {
     let length = board::get(b, cell, 0) as usize;
@@ -243,12 +243,12 @@ fn lend(
     )
 }
 
-// Words of an image whose length is given in bytes; a sector that is not whole counts.
+// Words of the image lent; a sector that is not whole does not count.
 pub fn image_words(b: &[u32]) -> u32 {
     board::get(b, board::IMAGE_LENGTH, 0) / 512 * 128
 }
 
-// The words that the bytes of the call are made of, and of a read's.
+// The bytes that go with the call: a read's buffer, or a write's.
 fn load_data(bytes: &mut [u8], b: &[u32]) {
     if board::get(b, board::CALL, 0) == 3 {
         load_bytes(bytes, b, board::OUT, 128);

@@ -37,18 +37,12 @@ fn try_folds(l: u32, n: u32, spread: u32, calls: u32, often: u32) {
     report::say_history(&b, l, n);
 }
 
-fn try_damage(l: u32, n: u32, spread: u32, calls: u32) {
+// Damage in the image, or in memory.
+fn try_damage(image: bool, l: u32, n: u32, spread: u32, calls: u32) {
     let mut b = [0u32; board::SIZE];
     histories::limit(&mut b, 3, 4);
-    damage::run(&mut b, l, n, spread, calls, true);
-    report::say_damage(&b, b"damaged images", l, n);
-}
-
-fn try_damaged_memory(l: u32, n: u32, spread: u32, calls: u32) {
-    let mut b = [0u32; board::SIZE];
-    histories::limit(&mut b, 3, 4);
-    damage::run(&mut b, l, n, spread, calls, false);
-    report::say_damage(&b, b"damaged memory", l, n);
+    damage::run(&mut b, l, n, spread, calls, image);
+    report::say_damage(&b, image, l, n);
 }
 
 fn try_plugs() {
@@ -65,9 +59,9 @@ fn main() {
     try_history(1000, 48, 50, 400, 2);
     try_history(2593, 90, 96, 80, 4);
     try_folds(4704, 128, 96, 80, 6);
-    try_damage(2, 4, 1, 2000);
-    try_damage(200, 12, 20, 3000);
-    try_damage(1000, 48, 50, 400);
-    try_damaged_memory(200, 12, 20, 3000);
+    try_damage(true, 2, 4, 1, 2000);
+    try_damage(true, 200, 12, 20, 3000);
+    try_damage(true, 1000, 48, 50, 400);
+    try_damage(false, 200, 12, 20, 3000);
     try_plugs();
 }

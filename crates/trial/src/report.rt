@@ -113,8 +113,13 @@ fn say_kinds(b: &[u32]) {
     say_some(b, cells::BLOCKS_READ, b" blocks as on the plain disk");
 }
 
-pub fn say_damage(b: &[u32], family: &[u8], l: u32, n: u32) {
-    say_volume(family, l, n);
+// Damage in the image, or in memory.
+pub fn say_damage(b: &[u32], image: bool, l: u32, n: u32) {
+    if image {
+        say_volume(b"damaged images", l, n);
+    } else {
+        say_volume(b"damaged memory", l, n);
+    }
     say::say_count(b": ", cells::get(b, cells::CALLS));
     say_answers(b);
     say_some(b, cells::WALKS, b" walks");
