@@ -1,6 +1,7 @@
 // The plain disk: a seed for each block, which stands for its bytes. Seed 0 is a block of zeros.
 use crate::cells;
 use crate::lend;
+use paper::words;
 use reference::board;
 use sector::word;
 use types::state::State;
@@ -127,20 +128,13 @@ pub fn settle_call(b: &mut [u32]) {
     hold_read(b);
 }
 
-fn byte_at(out: &[u8], at: usize) -> u8 {
-    if at < out.len() {
-        return out[at];
-    }
-    0
-}
-
 fn word_at(out: &[u8], i: u32) -> u32 {
     let at = i as usize * 4;
     word::word_of(
-        byte_at(out, at),
-        byte_at(out, at + 1),
-        byte_at(out, at + 2),
-        byte_at(out, at + 3),
+        words::byte_at(out, at),
+        words::byte_at(out, at + 1),
+        words::byte_at(out, at + 2),
+        words::byte_at(out, at + 3),
     )
 }
 
