@@ -1,3 +1,2 @@
--- Laws of the definitions that the proofs of the exported calls cite.
+-- Laws that this crate's proofs cite, and its callers' may.
 pub mod Numbers
-pub mod PlainLaws

@@ -2,15 +2,15 @@
 use Prim.Native.Nat.{ℕ}
 use mathlib.Core.Path.{_≡_, _∙_, ap}
 use mathlib.Core.List.{List}
-use Rattle.types.specs.declared.state.State.{State}
-use Rattle.types.specs.declared.state.Outcome.{Outcome}
+use Rattle.state.specs.declared.State.{State}
+use Rattle.state.specs.declared.Outcome.{Outcome}
 use Rattle.volume.specs.Tables.{Memory}
 use Rattle.volume.specs.Store.{After, after}
 use Rattle.volume.specs.Calls.{ReadAfter}
-use Rattle.vlog.specs.Left.{readLeft}
-use Rattle.capi.specs.declared.plain.CState.{CState}
-use Rattle.capi.specs.declared.plain.CResult.{CResult}
-use Rattle.capi.specs.Plain.{stateOf, resultOf}
+use Rattle.checks.specs.Left.{readLeft}
+use Rattle.plain.specs.declared.CState.{CState}
+use Rattle.plain.specs.declared.CResult.{CResult}
+use Rattle.plain.specs.Plain.{stateOf, resultOf}
 use Rattle.capi.specs.Handed.{handed, inNumbers, readHanded, readInNumbers}
 
 module _ (c : CState) (s : State) (o : Outcome) (m : Memory) (r : CResult) (came : s ≡ stateOf c) (gone : r ≡ resultOf c o) where

@@ -4,9 +4,9 @@ use mathlib.Core.List.{List}
 use Rattle.volume.specs.Tables.{Memory}
 use Rattle.volume.specs.Store.{After}
 use Rattle.volume.specs.Calls.{ReadAfter}
-use Rattle.capi.specs.declared.plain.CState.{CState}
-use Rattle.capi.specs.declared.plain.CResult.{CResult}
-use Rattle.capi.specs.Plain.{resultOf}
+use Rattle.plain.specs.declared.CState.{CState}
+use Rattle.plain.specs.declared.CResult.{CResult}
+use Rattle.plain.specs.Plain.{resultOf}
 
 pub record Handed : Type 0 where
   pub result : CResult

@@ -1,3 +1,2 @@
--- States and results in plain numbers, and what an exported call hands back and leaves.
-pub mod Plain
+-- What an exported call hands back and leaves.
 pub mod Handed

@@ -4,16 +4,10 @@ ghost use Rattle.volume.specs.Tables.{memory};
 ghost use Rattle.volume.specs.Format.{formatOf};
 ghost use Rattle.volume.specs.Calls.{writeOf, dropOf, readOf, parkOf};
 ghost use Rattle.volume.specs.Recover.{recoverOf};
-ghost use Rattle.capi.specs.Plain.{stateOf};
+ghost use Rattle.plain.specs.Plain.{stateOf};
 ghost use Rattle.capi.specs.Handed.{handed, inNumbers, readHanded, readInNumbers};
-use crate::plain;
-use crate::plain::CResult;
-use crate::plain::CState;
-use restart::recover;
-use setup::format;
-use update::write;
-use vlog::park;
-use vlog::read;
+use plain::CResult;
+use plain::CState;
 
 // Makes an empty volume of l blocks in the image.
 #[no_mangle]

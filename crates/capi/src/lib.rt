@@ -1,3 +1,2 @@
-// The calls for programs in C and Rust: states and results are plain numbers, and what is lent comes as pointer and length.
+// The six calls for C and Rust.
 pub mod calls;
-pub mod plain;

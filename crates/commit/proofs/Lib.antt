@@ -1,5 +1,3 @@
--- Laws that the proofs of the plan cite.
-pub mod FlagLaws
-pub mod PlaceLaws
-pub mod ListLaws
-pub mod PlanLaws
+-- Laws that this crate's proofs cite, and its callers' may.
+pub mod CommitLaws
+pub mod CommitPlan

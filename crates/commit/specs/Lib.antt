@@ -1,2 +1,2 @@
--- A commit as the arrays of the code hold it.
-pub mod Arrays
+-- A commit as the code goes about it.
+pub mod Commit

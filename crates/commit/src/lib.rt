@@ -1,5 +1,157 @@
-// The plan of a commit: its touched pieces, branches and places.
-pub mod listing;
-pub mod pieces;
-pub mod placing;
-pub mod plan;
+// One commit: write and drop are it, with data sectors and without.
+ghost use mathlib.Core.Path.{_≡_};
+ghost use mathlib.Core.Logic.{_⊎_};
+ghost use mathlib.Core.Bool.{true, not};
+ghost use Prim.Native.Nat.{_+_, _*_, _≤_};
+ghost use lib.ListN.{length};
+ghost use lib.Dec.{ltb};
+ghost use Rattle.geometry.specs.Geometry.{sectorBytes, branchRoom, piecesFor, usedBytes, geometryFits};
+ghost use Rattle.answer.specs.declared.Verdict.the-variants.{Pass};
+ghost use Rattle.layout.specs.Bounded.{countBelow};
+ghost use Rattle.volume.specs.Tables.{bitAt, sectorAt, memory, tablesOf, freeSectors, consistent};
+ghost use Rattle.volume.specs.Refusals.{judged};
+ghost use Rattle.volume.specs.Store.{after, performed};
+ghost use Rattle.volume.specs.Placing.{base};
+ghost use Rattle.volume.specs.Commit.{commitAction};
+ghost use Rattle.volume.specs.Calls.{viewOf, commitChecks};
+ghost use Rattle.pieces.specs.Arrays.{flagged, planOf, Settling};
+ghost use Rattle.commit.specs.Commit.{planAction, changeWith, changeBy};
+use answer::Answer;
+use power::allowance::Power;
+use state::Outcome;
+use state::State;
+
+// Stores a planned commit, and changes the tables when all was stored.
+fn carry_out(
+    s: State,
+    image: &mut [u8],
+    map: &mut [u32],
+    places: &mut [u32],
+    numbers: &mut [u32],
+    used: &mut [u8],
+    blocks: &[u32],
+    bytes: &[u8],
+    news: &[u32],
+    taken: &[u32],
+    count: u32,
+    branches: &[u32],
+    written: &[u8],
+    members: u32,
+    allowance: u32,
+) -> Outcome
+    requires { ⌜ geometryFits (s .n) (s .l) ≡ true ⌝ }
+    requires { ⌜ length (now image) ≡ sectorBytes * s .n ⌝ }
+    requires { ⌜ length (now map) ≡ s .l ⌝ }
+    requires { ⌜ length (now places) ≡ piecesFor (s .l) ⌝ }
+    requires { ⌜ length (now numbers) ≡ piecesFor (s .l) ⌝ }
+    requires { ⌜ length (now used) ≡ usedBytes (s .n) ⌝ }
+    requires { ⌜ consistent (s .n) (s .l) (tablesOf (now map) (now places) (now numbers) (now used)) (s .tail) (s .number) ≡ true ⌝ }
+    requires { ⌜ Settling (s .n) (s .l) (s .number) (now blocks) (now news) (now taken) count (now written) ⌝ }
+    requires { ⌜ members ≡ countBelow (flagged (now written)) (piecesFor (s .l)) ⌝ }
+    requires { ⌜ 1 ≤ members ⌝ }
+    requires { ⌜ length (now branches) ≤ branchRoom ⌝ }
+    requires { ⌜ length (now bytes) ≡ sectorBytes * count ⌝ }
+    ensures { λ r. ⌜ after r (memory (now (image .exit)) (now (map .exit)) (now (places .exit)) (now (numbers .exit)) (now (used .exit))) ≡ performed allowance (planAction s (tablesOf (now (map .entry)) (now (places .entry)) (now (numbers .entry)) (now (used .entry))) (planOf (now (branches .entry)) (now (written .entry)) members count (now (taken .entry))) (changeWith (now (blocks .entry)) (now (bytes .entry)) (now (news .entry)) count)) (memory (now (image .entry)) (now (map .entry)) (now (places .entry)) (now (numbers .entry)) (now (used .entry))) ⌝ }
+{
+    let power = store::store(
+        s,
+        image,
+        map,
+        blocks,
+        bytes,
+        news,
+        taken,
+        count,
+        branches,
+        written,
+        members,
+        allowance,
+    );
+    match power {
+        Power::Failed => Outcome {
+            answer: Answer::PowerFailed { stores: allowance },
+            state: s.cut(),
+        },
+        Power::Left(left) => {
+            settle::settle(
+                s,
+                map,
+                places,
+                numbers,
+                used,
+                blocks,
+                news,
+                taken,
+                count as usize,
+                written,
+            );
+            let tail = taken[taken.len() - 1];
+            let number = s.number + members;
+            Outcome {
+                answer: Answer::Accepted {
+                    stores: allowance - left,
+                },
+                state: s.committed(tail, number),
+            }
+        }
+    }
+}
+
+// A commit that no refusal stops: plan, store, settle.
+pub fn commit(
+    s: State,
+    image: &mut [u8],
+    map: &mut [u32],
+    places: &mut [u32],
+    numbers: &mut [u32],
+    used: &mut [u8],
+    head: u32,
+    blocks: &[u32],
+    bytes: &[u8],
+    count: u32,
+    allowance: u32,
+) -> Outcome
+    requires { ⌜ Pass ≡ judged (commitChecks base s (memory (now image) (now map) (now places) (now numbers) (now used)) head (now blocks) true (not (ltb (freeSectors (s .n) (bitAt (now used))) (count + piecesFor (s .l))))) ⌝ }
+    requires { ⌜ (count ≡ 0) ⊎ (count ≡ length (now blocks)) ⌝ }
+    requires { ⌜ length (now bytes) ≡ sectorBytes * count ⌝ }
+    ensures { λ r. ⌜ after r (memory (now (image .exit)) (now (map .exit)) (now (places .exit)) (now (numbers .exit)) (now (used .exit))) ≡ performed allowance (commitAction base s (tablesOf (now (map .entry)) (now (places .entry)) (now (numbers .entry)) (now (used .entry))) (viewOf (s .n) (s .l) (sectorAt (now (image .entry)))) head (changeBy (now (blocks .entry)) (now (bytes .entry)) count)) (memory (now (image .entry)) (now (map .entry)) (now (places .entry)) (now (numbers .entry)) (now (used .entry))) ⌝ }
+{
+    let mut written = [0u8; 256];
+    let mut branches = [0u32; 25];
+    let mut taken = [0u32; 320];
+    let mut news = [0u32; 64];
+    let sizes = plan::plan(
+        s,
+        image,
+        places,
+        numbers,
+        used,
+        head,
+        blocks,
+        count,
+        &mut written,
+        &mut branches,
+        &mut taken,
+    );
+    let members = sizes.members;
+    let first = sizes.branches;
+    let total = (count + members) as usize;
+    entries::entries_for(bytes, &taken[..total], count as usize, &mut news);
+    carry_out(
+        s,
+        image,
+        map,
+        places,
+        numbers,
+        used,
+        blocks,
+        bytes,
+        &news,
+        &taken[..total],
+        count,
+        &branches[..first],
+        &written,
+        members,
+        allowance,
+    )
+}

@@ -1,20 +1,13 @@
 // The calls on the volume, and their answers.
+ghost use Prim.Native.Nat.{_≤_, _*_};
+use answer::Answer;
+use geometry::Geometry;
 use paper::request::Call;
 use paper::request::Request;
-use paper::say;
-use paper::sector_line;
 use paper::words;
-use restart::recover;
-use sector::block;
-use setup::format;
-use types::answer::Answer;
-use types::geometry::Geometry;
-use types::state::Outcome;
-use types::state::State;
-use update::write;
-use vlog::park;
-use vlog::read;
-ghost use Prim.Native.Nat.{_≤_, _*_};
+use state::Outcome;
+use state::State;
+use wording::say;
 
 // The calls that may store.
 fn store(
@@ -89,7 +82,7 @@ fn is_shown(
 ) -> bool {
     let mut out = [0u8; 512];
     read::read(s, image, map, places, numbers, used, block, &mut out);
-    if block::is_blank(&out) {
+    if blocks::is_blank(&out) {
         return false;
     }
     if aloud {

@@ -1,12 +1,12 @@
 // The desk: it takes a line apart, lends the volume's parts to the call, and keeps the state.
 use crate::calls;
+use geometry::Geometry;
 use paper::data::Trouble;
 use paper::request;
 use paper::request::Call;
 use paper::request::Request;
-use paper::say;
-use types::geometry::Geometry;
-use types::state::State;
+use state::State;
+use wording::say;
 
 pub struct Desk {
     pub state: State,

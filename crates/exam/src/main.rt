@@ -3,8 +3,8 @@ mod calls;
 mod desk;
 
 use desk::Desk;
-use paper::say;
 use paper::words;
+use wording::say;
 
 // The line of the paper that is next, if there is one.
 fn answer_next(

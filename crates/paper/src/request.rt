@@ -4,7 +4,6 @@ use crate::data::Data;
 use crate::data::Trouble;
 use crate::words;
 use crate::words::Number;
-use sector::mark;
 
 pub enum Call {
     // A blank line or a comment.
@@ -322,7 +321,7 @@ fn take_word(
 ) -> Request {
     let end = words::word_end(line, at);
     let word = words::part(line, at, end);
-    if mark::starts_with(word, b"stores=") {
+    if words::begins_with(word, b"stores=") {
         return take_plug(line, at, end, call, r);
     }
     if r.taken < wanted(call) {

@@ -1,5 +1,4 @@
 // The words of a line: bytes between spaces or tabs. Positions past the end of a line count as its end.
-use sector::mark;
 ghost use Prim.Native.Nat.{_≤_};
 
 // A number that a word spells.
@@ -77,12 +76,24 @@ pub fn find(line: &[u8], from: usize, b: u8) -> usize {
     line.len()
 }
 
+// Whether a word begins with these bytes, none of which is 0.
+pub fn begins_with(word: &[u8], name: &[u8]) -> bool {
+    let mut i = 0;
+    while i < name.len() {
+        if byte_at(word, i) != name[i] {
+            return false;
+        }
+        i += 1;
+    }
+    true
+}
+
 // Whether a word is this one.
 pub fn is_word(word: &[u8], name: &[u8]) -> bool {
     if word.len() != name.len() {
         return false;
     }
-    mark::starts_with(word, name)
+    begins_with(word, name)
 }
 
 fn wide(b: u8) -> u64

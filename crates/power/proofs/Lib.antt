@@ -1,3 +1,4 @@
--- Laws of runs of stores: one loop, and one run after another.
+-- Laws that this crate's proofs cite, and its callers' may.
 pub mod Storing
 pub mod Runs
+pub mod Performing

@@ -9,8 +9,8 @@ use lib.ListN.{length, take, length-append}
 use lib.Seq.{take-all, take-append-le, take-append-add}
 use borrow.Author.Tests.{lt-ltb, le-ltb}
 use Rattle.volume.specs.Store.{Store, applied}
-use Rattle.volume.proofs.Bounded.{lt?, clash}
-use Rattle.volume.proofs.Fresh.{applied-append}
+use Rattle.laws.proofs.Bounded.{lt?, clash}
+use Rattle.laws.proofs.Stores.{applied-append}
 use Rattle.power.specs.declared.allowance.Power.{Power}
 use Rattle.power.specs.declared.allowance.Power.the-variants.{Left, Failed}
 use Rattle.power.specs.Power.{powered}

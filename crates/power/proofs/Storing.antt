@@ -9,11 +9,10 @@ use native.Mathlib.Omega.{arith}
 use lib.ListN.{take}
 use lib.Seq.{take-at, take-all}
 use borrow.Author.Tests.{lt-ltb, le-ltb}
-use Rattle.volume.specs.Bounded.{countBelow, updated}
+use Rattle.layout.specs.Bounded.{countBelow, updated}
 use Rattle.volume.specs.Store.{Store, applied, storesBelow}
-use Rattle.volume.proofs.Bounded.{bool?, count-hit, count-miss, count-before}
-use Rattle.volume.proofs.Stores.{below-hit, below-miss, below-length}
-use Rattle.volume.proofs.Fresh.{applied-append}
+use Rattle.laws.proofs.Bounded.{bool?, count-hit, count-miss, count-before}
+use Rattle.laws.proofs.Stores.{below-hit, below-miss, below-length, applied-append}
 use Rattle.power.specs.declared.allowance.Power.the-variants.{Left, Failed}
 use Rattle.power.specs.Power.{powered}
 

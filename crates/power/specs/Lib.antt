@@ -1,2 +1,2 @@
--- How a run of stores ends.
+-- What is left of an allowance.
 pub mod Power

@@ -1,2 +1,2 @@
-// Stores under an allowance: how a run of them ends.
+// How a run of stores under an allowance ends.
 pub mod allowance;

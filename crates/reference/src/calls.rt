@@ -1,11 +1,11 @@
 // The six calls on the board.
-use crate::board;
-use crate::changes;
-use crate::consistent;
-use crate::journal;
 use crate::refusals;
-use crate::scanned;
-use crate::walked;
+use reference_board::board;
+use reference_board::consistent;
+use reference_board::journal;
+use reference_commit::changes;
+use reference_recovery::scanned;
+use reference_recovery::walked;
 
 fn put_state(b: &mut [u32], n: u32, l: u32, tail: u32, number: u32, phase: u32) {
     board::put(b, board::STATE_N, 0, n);

@@ -1,8 +1,8 @@
 // What turns a call back: numbers 1 to 7, in order. 0 where nothing does.
-use crate::board;
-use crate::consistent;
-use crate::places;
-use crate::valid;
+use reference_board::board;
+use reference_board::consistent;
+use reference_board::places;
+use reference_board::valid;
 
 fn size_fits(n: u32, l: u32) -> bool {
     if l < 1 {

@@ -1,10 +1,8 @@
 // Damaged images and damaged tables: both implementations make the same of them.
-use crate::cells;
-use crate::chance;
-use crate::cuts;
-use crate::histories;
-use crate::script;
-use reference::board;
+use reference_board::board;
+use trial_board::cells;
+use trial_board::chance;
+use trial_cuts::cuts;
 
 fn any_sector(b: &mut [u32]) -> u32 {
     chance::below(b, cells::get(b, board::IMAGE_LENGTH) / 512)
@@ -22,14 +20,14 @@ fn change_field(b: &mut [u32], k: u32) {
     let i = chance::below(b, 34);
     let x = chance::below(b, 14);
     board::put_word(b, board::IMAGE, k, board::plus(i, 2), x);
-    script::balance(b, k);
+    trial_script::balance(b, k);
 }
 
 // Member for closing, and closing for member.
 fn change_kind(b: &mut [u32], k: u32) {
     let kind = board::word(b, board::IMAGE, k, 5);
     board::put_word(b, board::IMAGE, k, 5, std::num::wrapping_sub_u32(1, kind));
-    script::balance(b, k);
+    trial_script::balance(b, k);
 }
 
 fn change_number(b: &mut [u32], k: u32) {
@@ -42,7 +40,7 @@ fn change_number(b: &mut [u32], k: u32) {
         2,
         board::plus(number, std::num::wrapping_sub_u32(more, 2)),
     );
-    script::balance(b, k);
+    trial_script::balance(b, k);
 }
 
 // One more branch, to any sector.
@@ -51,7 +49,7 @@ fn add_branch(b: &mut [u32], k: u32) {
     let target = any_sector(b);
     board::put_word(b, board::IMAGE, k, 6, board::plus(count, 1));
     board::put_word(b, board::IMAGE, k, board::plus(8, count), target);
-    script::balance(b, k);
+    trial_script::balance(b, k);
 }
 
 fn double(b: &mut [u32], k: u32) {
@@ -67,7 +65,7 @@ fn park_at(b: &mut [u32], k: u32) {
     board::put_word(b, board::IMAGE, 0, 0, 827_346_006);
     board::put_word(b, board::IMAGE, 0, 2, board::plus(number, more));
     board::put_word(b, board::IMAGE, 0, 3, k);
-    script::balance(b, 0);
+    trial_script::balance(b, 0);
 }
 
 fn damage_sector(b: &mut [u32], k: u32) {
@@ -115,9 +113,9 @@ fn recover_some(b: &mut [u32]) {
 }
 
 fn call_some(b: &mut [u32]) {
-    histories::choose(b);
+    trial_histories::choose(b);
     cuts::perform(b);
-    histories::choose(b);
+    trial_histories::choose(b);
     cuts::perform(b);
 }
 
@@ -150,7 +148,7 @@ fn call_damaged(b: &mut [u32]) {
 }
 
 fn grow(b: &mut [u32], image: bool) {
-    histories::choose(b);
+    trial_histories::choose(b);
     cuts::perform(b);
     if image {
         recover_damaged(b);

@@ -1,9 +1,9 @@
 // Some plug-pulls in words: a volume of 200 blocks in 12 sectors, whose blocks 5 and 100 are written twice.
-use crate::cells;
-use crate::cuts;
-use crate::disk;
-use paper::say;
-use reference::board;
+use reference_board::board;
+use trial_board::cells;
+use trial_cuts::cuts;
+use trial_cuts::disk;
+use wording::say;
 
 fn stand_write(b: &mut [u32], head: u32) {
     cells::set(b, board::CALL, 1);

@@ -1,6 +1,6 @@
 // One line a family: what was run, how often, and the first difference if there is one.
-use crate::cells;
-use paper::say;
+use trial_board::cells;
+use wording::say;
 
 fn say_call(call: u32) {
     match call {

@@ -1,92 +1,17 @@
--- What the ten samples leave open, as a second table with a theorem of the same kind: flipping, wrapping, listing, folding,
--- room, every refusal, the order of zeroing, cuts in a recovery, and images that no history leaves.
-use Prim.Native.Nat.{ℕ, _+_, _*_, _-_}
+-- The rows that a wrong definition runs into: wrapping, listing, room, every refusal, the order of stores and of zeroing, cuts in a
+-- recovery, and images that no history leaves. The samples, and the rows that no edit of a definition needs, stand in crate `samples`.
 use mathlib.Core.Path.{_≡_, refl}
-use mathlib.Core.Bool.{Bool, true, false}
+use mathlib.Core.Bool.{true, false}
 use mathlib.Core.List.{List, [], _∷_, map}
-use lib.ListN.{replicate, set}
-use Rattle.types.specs.declared.answer.Answer.the-variants.{Accepted}
-use Rattle.volume.specs.Bounded.{at, listFrom, updated}
-use Rattle.volume.specs.MapSector.{encoded}
-use Rattle.volume.specs.Entry.{blank}
-use Rattle.volume.specs.ParkRecord.{parkRecord}
-use Rattle.types.specs.State.{freshState}
-use Rattle.volume.specs.Store.{after, memoryWith}
-use Rattle.volume.proofs.Rows.{Call, Formatted, Result, resultOf, Row, gives, outcomeOf, liveSector, full, enough, writeBytes, write, drop, park, recover}
-
--- What no call does: the image changed by hand, and a volume whose numbers are nearly used up.
-overwritten : ℕ → List ℕ → Call
-overwritten k bytes s m = after (record { answer = Accepted 0; state = s }) (memoryWith m (updated (m .image) k bytes) (m .tables))
-
-blankAt : ℕ → Call
-blankAt k = overwritten k blank
-
-copied : ℕ → ℕ → Call
-copied from to s m = overwritten to (m .image from) s m
-
--- A map sector of volume B with entries zero.
-unfoldable pub signed : ℕ → ℕ → Bool → List ℕ → List ℕ
-signed number piece closing branches =
-    encoded 200
-    (record { number = number; piece = piece; closing = closing; branches = branches; entries = replicate 96 0 })
-
-signedAt : ℕ → ℕ → ℕ → Bool → List ℕ → Call
-signedAt k number piece closing branches = overwritten k (signed number piece closing branches)
-
-parkedAt : ℕ → ℕ → Call
-parkedAt number tail = overwritten 0 (parkRecord (record { number = number; tail = tail }))
-
--- The park record with word 5 set too, and word 1 one less: in balance, or not.
-parkTilted : Call
-parkTilted s m = overwritten 0 (set (m .image 0) 4 (at (m .image 0) 4 - 1)) s m
-
-parkLengthened : Call
-parkLengthened s m = overwritten 0 (set (set (m .image 0) 4 (at (m .image 0) 4 - 1)) 20 1) s m
-
--- Volume A with another number on its one map sector.
-numbered : ℕ → Call
-numbered number s m =
-    after (record { answer = Accepted 0; state = freshState (s .n) (s .l) (s .tail) number })
-    (memoryWith m
-    (updated (m .image) 1
-    (encoded 2 (record { number = number; piece = 0; closing = true; branches = []; entries = replicate 96 0 })))
-    (record {
-      entry = m .tables .entry;
-      place = m .tables .place;
-      number = updated (m .tables .number) 0 number;
-      isUsed = m .tables .isUsed;
-    }))
-
--- A block that is a map sector byte for byte.
-forged : List ℕ
-forged = signed 99 0 true []
-
-writeForged : ℕ → List ℕ → Call
-writeForged head blocks = writeBytes head blocks forged enough
-
--- A block that is a map sector byte for byte is stored flipped: the scan does not take it, and it reads as it was written.
-flipped : Row
-flipped =
-    record {
-      format = record { n = 12; l = 200; stores = enough };
-      calls = writeForged 6 (5 ∷ []) ∷ recover 200 enough ∷ [];
-      block = 5;
-      says = record {
-        result = record { answer = 0; stores = 0; way = 2; reads = 12; tail = 7; number = 4 };
-        free = 1 ∷ 4 ∷ 5 ∷ 8 ∷ 9 ∷ 10 ∷ 11 ∷ [];
-        live = (7 ∷ 4 ∷ 1 ∷ 3 ∷ []) ∷ (2 ∷ 2 ∷ 0 ∷ 1 ∷ []) ∷ (3 ∷ 3 ∷ 1 ∷ 2 ∷ []) ∷ [];
-        entries = (5 ∷ 2147483654 ∷ []) ∷ [];
-        sectors = 0 ∷ 1 ∷ 2 ∷ 3 ∷ 0 ∷ 0 ∷ 0 ∷ 4 ∷ 0 ∷ 0 ∷ 0 ∷ 0 ∷ [];
-        balance = 0x4EB2B2D3;
-        block = forged;
-      };
-    }
+use Rattle.layout.specs.Entry.{blank}
+use Rattle.layout.proofs.Conditions.{signed}
+use Rattle.volume.proofs.Rows.{Row, Table, gives, says, volumeA, volumeB, full, enough, writeBytes, write, drop, park, recover}
+use Rattle.volume.proofs.ByHand.{overwritten, blankAt, copied, signedAt, parkedAt, numbered}
 
 -- A search from the last sector goes on at 1, where 1 to 3 are used. Two stores are just enough.
 wraps : Row
 wraps =
     record {
-      format = record { n = 12; l = 200; stores = enough };
       calls = write 11 (5 ∷ []) 7 2 ∷ [];
       block = 5;
       says = record {
@@ -104,7 +29,6 @@ wraps =
 reachedAlready : Row
 reachedAlready =
     record {
-      format = record { n = 12; l = 200; stores = enough };
       calls = write 4 (192 ∷ []) 7 enough ∷ [];
       block = 192;
       says = record {
@@ -122,7 +46,6 @@ reachedAlready =
 supersededLater : Row
 supersededLater =
     record {
-      format = record { n = 12; l = 200; stores = enough };
       calls = write 6 (5 ∷ 100 ∷ []) 33 enough ∷ write 6 (5 ∷ []) 8 enough ∷ [];
       block = 5;
       says = record {
@@ -140,7 +63,6 @@ supersededLater =
 higherBranch : Row
 higherBranch =
     record {
-      format = record { n = 12; l = 200; stores = enough };
       calls = blankAt 1 ∷ blankAt 2 ∷ signedAt 5 7 2 false [] ∷ signedAt 6 5 1 false (5 ∷ []) ∷ signedAt 7 10 0 true (6 ∷ []) ∷ parkedAt 10 7 ∷ recover 200 enough ∷ [];
       block = 5;
       says = record {
@@ -158,7 +80,6 @@ higherBranch =
 roomExactly : Row
 roomExactly =
     record {
-      format = record { n = 12; l = 200; stores = enough };
       calls = write 4 (0 ∷ 1 ∷ 2 ∷ 3 ∷ 4 ∷ []) 9 enough ∷ [];
       block = 4;
       says = record {
@@ -172,29 +93,10 @@ roomExactly =
       };
     }
 
--- 6: six blocks need nine.
-noRoom : Row
-noRoom =
-    record {
-      format = record { n = 12; l = 200; stores = enough };
-      calls = write 4 (0 ∷ 1 ∷ 2 ∷ 3 ∷ 4 ∷ 5 ∷ []) 9 enough ∷ [];
-      block = 4;
-      says = record {
-        result = record { answer = 6; stores = 0; way = 0; reads = 0; tail = 3; number = 3 };
-        free = 4 ∷ 5 ∷ 6 ∷ 7 ∷ 8 ∷ 9 ∷ 10 ∷ 11 ∷ [];
-        live = (1 ∷ 1 ∷ 0 ∷ []) ∷ (2 ∷ 2 ∷ 0 ∷ 1 ∷ []) ∷ (3 ∷ 3 ∷ 1 ∷ 2 ∷ []) ∷ [];
-        entries = [];
-        sectors = 0 ∷ 1 ∷ 2 ∷ 3 ∷ 0 ∷ 0 ∷ 0 ∷ 0 ∷ 0 ∷ 0 ∷ 0 ∷ 0 ∷ [];
-        balance = 0xCEB2B2D9;
-        block = blank;
-      };
-    }
-
 -- 1: no volume has 24,577 blocks.
 refusal1 : Row
 refusal1 =
     record {
-      format = record { n = 12; l = 200; stores = enough };
       calls = recover 24577 enough ∷ [];
       block = 0;
       says = record {
@@ -212,7 +114,6 @@ refusal1 =
 refusal2 : Row
 refusal2 =
     record {
-      format = record { n = 12; l = 200; stores = enough };
       calls = writeBytes 4 (0 ∷ 1 ∷ []) (full 9) enough ∷ [];
       block = 0;
       says = record {
@@ -230,7 +131,6 @@ refusal2 =
 refusal3 : Row
 refusal3 =
     record {
-      format = record { n = 12; l = 200; stores = enough };
       calls = write 4 (5 ∷ 3 ∷ []) 9 enough ∷ [];
       block = 0;
       says = record {
@@ -248,7 +148,6 @@ refusal3 =
 refusal4 : Row
 refusal4 =
     record {
-      format = record { n = 12; l = 200; stores = enough };
       calls = park enough ∷ write 4 (5 ∷ []) 9 enough ∷ [];
       block = 0;
       says = record {
@@ -266,7 +165,6 @@ refusal4 =
 refusal5 : Row
 refusal5 =
     record {
-      format = record { n = 12; l = 200; stores = enough };
       calls = blankAt 2 ∷ write 4 (5 ∷ []) 9 enough ∷ [];
       block = 0;
       says = record {
@@ -284,7 +182,6 @@ refusal5 =
 refusal7 : Row
 refusal7 =
     record {
-      format = record { n = 4; l = 2; stores = enough };
       calls = numbered 4294967040 ∷ write 2 (0 ∷ []) 9 enough ∷ [];
       block = 0;
       says = record {
@@ -298,29 +195,10 @@ refusal7 =
       };
     }
 
--- ... and enough after 4,294,967,039.
-lastNumbers : Row
-lastNumbers =
-    record {
-      format = record { n = 4; l = 2; stores = enough };
-      calls = numbered 4294967039 ∷ write 2 (0 ∷ []) 9 enough ∷ [];
-      block = 0;
-      says = record {
-        result = record { answer = 0; stores = 2; way = 0; reads = 0; tail = 3; number = 4294967040 };
-        free = 1 ∷ [];
-        live = (3 ∷ 4294967040 ∷ 1 ∷ []) ∷ [];
-        entries = (0 ∷ 2 ∷ []) ∷ [];
-        sectors = 0 ∷ 4294967039 ∷ 0 ∷ 4294967040 ∷ [];
-        balance = 0xCEB2B4A5;
-        block = full 9;
-      };
-    }
-
 -- 8: the only closing sector is gone.
 refusal8 : Row
 refusal8 =
     record {
-      format = record { n = 12; l = 200; stores = enough };
       calls = blankAt 3 ∷ recover 200 enough ∷ [];
       block = 0;
       says = record {
@@ -338,7 +216,6 @@ refusal8 =
 refusal9 : Row
 refusal9 =
     record {
-      format = record { n = 12; l = 200; stores = enough };
       calls = copied 3 7 ∷ recover 200 enough ∷ [];
       block = 0;
       says = record {
@@ -352,20 +229,19 @@ refusal9 =
       };
     }
 
--- 9: piece 0 is missing.
-pieceMissing : Row
-pieceMissing =
+-- Data goes first: a write that is cut after one store has stored its block and no map sector.
+dataFirst : Row
+dataFirst =
     record {
-      format = record { n = 12; l = 200; stores = enough };
-      calls = blankAt 1 ∷ recover 200 enough ∷ [];
-      block = 0;
+      calls = write 4 (5 ∷ []) 9 1 ∷ [];
+      block = 5;
       says = record {
-        result = record { answer = 9; stores = 0; way = 0; reads = 0; tail = 0; number = 0 };
-        free = 0 ∷ 1 ∷ 2 ∷ 3 ∷ 4 ∷ 5 ∷ 6 ∷ 7 ∷ 8 ∷ 9 ∷ 10 ∷ 11 ∷ [];
-        live = (0 ∷ []) ∷ (0 ∷ []) ∷ (0 ∷ []) ∷ [];
+        result = record { answer = 10; stores = 1; way = 0; reads = 0; tail = 3; number = 3 };
+        free = 4 ∷ 5 ∷ 6 ∷ 7 ∷ 8 ∷ 9 ∷ 10 ∷ 11 ∷ [];
+        live = (1 ∷ 1 ∷ 0 ∷ []) ∷ (2 ∷ 2 ∷ 0 ∷ 1 ∷ []) ∷ (3 ∷ 3 ∷ 1 ∷ 2 ∷ []) ∷ [];
         entries = [];
-        sectors = 0 ∷ 0 ∷ 2 ∷ 3 ∷ 0 ∷ 0 ∷ 0 ∷ 0 ∷ 0 ∷ 0 ∷ 0 ∷ 0 ∷ [];
-        balance = 0x00000000;
+        sectors = 0 ∷ 1 ∷ 2 ∷ 3 ∷ 0 ∷ 0 ∷ 0 ∷ 0 ∷ 0 ∷ 0 ∷ 0 ∷ 0 ∷ [];
+        balance = 0xCEB2B2D9;
         block = full 238;
       };
     }
@@ -374,7 +250,6 @@ pieceMissing =
 refusal10 : Row
 refusal10 =
     record {
-      format = record { n = 12; l = 200; stores = enough };
       calls = drop 11 (0 ∷ 100 ∷ 192 ∷ []) 2 ∷ [];
       block = 0;
       says = record {
@@ -392,7 +267,6 @@ refusal10 =
 recoveryCut : Row
 recoveryCut =
     record {
-      format = record { n = 12; l = 200; stores = enough };
       calls = drop 11 (0 ∷ 100 ∷ 192 ∷ []) 2 ∷ recover 200 1 ∷ [];
       block = 0;
       says = record {
@@ -410,7 +284,6 @@ recoveryCut =
 recoveredAgain : Row
 recoveredAgain =
     record {
-      format = record { n = 12; l = 200; stores = enough };
       calls = drop 11 (0 ∷ 100 ∷ 192 ∷ []) 2 ∷ recover 200 1 ∷ recover 200 enough ∷ [];
       block = 0;
       says = record {
@@ -424,47 +297,10 @@ recoveredAgain =
       };
     }
 
--- A park record with one more word set, in balance: the scan answers, and clears it.
-parkLonger : Row
-parkLonger =
-    record {
-      format = record { n = 12; l = 200; stores = enough };
-      calls = write 6 (5 ∷ 100 ∷ []) 33 enough ∷ park enough ∷ parkLengthened ∷ recover 200 enough ∷ [];
-      block = 5;
-      says = record {
-        result = record { answer = 0; stores = 1; way = 2; reads = 12; tail = 9; number = 5 };
-        free = 1 ∷ 2 ∷ 4 ∷ 5 ∷ 10 ∷ 11 ∷ [];
-        live = (8 ∷ 4 ∷ 0 ∷ 3 ∷ []) ∷ (9 ∷ 5 ∷ 1 ∷ 8 ∷ []) ∷ (3 ∷ 3 ∷ 1 ∷ 2 ∷ []) ∷ [];
-        entries = (5 ∷ 6 ∷ []) ∷ (100 ∷ 7 ∷ []) ∷ [];
-        sectors = 0 ∷ 1 ∷ 2 ∷ 3 ∷ 0 ∷ 0 ∷ 0 ∷ 0 ∷ 4 ∷ 5 ∷ 0 ∷ 0 ∷ [];
-        balance = 0xCEB2B2CB;
-        block = full 33;
-      };
-    }
-
--- A park record out of balance likewise.
-parkUnbalanced : Row
-parkUnbalanced =
-    record {
-      format = record { n = 12; l = 200; stores = enough };
-      calls = write 6 (5 ∷ 100 ∷ []) 33 enough ∷ park enough ∷ parkTilted ∷ recover 200 enough ∷ [];
-      block = 5;
-      says = record {
-        result = record { answer = 0; stores = 1; way = 2; reads = 12; tail = 9; number = 5 };
-        free = 1 ∷ 2 ∷ 4 ∷ 5 ∷ 10 ∷ 11 ∷ [];
-        live = (8 ∷ 4 ∷ 0 ∷ 3 ∷ []) ∷ (9 ∷ 5 ∷ 1 ∷ 8 ∷ []) ∷ (3 ∷ 3 ∷ 1 ∷ 2 ∷ []) ∷ [];
-        entries = (5 ∷ 6 ∷ []) ∷ (100 ∷ 7 ∷ []) ∷ [];
-        sectors = 0 ∷ 1 ∷ 2 ∷ 3 ∷ 0 ∷ 0 ∷ 0 ∷ 0 ∷ 4 ∷ 5 ∷ 0 ∷ 0 ∷ [];
-        balance = 0xCEB2B2CB;
-        block = full 33;
-      };
-    }
-
 -- The walk takes 6 before 5, so that 4, a newer sector of the piece of 5, comes to wait in its place.
 newestFirst : Row
 newestFirst =
     record {
-      format = record { n = 12; l = 200; stores = enough };
       calls = blankAt 1 ∷ blankAt 2 ∷ blankAt 3 ∷ signedAt 7 10 2 true (6 ∷ 5 ∷ []) ∷ signedAt 6 8 0 false (4 ∷ []) ∷ signedAt 5 6 1 false [] ∷ signedAt 4 7 1 false [] ∷ parkedAt 10 7 ∷ recover 200 enough ∷ [];
       block = 5;
       says = record {
@@ -482,7 +318,6 @@ newestFirst =
 firstRead : Row
 firstRead =
     record {
-      format = record { n = 12; l = 200; stores = enough };
       calls = blankAt 1 ∷ blankAt 2 ∷ blankAt 3 ∷ signedAt 7 10 2 true (6 ∷ 5 ∷ 4 ∷ []) ∷ signedAt 6 8 0 false [] ∷ signedAt 5 6 1 false [] ∷ signedAt 4 6 1 false [] ∷ parkedAt 10 7 ∷ recover 200 enough ∷ [];
       block = 5;
       says = record {
@@ -500,7 +335,6 @@ firstRead =
 doneAlready : Row
 doneAlready =
     record {
-      format = record { n = 12; l = 200; stores = enough };
       calls = blankAt 1 ∷ blankAt 2 ∷ blankAt 3 ∷ signedAt 7 10 2 true (6 ∷ 5 ∷ []) ∷ signedAt 6 8 0 false (4 ∷ []) ∷ signedAt 5 6 1 false [] ∷ signedAt 4 7 0 false [] ∷ parkedAt 10 7 ∷ recover 200 enough ∷ [];
       block = 5;
       says = record {
@@ -518,7 +352,6 @@ doneAlready =
 closingRecycled : Row
 closingRecycled =
     record {
-      format = record { n = 12; l = 200; stores = enough };
       calls = write 6 (5 ∷ 100 ∷ []) 33 enough ∷ write 0 (100 ∷ []) 40 enough ∷ write 9 (100 ∷ []) 41 enough ∷ recover 200 enough ∷ [];
       block = 5;
       says = record {
@@ -536,7 +369,6 @@ closingRecycled =
 signedParkSector : Row
 signedParkSector =
     record {
-      format = record { n = 12; l = 200; stores = enough };
       calls = signedAt 0 50 0 false [] ∷ recover 200 enough ∷ [];
       block = 0;
       says = record {
@@ -554,7 +386,6 @@ signedParkSector =
 formatCut : Row
 formatCut =
     record {
-      format = record { n = 4; l = 2; stores = 4 };
       calls = [];
       block = 0;
       says = record {
@@ -568,71 +399,14 @@ formatCut =
       };
     }
 
-unfoldable pub corners : List Row
-unfolding flipped wraps reachedAlready supersededLater higherBranch roomExactly noRoom refusal1 refusal2 refusal3 refusal4 refusal5 refusal7 lastNumbers refusal8 refusal9 pieceMissing refusal10 recoveryCut recoveredAgain parkLonger parkUnbalanced newestFirst firstRead doneAlready closingRecycled signedParkSector formatCut overwritten blankAt copied signed signedAt parkedAt parkTilted parkLengthened numbered forged writeForged
-corners = flipped ∷ wraps ∷ reachedAlready ∷ supersededLater ∷ higherBranch ∷ roomExactly ∷ noRoom ∷ refusal1 ∷ refusal2 ∷ refusal3 ∷ refusal4 ∷ refusal5 ∷ refusal7 ∷ lastNumbers ∷ refusal8 ∷ refusal9 ∷ pieceMissing ∷ refusal10 ∷ recoveryCut ∷ recoveredAgain ∷ parkLonger ∷ parkUnbalanced ∷ newestFirst ∷ firstRead ∷ doneAlready ∷ closingRecycled ∷ signedParkSector ∷ formatCut ∷ []
+unfoldable pub corners : List Table
+unfolding wraps reachedAlready supersededLater higherBranch roomExactly refusal1 refusal2 refusal3 refusal4 refusal5 refusal8 refusal9 dataFirst refusal10 recoveryCut recoveredAgain newestFirst firstRead doneAlready closingRecycled signedParkSector refusal7 formatCut overwritten blankAt copied signedAt parkedAt numbered signed
+corners =
+    volumeB (wraps ∷ reachedAlready ∷ supersededLater ∷ higherBranch ∷ roomExactly ∷ refusal1 ∷ refusal2 ∷ refusal3 ∷ refusal4 ∷ refusal5 ∷ refusal8 ∷ refusal9 ∷ dataFirst ∷ refusal10 ∷ recoveryCut ∷ recoveredAgain ∷ newestFirst ∷ firstRead ∷ doneAlready ∷ closingRecycled ∷ signedParkSector ∷ [])
+    ∷ volumeA (refusal7 ∷ [])
+    ∷ record { format = record { n = 4; l = 2; stores = 4 }; rows = formatCut ∷ [] }
+    ∷ []
 
-pub corners-hold : map gives corners ≡ map (λ row. row .says) corners
+pub corners-hold : map gives corners ≡ map says corners
 unfolding gives corners
 corners-hold = refl
-
--- One write on a fresh volume, to the first block of every second piece: the branches that its first member lists, and the
--- fold. A row shows the result, and the first and the last map sector of the commit.
-record Seen : Type 0 where
-  result : Result
-  first : List ℕ
-  last : List ℕ
-
-record Wide : Type 0 where
-  format : Formatted
-  touched : ℕ
-  first : ℕ
-  last : ℕ
-  says : Seen
-
-wideGives : Wide → Seen
-unfolding gives
-wideGives w =
-    let a = outcomeOf (w .format) (write 0 (listFrom (λ i. 96 * (i + i + 1)) 0 (w .touched)) 1 enough ∷ []) in
-    record {
-      result = resultOf a;
-      first = liveSector (w .format) (a .memory) (w .first);
-      last = liveSector (w .format) (a .memory) (w .last);
-    }
-
--- 47 pieces, of which 23 are touched: the other 24 are listed.
-listed24 : Wide
-listed24 =
-    record {
-      format = record { n = 120; l = 4512; stores = enough };
-      touched = 23;
-      first = 1;
-      last = 45;
-      says = record {
-        result = record { answer = 0; stores = 46; way = 0; reads = 0; tail = 93; number = 70 };
-        first = 71 ∷ 48 ∷ 0 ∷ 47 ∷ 45 ∷ 43 ∷ 41 ∷ 39 ∷ 37 ∷ 35 ∷ 33 ∷ 31 ∷ 29 ∷ 27 ∷ 25 ∷ 23 ∷ 21 ∷ 19 ∷ 17 ∷ 15 ∷ 13 ∷ 11 ∷ 9 ∷ 7 ∷ 5 ∷ 3 ∷ 1 ∷ [];
-        last = 93 ∷ 70 ∷ 1 ∷ 92 ∷ [];
-      };
-    }
-
--- 49 pieces, of which 24 are touched: 25 would be listed, so all are written.
-folded25 : Wide
-folded25 =
-    record {
-      format = record { n = 124; l = 4704; stores = enough };
-      touched = 24;
-      first = 0;
-      last = 48;
-      says = record {
-        result = record { answer = 0; stores = 73; way = 0; reads = 0; tail = 122; number = 98 };
-        first = 74 ∷ 50 ∷ 0 ∷ [];
-        last = 122 ∷ 98 ∷ 1 ∷ 121 ∷ [];
-      };
-    }
-
-wide : List Wide
-wide = listed24 ∷ folded25 ∷ []
-
-wide-holds : map wideGives wide ≡ map (λ w. w .says) wide
-unfolding wideGives wide listed24 folded25
-wide-holds = refl

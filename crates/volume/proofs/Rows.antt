@@ -1,21 +1,21 @@
 -- Rows of the tables of samples: a volume is formatted, a run of calls is made on it, and the row says what is then to be
 -- seen. All of it is computed from the definitions of the calls and from nothing else.
 use Prim.Native.Nat.{ℕ, zero, suc, _*_, _/_}
-use mathlib.Core.Bool.{false, cond}
-use mathlib.Core.List.{List, [], _∷_}
+use mathlib.Core.Bool.{true, false, cond}
+use mathlib.Core.List.{List, [], _∷_, map}
 use mathlib.Core.Option.{Option, none, some}
 use lib.ListN.{length, replicate}
-use Rattle.types.specs.declared.state.State.{State}
-use Rattle.types.specs.declared.state.Phase.the-variants.{Cut}
-use Rattle.volume.specs.Bounded.{at, allBelow, anyBelow, countBelow, best, all, elem, distinct, same, listFrom, tabled, gathered, updates}
-use Rattle.types.specs.Geometry.{piecesFor, usedBytes}
-use Rattle.volume.specs.Word.{wordsOf, bytesOf, wordSum, startsWith, balanced}
-use Rattle.volume.specs.MapSector.{MapSector, kindOf, encoded, branchesFit, valid, decoded}
-use Rattle.volume.specs.Entry.{complemented, needsFlip, stored, entryFor, restored, isEmpty}
-use Rattle.volume.specs.ParkRecord.{parkRecord, isParkRecord, parkedIn}
+use Rattle.state.specs.declared.State.{State}
+use Rattle.state.specs.declared.Phase.the-variants.{Cut}
+use Rattle.layout.specs.Bounded.{at, allBelow, anyBelow, countBelow, best, all, elem, distinct, same, listFrom, tabled, gathered, updates}
+use Rattle.geometry.specs.Geometry.{piecesFor, usedBytes}
+use Rattle.layout.specs.Word.{wordsOf, bytesOf, wordSum, startsWith, balanced}
+use Rattle.layout.specs.MapSector.{MapSector, mapMark, kindOf, encoded, branchesFit, valid, decoded}
+use Rattle.layout.specs.Entry.{complemented, needsFlip, stored, entryFor, restored, isEmpty}
+use Rattle.layout.specs.ParkRecord.{parkRecord, isParkRecord, parkedIn}
 use Rattle.volume.specs.Tables.{Memory, sectorAt, bitAt, memory, namedBy, usedBy, freeSectors, consistent, pieceEntries, saysPiece, liveValid}
 use Rattle.volume.specs.Refusals.{judged}
-use Rattle.types.specs.Answer.{numberOf, storesOf, wayOf, readsOf}
+use Rattle.answer.specs.Answer.{numberOf, storesOf, wayOf, readsOf}
 use Rattle.volume.specs.Store.{After, applied, storesBelow, performed}
 use Rattle.volume.specs.Format.{formatStores, formatTables, formatAction, imageFits, tablesFit, sizeChecks, formatOf}
 use Rattle.volume.specs.Placing.{firstFree, placedUpTo, placeOf}
@@ -51,8 +51,11 @@ run (call ∷ calls) a =
 -- What the format of a row is lent, and handed: anything, of the right lengths.
 lent : ℕ → ℕ → Memory
 lent n l =
-    memory (replicate (512 * n) 0xAA) (replicate l 7) (replicate (piecesFor l) 7) (replicate (piecesFor l) 7)
-    (replicate (usedBytes n) 255)
+    record {
+      lengths = record { image = 512 * n; map = l; places = piecesFor l; numbers = piecesFor l; used = usedBytes n };
+      image = λ _. replicate 512 0xAA;
+      tables = record { entry = λ _. 7; place = λ _. 7; number = λ _. 7; isUsed = λ _. true };
+    }
 
 anyState : State
 anyState = record { n = 1; l = 2; tail = 3; number = 4; phase = Cut }
@@ -62,12 +65,16 @@ pub record Formatted : Type 0 where
   pub l : ℕ
   pub stores : ℕ
 
--- The volume after a format and a run of calls.
-unfoldable pub outcomeOf : Formatted → List Call → After
-unfolding held run lent anyState
-outcomeOf f calls =
+-- The volume after a format, and after a run of calls on it.
+unfoldable pub formatted : Formatted → After
+unfolding held lent anyState
+formatted f =
     let fresh = formatOf anyState (lent (f .n) (f .l)) (f .l) (f .stores) in
-    run calls (record { outcome = fresh .outcome; memory = held (fresh .memory) })
+    record { outcome = fresh .outcome; memory = held (fresh .memory) }
+
+unfoldable pub outcomeOf : Formatted → List Call → After
+unfolding held run formatted
+outcomeOf f calls = run calls (formatted f)
 
 -- The numbers of the last answer, and of the state.
 pub record Result : Type 0 where
@@ -103,7 +110,6 @@ pub record Report : Type 0 where
   pub block : List ℕ
 
 pub record Row : Type 0 where
-  pub format : Formatted
   pub calls : List Call
   pub block : ℕ
   pub says : Report
@@ -130,23 +136,43 @@ liveSector f m p = let k = m .tables .place p in seen k (decoded (f .n) (f .l) (
 abbrev pub full : ℕ → List ℕ
 full byte = replicate 512 byte
 
-unfoldable pub gives : Row → Report
-unfolding updates gathered allBelow anyBelow countBelow best all elem distinct same listFrom tabled wordsOf bytesOf wordSum startsWith balanced encoded branchesFit valid decoded complemented needsFlip stored entryFor restored parkRecord isParkRecord parkedIn sectorAt bitAt memory namedBy usedBy freeSectors consistent pieceEntries saysPiece liveValid judged applied storesBelow performed formatStores formatTables formatAction imageFits tablesFit sizeChecks formatOf firstFree placedUpTo placeOf touches branchesIn olderKey listing branchesFor planned rank memberPlace changedEntries committedTables member dataStore memberStore commitStores commitAction stateFits blocksFit tablesAgree commitChecks commitOf writeChange dropChange roomFor writeBy dropBy entryReadable readChecks blockOf readJudged readOf parkChecks parkAction parkOf numberIn pieceIn entryIn closingNumber pieceNumber tablesFrom targetWaits targetsRead walkStep walkedFor walkFrom branchCount walkedLog walkComplete walkFinding newestClosing closedUpTo scanPlace signedNumbers scannedLog scanDamaged scanStores scanFinding walkStarts findingFrom recovered imageView recoverOf outcomeOf liveSector freeIn entriesIn
-gives row =
-    let a = outcomeOf (row .format) (row .calls) in
+-- What a row gives on a volume that is formatted already.
+unfoldable pub givesOn : Formatted → After → Row → Report
+unfolding updates gathered allBelow anyBelow countBelow best all elem distinct same listFrom tabled wordsOf bytesOf wordSum startsWith balanced encoded branchesFit valid decoded complemented needsFlip stored entryFor restored parkRecord isParkRecord parkedIn sectorAt bitAt memory namedBy usedBy freeSectors consistent pieceEntries saysPiece liveValid judged applied storesBelow performed formatStores formatTables formatAction imageFits tablesFit sizeChecks formatOf firstFree placedUpTo placeOf touches branchesIn olderKey listing branchesFor planned rank memberPlace changedEntries committedTables member dataStore memberStore commitStores commitAction stateFits blocksFit tablesAgree commitChecks commitOf writeChange dropChange roomFor writeBy dropBy entryReadable readChecks blockOf readJudged readOf parkChecks parkAction parkOf numberIn pieceIn entryIn closingNumber pieceNumber tablesFrom targetWaits targetsRead walkStep walkedFor walkFrom branchCount walkedLog walkComplete walkFinding newestClosing closedUpTo scanPlace signedNumbers scannedLog scanDamaged scanStores scanFinding walkStarts findingFrom recovered imageView recoverOf held run liveSector freeIn entriesIn
+givesOn f fresh row =
+    let a = run (row .calls) fresh in
     let m = a .memory in
     let s = a .outcome .state in
-    let n = row .format .n in
-    let l = row .format .l in
+    let n = f .n in
+    let l = f .l in
     record {
       result = resultOf a;
       free = freeIn m 0 n;
-      live = listFrom (liveSector (row .format) m) 0 (piecesFor l);
+      live = listFrom (liveSector (f) m) 0 (piecesFor l);
       entries = entriesIn m 0 l;
-      sectors = listFrom (λ k. numberIn (decoded n l (m .image k))) 0 n;
+      sectors = listFrom (λ k. let number = numberIn (decoded n l (m .image k)) in cond (startsWith mapMark (m .image k)) number 0) 0 n;
       balance = at (wordsOf (m .image (s .tail))) 1;
       block = readOf s m (row .block) (full 238) .out;
     }
+
+-- Rows of one volume, which is formatted once for all of them.
+pub record Table : Type 0 where
+  pub format : Formatted
+  pub rows : List Row
+
+unfoldable pub gives : Table → List Report
+unfolding givesOn formatted
+gives t = let fresh = formatted (t .format) in map (givesOn (t .format) fresh) (t .rows)
+
+abbrev pub says : Table → List Report
+says t = map (λ row. row .says) (t .rows)
+
+-- The volumes of document 01's samples: A has L 2, N 4; B has L 200, N 12, and so three pieces.
+abbrev pub volumeA : List Row → Table
+volumeA rows = record { format = record { n = 4; l = 2; stores = 1000 }; rows = rows }
+
+abbrev pub volumeB : List Row → Table
+volumeB rows = record { format = record { n = 12; l = 200; stores = 1000 }; rows = rows }
 
 -- The calls, with stores enough or fewer. A write fills each of its blocks with one byte.
 abbrev pub enough : ℕ

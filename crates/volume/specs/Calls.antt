@@ -4,19 +4,19 @@ use mathlib.Core.Bool.{Bool, true, not, _&&_, _||_}
 use mathlib.Core.List.{List, [], _∷_}
 use lib.ListN.{length}
 use lib.Dec.{eqb, ltb}
-use Rattle.types.specs.declared.state.State.{State}
-use Rattle.types.specs.declared.state.Outcome.{Outcome}
-use Rattle.types.specs.declared.answer.Answer.the-variants.{Accepted, Refused}
-use Rattle.types.specs.declared.answer.Refusal.the-variants.{Size, BufferLength, BlockNumbers, WrongPhase, Inconsistent, NoRoom, NumbersUsedUp}
-use Rattle.types.specs.declared.answer.Verdict.{Verdict}
-use Rattle.types.specs.declared.answer.Verdict.the-variants.{Pass, Refuse}
-use Rattle.volume.specs.Bounded.{at, all, allBelow}
-use Rattle.types.specs.Geometry.{within, sectorBytes, piecesFor, geometryFits}
-use Rattle.volume.specs.MapSector.{View, decoded}
-use Rattle.volume.specs.Entry.{isEmpty, sectorOf, stored, entryFor, restored}
-use Rattle.volume.specs.ParkRecord.{parkRecord}
+use Rattle.state.specs.declared.State.{State}
+use Rattle.state.specs.declared.Outcome.{Outcome}
+use Rattle.answer.specs.declared.Answer.the-variants.{Accepted, Refused}
+use Rattle.answer.specs.declared.Refusal.the-variants.{Size, BufferLength, BlockNumbers, WrongPhase, Inconsistent, NoRoom, NumbersUsedUp}
+use Rattle.answer.specs.declared.Verdict.{Verdict}
+use Rattle.answer.specs.declared.Verdict.the-variants.{Pass, Refuse}
+use Rattle.layout.specs.Bounded.{at, all, allBelow}
+use Rattle.geometry.specs.Geometry.{within, sectorBytes, piecesFor, geometryFits}
+use Rattle.layout.specs.MapSector.{View, decoded}
+use Rattle.layout.specs.Entry.{isEmpty, sectorOf, stored, entryFor, restored}
+use Rattle.layout.specs.ParkRecord.{parkRecord}
 use Rattle.volume.specs.Tables.{Memory, sectorAt, freeSectors, consistent, liveValid}
-use Rattle.types.specs.State.{parkedState, cutState, isRunning, isReadable}
+use Rattle.state.specs.State.{parkedState, cutState, isRunning, isReadable}
 use Rattle.volume.specs.Refusals.{Check, judged}
 use Rattle.volume.specs.Store.{After, Action, performed, unlessRefused}
 use Rattle.volume.specs.Format.{tablesFit}

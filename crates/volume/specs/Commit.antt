@@ -5,13 +5,13 @@ use mathlib.Core.List.{List, [], _∷_, _++_}
 use mathlib.Core.Option.{Option, none, some}
 use lib.ListN.{length}
 use lib.Dec.{eqb, ltb}
-use Rattle.types.specs.declared.state.State.{State}
-use Rattle.types.specs.declared.answer.Answer.the-variants.{Accepted}
-use Rattle.volume.specs.Bounded.{at, anyBelow, countBelow, best, elem, isZero, listFrom, tabled, updates, always}
-use Rattle.types.specs.Geometry.{piecesFor, pieceOf}
-use Rattle.volume.specs.MapSector.{MapSector, View, encoded}
+use Rattle.state.specs.declared.State.{State}
+use Rattle.answer.specs.declared.Answer.the-variants.{Accepted}
+use Rattle.layout.specs.Bounded.{at, anyBelow, countBelow, best, elem, isZero, listFrom, tabled, updates, always}
+use Rattle.geometry.specs.Geometry.{piecesFor, pieceOf}
+use Rattle.layout.specs.MapSector.{MapSector, View, encoded}
 use Rattle.volume.specs.Tables.{Tables, namedBy, usedBy, pieceEntries}
-use Rattle.types.specs.State.{committedState, cutState}
+use Rattle.state.specs.State.{committedState, cutState}
 use Rattle.volume.specs.Store.{Store, storesBelow, Action}
 use Rattle.volume.specs.Placing.{Rules, placeOf}
 

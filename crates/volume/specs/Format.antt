@@ -4,15 +4,15 @@ use mathlib.Core.Bool.{Bool, cond, not, _&&_}
 use mathlib.Core.List.{List, [], _∷_, _++_}
 use lib.ListN.{replicate}
 use lib.Dec.{eqb}
-use Rattle.types.specs.declared.state.State.{State}
-use Rattle.types.specs.declared.answer.Answer.the-variants.{Accepted}
-use Rattle.types.specs.declared.answer.Refusal.the-variants.{Size, BufferLength}
-use Rattle.volume.specs.Bounded.{tabled, isZero, always}
-use Rattle.types.specs.Geometry.{sectorBytes, piecesFor, entriesPerPiece, usedBytes, geometryFits}
-use Rattle.volume.specs.MapSector.{MapSector, encoded}
-use Rattle.volume.specs.Entry.{blank}
+use Rattle.state.specs.declared.State.{State}
+use Rattle.answer.specs.declared.Answer.the-variants.{Accepted}
+use Rattle.answer.specs.declared.Refusal.the-variants.{Size, BufferLength}
+use Rattle.layout.specs.Bounded.{tabled, isZero, always}
+use Rattle.geometry.specs.Geometry.{sectorBytes, piecesFor, entriesPerPiece, usedBytes, geometryFits}
+use Rattle.layout.specs.MapSector.{MapSector, encoded}
+use Rattle.layout.specs.Entry.{blank}
 use Rattle.volume.specs.Tables.{Tables, Memory, zeroTables, namedBy, usedBy}
-use Rattle.types.specs.State.{freshState, lostState}
+use Rattle.state.specs.State.{freshState, lostState}
 use Rattle.volume.specs.Refusals.{Check, judged}
 use Rattle.volume.specs.Store.{Store, storesBelow, After, Action, performed, unlessRefused}
 

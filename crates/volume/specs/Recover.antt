@@ -5,17 +5,17 @@ use mathlib.Core.List.{List, [], _∷_, _++_}
 use mathlib.Core.Option.{Option, none, some}
 use lib.ListN.{length}
 use lib.Dec.{eqb, leb, ltb}
-use Rattle.types.specs.declared.state.State.{State}
-use Rattle.types.specs.declared.answer.Answer.{Answer}
-use Rattle.types.specs.declared.answer.Answer.the-variants.{Walked, Scanned, Refused}
-use Rattle.types.specs.declared.answer.Refusal.{Refusal}
-use Rattle.types.specs.declared.answer.Refusal.the-variants.{NoLog, DamagedLog}
-use Rattle.volume.specs.Bounded.{at, allBelow, anyBelow, best, all, distinct, isZero, tabled, updated, gathered}
-use Rattle.types.specs.Geometry.{within, piecesFor, pieceOf, indexOf}
-use Rattle.volume.specs.MapSector.{MapSector, View, decoded}
-use Rattle.volume.specs.ParkRecord.{Parked, parkedIn}
+use Rattle.state.specs.declared.State.{State}
+use Rattle.answer.specs.declared.Answer.{Answer}
+use Rattle.answer.specs.declared.Answer.the-variants.{Walked, Scanned, Refused}
+use Rattle.answer.specs.declared.Refusal.{Refusal}
+use Rattle.answer.specs.declared.Refusal.the-variants.{NoLog, DamagedLog}
+use Rattle.layout.specs.Bounded.{at, allBelow, anyBelow, best, all, distinct, isZero, tabled, updated, gathered}
+use Rattle.geometry.specs.Geometry.{within, piecesFor, pieceOf, indexOf}
+use Rattle.layout.specs.MapSector.{MapSector, View, decoded}
+use Rattle.layout.specs.ParkRecord.{Parked, parkedIn}
 use Rattle.volume.specs.Tables.{Tables, Memory, zeroTables, namedBy, usedBy, consistent}
-use Rattle.types.specs.State.{freshState, lostState}
+use Rattle.state.specs.State.{freshState, lostState}
 use Rattle.volume.specs.Refusals.{judged}
 use Rattle.volume.specs.Store.{Store, storesBelow, After, Action, after, memoryWith, performed, unlessRefused}
 use Rattle.volume.specs.Format.{blankStore, sectorsIn, sizeChecks}

@@ -2,9 +2,9 @@
 -- is the one returned.
 use mathlib.Core.Bool.{Bool, cond}
 use mathlib.Core.List.{List, [], _∷_}
-use Rattle.types.specs.declared.answer.Refusal.{Refusal}
-use Rattle.types.specs.declared.answer.Verdict.{Verdict}
-use Rattle.types.specs.declared.answer.Verdict.the-variants.{Pass, Refuse}
+use Rattle.answer.specs.declared.Refusal.{Refusal}
+use Rattle.answer.specs.declared.Verdict.{Verdict}
+use Rattle.answer.specs.declared.Verdict.the-variants.{Pass, Refuse}
 
 -- One refusal of a call: when it applies, and which it is.
 pub record Check : Type 0 where

@@ -5,10 +5,10 @@ use mathlib.Core.List.{List, []}
 use mathlib.Core.Option.{Option, none, some}
 use lib.ListN.{length, take, drop}
 use lib.Dec.{eqb, leb}
-use Rattle.volume.specs.Bounded.{at, allBelow, countBelow, best, all, elem, distinct, same, listFrom, always, gathered}
-use Rattle.types.specs.Geometry.{within, sectorBytes, piecesFor, entriesPerPiece, usedBytes}
-use Rattle.volume.specs.MapSector.{MapSector, View}
-use Rattle.volume.specs.Entry.{isEmpty, sectorOf}
+use Rattle.layout.specs.Bounded.{at, allBelow, countBelow, best, all, elem, distinct, same, listFrom, always, gathered}
+use Rattle.geometry.specs.Geometry.{within, sectorBytes, piecesFor, entriesPerPiece, usedBytes}
+use Rattle.layout.specs.MapSector.{MapSector, View}
+use Rattle.layout.specs.Entry.{isEmpty, sectorOf}
 
 -- The k-th 512 bytes of a run of bytes: a sector of an image, a block of a write's bytes.
 unfoldable pub sectorAt : List ℕ → ℕ → List ℕ

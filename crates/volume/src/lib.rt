@@ -1,1 +1,1 @@
-// The definitions of the virtual log volume, and what is proved of them: specs/ and proofs/ hold all of it, and there is no code.
+// Definitions alone: the tables and the calls; and the rows that a wrong one runs into. There is no code here.

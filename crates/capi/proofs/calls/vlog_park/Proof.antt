@@ -1,6 +1,6 @@
 -- The definition of park, its outcome in numbers.
 use Rattle.capi.proofs.Numbers.{call-in-numbers}
-use Rattle.types.specs.declared.state.State.{State}
+use Rattle.state.specs.declared.State.{State}
 use Rattle.volume.specs.Tables.{memory}
 use Rattle.volume.specs.Calls.{parkOf}
 use borrow.Author.Needs.{needs}

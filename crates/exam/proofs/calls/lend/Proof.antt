@@ -7,8 +7,8 @@ use Rattle.exam.proofs.calls.lend.Tie as tie
 use Rattle.exam.proofs.calls.blocks_part.Reads as blocks-part-reads
 use Rattle.exam.proofs.calls.bytes_of.Reads as bytes-of-reads
 use Rattle.exam.proofs.calls.bytes_part.Reads as bytes-part-reads
-use Rattle.types.proofs.geometry.Geometry.pieces_for.Reads as pieces-for-reads
-use Rattle.types.proofs.geometry.Geometry.used_bytes.Reads as used-bytes-reads
+use Rattle.geometry.proofs.Geometry.pieces_for.Reads as pieces-for-reads
+use Rattle.geometry.proofs.Geometry.used_bytes.Reads as used-bytes-reads
 
 bytes-of-requires : tie.Need-bytes-of-requires
 bytes-of-requires c κs = search needs

@@ -1,2 +1,0 @@
--- A commit as it is carried out.
-pub mod Ready

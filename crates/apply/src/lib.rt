@@ -1,4 +1,0 @@
-// A planned commit carried out: its stores, and the tables that it leaves.
-pub mod entries;
-pub mod settle;
-pub mod store;

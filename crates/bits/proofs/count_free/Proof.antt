@@ -1,0 +1,71 @@
+-- What is counted at k is the number of free sectors below k.
+use Prim.Native.Nat.{ℕ, _+_, _-_, _≤_}
+use mathlib.Core.Path.{_≡_, _∙_, ap}
+use mathlib.Core.Logic.{⊎-elim}
+use native.Mathlib.Omega.{arith}
+use Rattle.volume.specs.Tables.{bitAt, freeSectors}
+use Rattle.bits.proofs.BitLaws.{free-none, free-le, free-hit, free-miss}
+use Rattle.bits.proofs.count_free.Statement.{statement}
+use Rattle.bits.proofs.count_free.Tie as tie
+
+abbrev Inv-loop : tie.InvT-loop
+Inv-loop used n free₀ k₀ free k = (k ≤ n) × (free ≡ freeSectors k (bitAt used))
+
+abbrev μ-loop : tie.MeasureT-loop
+μ-loop used n free₀ k₀ free k = n - k
+
+loop-holds : tie.Need-loop-holds Inv-loop μ-loop
+loop-holds c = (omega arith, free-none (c .before .args .used .now))
+
+cast-is-set : tie.Need-cast-is-set Inv-loop μ-loop
+cast-is-set c = omega arith
+
+is-set-requires : tie.Need-is-set-requires Inv-loop μ-loop
+is-set-requires c κs =
+    let r = c .before .before .before .pre in
+    omega arith
+
+add-free : tie.Need-add-free Inv-loop μ-loop
+add-free c =
+    let l = c .before .before .before .loop in
+    let b = free-le (l .k) (c .before .before .before .before .before .args .used .now) in
+    let e = l .inv .1 in
+    let t = c .before .before .loop-test .taken in
+    omega arith
+
+add-k : tie.Need-add-k Inv-loop μ-loop
+add-k c = omega arith
+
+loop-less : tie.Need-loop-less Inv-loop μ-loop
+loop-less c = omega arith
+
+loop-again : tie.Need-loop-again Inv-loop μ-loop
+loop-again c =
+    let l = c .before .before .before .loop in
+    let us = c .before .before .before .before .before .args .used .now in (
+      omega arith,
+      ⊎-elim (λ w. w .1 ∙ ap (λ (x : ℕ). x + 1) (l .inv .1) ∙ free-hit (l .k) us (c .before .is-set .result) (c .before .is-set .ensures) (w .0 .taken))
+          (λ w. w .1 ∙ l .inv .1 ∙ free-miss (l .k) us (c .before .is-set .result) (c .before .is-set .ensures) (w .0 .left)) (c .if1 .came),
+    )
+
+returns : tie.Need-returns Inv-loop μ-loop
+returns c =
+    let l = c .before .loop in
+    let i = l .inv .0 in
+    let t = c .loop-test .left in
+    l .inv .1 ∙ ap (λ (x : ℕ). freeSectors x (bitAt (c .before .before .before .args .used .now))) (let e : l .k ≡ c .before .before .before .args .n = omega arith in e)
+
+pub count-free-spec : {M : Type 1} → statement M
+count-free-spec =
+    tie.close
+    (tie.spec
+    Inv-loop
+    μ-loop
+    loop-holds
+    cast-is-set
+    is-set-requires
+    add-free
+    add-k
+    loop-less
+    loop-again
+    returns)

@@ -1,0 +1,78 @@
+-- An empty entry reads as zeros, a flipped one as the bytes with the first complemented, any other as the bytes.
+use mathlib.Core.Path.{sym, ap, _∙_}
+use borrow.Author.Needs.{needs}
+use Rattle.layout.specs.Entry.{complemented}
+use Rattle.blocks.proofs.Blocks.{restored-empty, restored-flipped, restored-plain}
+use Rattle.blocks.proofs.restore_block.Statement.{statement}
+use Rattle.blocks.proofs.restore_block.Tie as tie
+
+slice-aggregate-copy-over : tie.Need-slice-aggregate-copy-over
+slice-aggregate-copy-over c = search needs
+
+copy-over-requires : tie.Need-copy-over-requires
+copy-over-requires c κs = search needs
+
+same-length : tie.Need-same-length
+same-length c = search needs
+
+returns : tie.Need-returns
+returns c =
+    let at-copy-over = c .before .before in
+    let at-if1 = at-copy-over .before .before .before in
+    let at-start = at-if1 .before .before .before in
+    let a = at-start .args in
+    at-copy-over .copy-over .ensures ∙ sym (restored-empty (a .entry) (a .bytes .now) (at-if1 .if1 .taken))
+
+copy-over-requires-2 : tie.Need-copy-over-requires-2
+copy-over-requires-2 c κs = search needs
+
+is-flipped-requires : tie.Need-is-flipped-requires
+is-flipped-requires c κs = search needs
+
+complement-requires : tie.Need-complement-requires
+complement-requires c κs = search needs
+
+same-length-2 : tie.Need-same-length-2
+same-length-2 c = search needs
+
+returns-2 : tie.Need-returns-2
+returns-2 c =
+    let at-complement = c .before .before in
+    let at-if2 = at-complement .before .before in
+    let at-is-flipped = at-if2 .before in
+    let at-copy-over2 = at-is-flipped .before .before .before in
+    let at-if1 = at-copy-over2 .before .before in
+    let at-start = at-if1 .before .before .before in
+    let a = at-start .args in
+    at-complement .complement .ensures
+    ∙ ap complemented (at-copy-over2 .copy-over2 .ensures)
+    ∙ sym (restored-flipped (a .entry) (a .bytes .now) (at-if1 .if1 .left) (sym (at-is-flipped .is-flipped .ensures) ∙ at-if2 .if2 .taken))
+
+same-length-3 : tie.Need-same-length-3
+same-length-3 c = search needs
+
+returns-3 : tie.Need-returns-3
+returns-3 c =
+    let at-is-flipped = c .before in
+    let at-copy-over2 = at-is-flipped .before .before .before in
+    let at-if1 = at-copy-over2 .before .before in
+    let at-start = at-if1 .before .before .before in
+    let a = at-start .args in
+    at-copy-over2 .copy-over2 .ensures
+    ∙ sym (restored-plain (a .entry) (a .bytes .now) (at-if1 .if1 .left) (sym (at-is-flipped .is-flipped .ensures) ∙ c .if2 .left))
+
+pub restore-block-spec : {M : Type 1} → statement M
+restore-block-spec =
+    tie.close
+    (tie.spec
+    slice-aggregate-copy-over
+    copy-over-requires
+    same-length
+    returns
+    copy-over-requires-2
+    is-flipped-requires
+    complement-requires
+    same-length-2
+    returns-2
+    same-length-3
+    returns-3)

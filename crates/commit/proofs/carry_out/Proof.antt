@@ -1,0 +1,166 @@
+-- The stores end in a cut or are whole; the tables follow.
+use Prim.Native.Nat.{_+_}
+use mathlib.Core.Path.{_≡_, refl, sym, _∙_}
+use native.Mathlib.Omega.{arith}
+use lib.ListN.{length}
+use Rattle.laws.proofs.Sizes.{fits}
+use Rattle.power.proofs.Runs.{left-enough}
+use Rattle.commit.proofs.CommitLaws.{carried-cut, carried-whole}
+use borrow.Author.Needs.{needs}
+use Rattle.commit.proofs.carry_out.Statement.{statement}
+use Rattle.commit.proofs.carry_out.Tie as tie
+
+store-requires : tie.Need-store-requires
+store-requires c κs =
+    let a = c .before .before .before .before .before .before .before .before .before .before .before .before .before .args in
+    let r = c .before .before .before .before .before .before .before .before .before .before .before .before .before .pre in
+    let g = r .1 .1 .1 .1 .1 .1 .1 .0 in
+    let m = r .1 .1 .1 .1 .1 .1 .1 .1 .0 in
+    let all = g .taken-all in
+    let num = g .numbers in
+    let most = fits (a .s .n) (a .s .l) (r .0) .most in (
+      r .1 .0,
+      (
+        record {
+          whole = r .1 .1 .0;
+          enough = g .enough;
+          inside = g .inside;
+          below = g .below;
+          taken-all = omega arith;
+          room = r .1 .1 .1 .1 .1 .1 .1 .1 .1 .1 .0;
+          numbers = omega arith;
+          most = omega arith;
+          flags = g .flags;
+          counted = m;
+        },
+        r .1 .1 .1 .1 .1 .1 .1 .1 .1 .1 .1,
+      ),
+    )
+
+enum-told : tie.Need-enum-told
+enum-told c = search needs
+
+cut-requires : tie.Need-cut-requires
+cut-requires c κs = search needs
+
+enum-known-power : tie.Need-enum-known-power
+enum-known-power c = search needs
+
+settle-requires : tie.Need-settle-requires
+settle-requires c κs =
+    let a = c .before .before .before .before .before .before .before .before .before .before .before .before .before .before .before .before .before .before .before .before .before .before .before .args in
+    let r = c .before .before .before .before .before .before .before .before .before .before .before .before .before .before .before .before .before .before .before .before .before .before .before .pre in
+    let g = r .1 .1 .1 .1 .1 .1 .1 .0 in
+    let m = r .1 .1 .1 .1 .1 .1 .1 .1 .0 in
+    let all = g .taken-all in
+    (r .0, (r .1 .1 .0, (r .1 .1 .1 .0, (r .1 .1 .1 .1 .0, (r .1 .1 .1 .1 .1 .0, (r .1 .1 .1 .1 .1 .1 .0, g))))))
+
+sub-tail : tie.Need-sub-tail
+sub-tail c =
+    let a = c .before .before .before .before .before .before .before .before .before .before .before .before .before .before .before .before .before .before .before .before .before .before .before .before .before .before .before .before .before .before .before .before .args in
+    let r = c .before .before .before .before .before .before .before .before .before .before .before .before .before .before .before .before .before .before .before .before .before .before .before .before .before .before .before .before .before .before .before .before .pre in
+    let g = r .1 .1 .1 .1 .1 .1 .1 .0 in
+    let m = r .1 .1 .1 .1 .1 .1 .1 .1 .0 in
+    let all = g .taken-all in
+    let one = r .1 .1 .1 .1 .1 .1 .1 .1 .1 .0 in
+    omega arith
+
+mul-tail : tie.Need-mul-tail
+mul-tail c =
+    let a = c .before .before .before .before .before .before .before .before .before .before .before .before .before .before .before .before .before .before .before .before .before .before .before .before .before .before .before .before .before .before .before .before .args in
+    let r = c .before .before .before .before .before .before .before .before .before .before .before .before .before .before .before .before .before .before .before .before .before .before .before .before .before .before .before .before .before .before .before .before .pre in
+    let g = r .1 .1 .1 .1 .1 .1 .1 .0 in
+    let m = r .1 .1 .1 .1 .1 .1 .1 .1 .0 in
+    let all = g .taken-all in
+    let fit = c .before .before .before .before .before .before .before .before .before .before .before .before .before .before .before .before .before .before .before .before .before .before .before .before .before .before .before .before .before .before .before .before .good in
+    let one = r .1 .1 .1 .1 .1 .1 .1 .1 .1 .0 in
+    omega arith
+
+shared-slice-read-tail : tie.Need-shared-slice-read-tail
+shared-slice-read-tail c =
+    let a = c .before .before .before .before .before .before .before .before .before .before .before .before .before .before .before .before .before .before .before .before .before .before .before .before .before .before .before .before .before .before .before .before .before .args in
+    let r = c .before .before .before .before .before .before .before .before .before .before .before .before .before .before .before .before .before .before .before .before .before .before .before .before .before .before .before .before .before .before .before .before .before .pre in
+    let g = r .1 .1 .1 .1 .1 .1 .1 .0 in
+    let m = r .1 .1 .1 .1 .1 .1 .1 .1 .0 in
+    let all = g .taken-all in
+    let one = r .1 .1 .1 .1 .1 .1 .1 .1 .1 .0 in
+    omega arith
+
+add-number : tie.Need-add-number
+add-number c =
+    let a = c .before .before .before .before .before .before .before .before .before .before .before .before .before .before .before .before .before .before .before .before .before .before .before .before .before .before .before .before .before .before .before .before .before .before .args in
+    let r = c .before .before .before .before .before .before .before .before .before .before .before .before .before .before .before .before .before .before .before .before .before .before .before .before .before .before .before .before .before .before .before .before .before .before .pre in
+    let g = r .1 .1 .1 .1 .1 .1 .1 .0 in
+    let m = r .1 .1 .1 .1 .1 .1 .1 .1 .0 in
+    let all = g .taken-all in
+    let num = g .numbers in
+    omega arith
+
+sub-t40 : tie.Need-sub-t40
+sub-t40 c =
+    let h = left-enough _ _ _ (sym (c .before .before .before .before .before .before .before .before .before .before .before .before .before .before .before .before .power .given .1) ∙ c .before .before .before .before .before .before .before .before .before .before .before .before .before .before .before .before .before .before .before .before .store .ensures .0) in
+    omega arith
+
+committed-requires : tie.Need-committed-requires
+committed-requires c κs = search needs
+
+same-length : tie.Need-same-length
+same-length c = search needs
+
+same-length-2 : tie.Need-same-length-2
+same-length-2 c = search needs
+
+returns : tie.Need-returns
+returns c =
+    let a = c .before .before .before .before .before .before .before .before .before .before .before .before .before .before .before .before .before .before .before .args in
+    carried-cut (a .s) (a .allowance) (a .image .now) (a .map .now) (a .places .now) (a .numbers .now) (a .used .now) _ (a .blocks .now) (a .bytes .now) (a .news .now) (a .taken .now) (a .branches .now) (a .written .now) (a .count) (a .members) (c .before .before .before .before .before .store .kept .1 .0) (c .before .before .before .before .before .store .ensures .1) (c .cut .result) (c .cut .ensures) (sym (c .before .enum-told .given .1) ∙ c .before .before .before .before .before .store .ensures .0)
+
+same-length-3 : tie.Need-same-length-3
+same-length-3 c = search needs
+
+same-length-4 : tie.Need-same-length-4
+same-length-4 c = search needs
+
+same-length-5 : tie.Need-same-length-5
+same-length-5 c = search needs
+
+same-length-6 : tie.Need-same-length-6
+same-length-6 c = search needs
+
+same-length-7 : tie.Need-same-length-7
+same-length-7 c = search needs
+
+returns-2 : tie.Need-returns-2
+returns-2 c =
+    let a = c .before .before .before .before .before .before .before .before .before .before .before .before .before .before .before .before .before .before .before .before .before .before .before .before .before .before .before .before .before .before .before .before .before .before .before .args in
+    let r = c .before .before .before .before .before .before .before .before .before .before .before .before .before .before .before .before .before .before .before .before .before .before .before .before .before .before .before .before .before .before .before .before .before .before .before .pre in
+    let g = r .1 .1 .1 .1 .1 .1 .1 .0 in
+    let m = r .1 .1 .1 .1 .1 .1 .1 .1 .0 in
+    let all = g .taken-all in
+    let z = c .before .before .before .before .before .before .before .before .before .before .before .settle in
+    carried-whole (a .s) (a .allowance) (a .image .now) (a .map .now) (a .places .now) (a .numbers .now) (a .used .now) _ (a .blocks .now) (a .bytes .now) (a .news .now) (a .taken .now) (a .branches .now) (a .written .now) (a .count) (a .members) (c .before .before .before .before .before .before .before .before .before .before .before .before .before .before .before .before .before .before .before .before .before .store .kept .1 .0) (c .before .before .before .before .before .before .before .before .before .before .before .before .before .before .before .before .before .before .before .before .before .store .ensures .1) _ _ _ _ (c .committed .result) _ (length (a .taken .now)) _ (z .kept .1 .0) (z .kept .1 .1 .0) (z .kept .1 .1 .1 .0) (z .kept .1 .1 .1 .1 .0) refl (let e : length (a .taken .now) ≡ a .count + a .members = omega arith in e) (r .1 .1 .1 .1 .1 .1 .1 .1 .1 .0) (c .committed .ensures) (sym (c .before .before .before .before .before .before .before .before .before .before .before .before .before .before .before .before .before .power .given .1) ∙ c .before .before .before .before .before .before .before .before .before .before .before .before .before .before .before .before .before .before .before .before .before .store .ensures .0) (z .ensures)
+
+pub carry-out-spec : {M : Type 1} → statement M
+carry-out-spec =
+    tie.close
+    (tie.spec
+    store-requires
+    enum-told
+    cut-requires
+    enum-known-power
+    settle-requires
+    sub-tail
+    mul-tail
+    shared-slice-read-tail
+    add-number
+    sub-t40
+    committed-requires
+    same-length
+    same-length-2
+    returns
+    same-length-3
+    same-length-4
+    same-length-5
+    same-length-6
+    same-length-7
+    returns-2)

@@ -1,0 +1,210 @@
+-- What the checks and the plan give is what storing and settling ask for.
+use Prim.Native.Nat.{_+_}
+use mathlib.Core.Path.{refl, sym, _∙_, ap}
+use native.Mathlib.Omega.{arith}
+use lib.ListN.{take}
+use lib.Seq.{length-take-le}
+use Rattle.volume.specs.Tables.{memory}
+use Rattle.volume.specs.Store.{Action, performed}
+use Rattle.verdict.proofs.CommitChecks.{passed}
+use Rattle.commit.proofs.CommitPlan.{few-data, some-members, total-few, ts-word, ts-enough, settling, members-counted, commit-action}
+use borrow.Author.Needs.{needs}
+use Rattle.commit.proofs.commit.Statement.{statement}
+use Rattle.commit.proofs.commit.Tie as tie
+use Rattle.entries.proofs.entries_for.Reads as entries-for-reads
+use Rattle.commit.proofs.carry_out.Reads as carry-out-reads
+
+slice-aggregate-plan : tie.Need-slice-aggregate-plan
+slice-aggregate-plan c = search needs
+
+slice-aggregate-plan-2 : tie.Need-slice-aggregate-plan-2
+slice-aggregate-plan-2 c = search needs
+
+slice-aggregate-plan-3 : tie.Need-slice-aggregate-plan-3
+slice-aggregate-plan-3 c = search needs
+
+plan-requires : tie.Need-plan-requires
+plan-requires c κs =
+    let a = c .before .before .before .before .before .before .before .before .before .before .before .before .before .before .args in
+    let p = passed (a .s) (a .image .now) (a .map .now) (a .places .now) (a .numbers .now) (a .used .now) (a .head) (a .blocks .now) (a .count) (c .before .before .before .before .before .before .before .before .before .before .before .before .before .before .pre .0) in
+    let few = few-data (a .s) (a .image .now) (a .map .now) (a .places .now) (a .numbers .now) (a .used .now) (a .head) (a .blocks .now) (a .bytes .now) (a .count) p (c .before .before .before .before .before .before .before .before .before .before .before .before .before .before .pre .1 .0) in
+    let high = p .high in
+    (p .range, (p .image, (p .places, (p .numbers, (p .used, (p .head-below, (p .few, (omega arith, (p .inside, (p .live, (refl, (refl, refl))))))))))))
+
+add-total : tie.Need-add-total
+add-total c =
+    let a = c .before .before .before .before .before .before .before .before .before .before .before .before .before .before .before .before .before .before .args in
+    let p = passed (a .s) (a .image .now) (a .map .now) (a .places .now) (a .numbers .now) (a .used .now) (a .head) (a .blocks .now) (a .count) (c .before .before .before .before .before .before .before .before .before .before .before .before .before .before .before .before .before .before .pre .0) in
+    let tk = c .before .before .before .plan .last .1 .1 .1 .1 .1 .1 .1 .1 .1 .1 .0 in
+    let bs = c .before .before .before .plan .last .1 .1 .1 .1 .1 .1 .1 .1 .1 .0 in
+    let wr = c .before .before .before .plan .last .1 .1 .1 .1 .1 .1 .1 .1 .0 in
+    let g = c .before .before .before .plan .ensures in
+    let m = c .before .before .before .plan .result .members in
+    let room = c .before .before .before .plan .kept .1 .1 .1 .1 .1 .1 .1 .1 .1 .1 .0 in
+    let t = total-few (a .s) (a .image .now) (a .map .now) (a .places .now) (a .numbers .now) (a .used .now) (a .head) (a .blocks .now) (a .bytes .now) (a .count) p (c .before .before .before .before .before .before .before .before .before .before .before .before .before .before .before .before .before .before .pre .1 .0) (c .before .before .before .plan .result .branches) m bs wr tk (take (a .count + m) tk) g refl in
+    omega arith
+
+cast-total : tie.Need-cast-total
+cast-total c = search needs
+
+array-share-prefix-taken : tie.Need-array-share-prefix-taken
+array-share-prefix-taken c =
+    let a = c .before .before .before .before .before .before .before .before .before .before .before .before .before .before .before .before .before .before .args in
+    let p = passed (a .s) (a .image .now) (a .map .now) (a .places .now) (a .numbers .now) (a .used .now) (a .head) (a .blocks .now) (a .count) (c .before .before .before .before .before .before .before .before .before .before .before .before .before .before .before .before .before .before .pre .0) in
+    let tk = c .before .before .before .plan .last .1 .1 .1 .1 .1 .1 .1 .1 .1 .1 .0 in
+    let bs = c .before .before .before .plan .last .1 .1 .1 .1 .1 .1 .1 .1 .1 .0 in
+    let wr = c .before .before .before .plan .last .1 .1 .1 .1 .1 .1 .1 .1 .0 in
+    let g = c .before .before .before .plan .ensures in
+    let m = c .before .before .before .plan .result .members in
+    let room = c .before .before .before .plan .kept .1 .1 .1 .1 .1 .1 .1 .1 .1 .1 .0 in
+    let t = total-few (a .s) (a .image .now) (a .map .now) (a .places .now) (a .numbers .now) (a .used .now) (a .head) (a .blocks .now) (a .bytes .now) (a .count) p (c .before .before .before .before .before .before .before .before .before .before .before .before .before .before .before .before .before .before .pre .1 .0) (c .before .before .before .plan .result .branches) m bs wr tk (take (a .count + m) tk) g refl in
+    omega arith
+
+slice-aggregate-entries-for : tie.Need-slice-aggregate-entries-for
+slice-aggregate-entries-for c =
+    let a = c .before .before .before .before .before .before .before .before .before .before .before .before .before .before .before .before .before .before .before .args in
+    let p = passed (a .s) (a .image .now) (a .map .now) (a .places .now) (a .numbers .now) (a .used .now) (a .head) (a .blocks .now) (a .count) (c .before .before .before .before .before .before .before .before .before .before .before .before .before .before .before .before .before .before .before .pre .0) in
+    let tk = c .before .before .before .before .plan .last .1 .1 .1 .1 .1 .1 .1 .1 .1 .1 .0 in
+    let bs = c .before .before .before .before .plan .last .1 .1 .1 .1 .1 .1 .1 .1 .1 .0 in
+    let wr = c .before .before .before .before .plan .last .1 .1 .1 .1 .1 .1 .1 .1 .0 in
+    let g = c .before .before .before .before .plan .ensures in
+    let m = c .before .before .before .before .plan .result .members in
+    let room = c .before .before .before .before .plan .kept .1 .1 .1 .1 .1 .1 .1 .1 .1 .1 .0 in
+    let t = total-few (a .s) (a .image .now) (a .map .now) (a .places .now) (a .numbers .now) (a .used .now) (a .head) (a .blocks .now) (a .bytes .now) (a .count) p (c .before .before .before .before .before .before .before .before .before .before .before .before .before .before .before .before .before .before .before .pre .1 .0) (c .before .before .before .before .plan .result .branches) m bs wr tk (take (a .count + m) tk) g refl in
+    sym (length-take-le (a .count + m) tk (omega arith))
+
+slice-aggregate-entries-for-2 : tie.Need-slice-aggregate-entries-for-2
+slice-aggregate-entries-for-2 c = search needs
+
+entries-for-requires : tie.Need-entries-for-requires
+entries-for-requires c κs =
+    let a = c .before .before .before .before .before .before .before .before .before .before .before .before .before .before .before .before .before .before .before .before .args in
+    let p = passed (a .s) (a .image .now) (a .map .now) (a .places .now) (a .numbers .now) (a .used .now) (a .head) (a .blocks .now) (a .count) (c .before .before .before .before .before .before .before .before .before .before .before .before .before .before .before .before .before .before .before .before .pre .0) in
+    let tk = c .before .before .before .before .before .plan .last .1 .1 .1 .1 .1 .1 .1 .1 .1 .1 .0 in
+    let bs = c .before .before .before .before .before .plan .last .1 .1 .1 .1 .1 .1 .1 .1 .1 .0 in
+    let wr = c .before .before .before .before .before .plan .last .1 .1 .1 .1 .1 .1 .1 .1 .0 in
+    let g = c .before .before .before .before .before .plan .ensures in
+    let m = c .before .before .before .before .before .plan .result .members in
+    let room = c .before .before .before .before .before .plan .kept .1 .1 .1 .1 .1 .1 .1 .1 .1 .1 .0 in
+    let few = few-data (a .s) (a .image .now) (a .map .now) (a .places .now) (a .numbers .now) (a .used .now) (a .head) (a .blocks .now) (a .bytes .now) (a .count) p (c .before .before .before .before .before .before .before .before .before .before .before .before .before .before .before .before .before .before .before .before .pre .1 .0) in
+    let high = p .high in
+    (c .before .before .before .before .before .before .before .before .before .before .before .before .before .before .before .before .before .before .before .before .pre .1 .1, (ts-enough (a .s) (a .image .now) (a .map .now) (a .places .now) (a .numbers .now) (a .used .now) (a .head) (a .blocks .now) (a .bytes .now) (a .count) p (c .before .before .before .before .before .before .before .before .before .before .before .before .before .before .before .before .before .before .before .before .pre .1 .0) (c .before .before .before .before .before .plan .result .branches) m bs wr tk (take (a .count + m) tk) g refl, (omega arith, ts-word (a .s) (a .image .now) (a .map .now) (a .places .now) (a .numbers .now) (a .used .now) (a .head) (a .blocks .now) (a .bytes .now) (a .count) p (c .before .before .before .before .before .before .before .before .before .before .before .before .before .before .before .before .before .before .before .before .pre .1 .0) (c .before .before .before .before .before .plan .result .branches) m bs wr tk (take (a .count + m) tk) g refl)))
+
+slice-aggregate-carry-out : tie.Need-slice-aggregate-carry-out
+slice-aggregate-carry-out c = search needs
+
+array-share-prefix-taken-2 : tie.Need-array-share-prefix-taken-2
+array-share-prefix-taken-2 c =
+    let a = c .before .before .before .before .before .before .before .before .before .before .before .before .before .before .before .before .before .before .before .before .before .before .before .before .before .before .before .before .args in
+    let p = passed (a .s) (a .image .now) (a .map .now) (a .places .now) (a .numbers .now) (a .used .now) (a .head) (a .blocks .now) (a .count) (c .before .before .before .before .before .before .before .before .before .before .before .before .before .before .before .before .before .before .before .before .before .before .before .before .before .before .before .before .pre .0) in
+    let tk = c .before .before .before .before .before .before .before .before .before .before .before .before .before .plan .last .1 .1 .1 .1 .1 .1 .1 .1 .1 .1 .0 in
+    let bs = c .before .before .before .before .before .before .before .before .before .before .before .before .before .plan .last .1 .1 .1 .1 .1 .1 .1 .1 .1 .0 in
+    let wr = c .before .before .before .before .before .before .before .before .before .before .before .before .before .plan .last .1 .1 .1 .1 .1 .1 .1 .1 .0 in
+    let g = c .before .before .before .before .before .before .before .before .before .before .before .before .before .plan .ensures in
+    let m = c .before .before .before .before .before .before .before .before .before .before .before .before .before .plan .result .members in
+    let room = c .before .before .before .before .before .before .before .before .before .before .before .before .before .plan .kept .1 .1 .1 .1 .1 .1 .1 .1 .1 .1 .0 in
+    let t = total-few (a .s) (a .image .now) (a .map .now) (a .places .now) (a .numbers .now) (a .used .now) (a .head) (a .blocks .now) (a .bytes .now) (a .count) p (c .before .before .before .before .before .before .before .before .before .before .before .before .before .before .before .before .before .before .before .before .before .before .before .before .before .before .before .before .pre .1 .0) (c .before .before .before .before .before .before .before .before .before .before .before .before .before .plan .result .branches) m bs wr tk (take (a .count + m) tk) g refl in
+    omega arith
+
+slice-aggregate-carry-out-2 : tie.Need-slice-aggregate-carry-out-2
+slice-aggregate-carry-out-2 c =
+    let a = c .before .before .before .before .before .before .before .before .before .before .before .before .before .before .before .before .before .before .before .before .before .before .before .before .before .before .before .before .before .args in
+    let p = passed (a .s) (a .image .now) (a .map .now) (a .places .now) (a .numbers .now) (a .used .now) (a .head) (a .blocks .now) (a .count) (c .before .before .before .before .before .before .before .before .before .before .before .before .before .before .before .before .before .before .before .before .before .before .before .before .before .before .before .before .before .pre .0) in
+    let tk = c .before .before .before .before .before .before .before .before .before .before .before .before .before .before .plan .last .1 .1 .1 .1 .1 .1 .1 .1 .1 .1 .0 in
+    let bs = c .before .before .before .before .before .before .before .before .before .before .before .before .before .before .plan .last .1 .1 .1 .1 .1 .1 .1 .1 .1 .0 in
+    let wr = c .before .before .before .before .before .before .before .before .before .before .before .before .before .before .plan .last .1 .1 .1 .1 .1 .1 .1 .1 .0 in
+    let g = c .before .before .before .before .before .before .before .before .before .before .before .before .before .before .plan .ensures in
+    let m = c .before .before .before .before .before .before .before .before .before .before .before .before .before .before .plan .result .members in
+    let room = c .before .before .before .before .before .before .before .before .before .before .before .before .before .before .plan .kept .1 .1 .1 .1 .1 .1 .1 .1 .1 .1 .0 in
+    let t = total-few (a .s) (a .image .now) (a .map .now) (a .places .now) (a .numbers .now) (a .used .now) (a .head) (a .blocks .now) (a .bytes .now) (a .count) p (c .before .before .before .before .before .before .before .before .before .before .before .before .before .before .before .before .before .before .before .before .before .before .before .before .before .before .before .before .before .pre .1 .0) (c .before .before .before .before .before .before .before .before .before .before .before .before .before .before .plan .result .branches) m bs wr tk (take (a .count + m) tk) g refl in
+    sym (length-take-le (a .count + m) tk (omega arith))
+
+array-share-prefix-branches : tie.Need-array-share-prefix-branches
+array-share-prefix-branches c = search needs
+
+slice-aggregate-carry-out-3 : tie.Need-slice-aggregate-carry-out-3
+slice-aggregate-carry-out-3 c =
+    let a = c .before .before .before .before .before .before .before .before .before .before .before .before .before .before .before .before .before .before .before .before .before .before .before .before .before .before .before .before .before .before .args in
+    let p = passed (a .s) (a .image .now) (a .map .now) (a .places .now) (a .numbers .now) (a .used .now) (a .head) (a .blocks .now) (a .count) (c .before .before .before .before .before .before .before .before .before .before .before .before .before .before .before .before .before .before .before .before .before .before .before .before .before .before .before .before .before .before .pre .0) in
+    let tk = c .before .before .before .before .before .before .before .before .before .before .before .before .before .before .before .plan .last .1 .1 .1 .1 .1 .1 .1 .1 .1 .1 .0 in
+    let bs = c .before .before .before .before .before .before .before .before .before .before .before .before .before .before .before .plan .last .1 .1 .1 .1 .1 .1 .1 .1 .1 .0 in
+    let wr = c .before .before .before .before .before .before .before .before .before .before .before .before .before .before .before .plan .last .1 .1 .1 .1 .1 .1 .1 .1 .0 in
+    let g = c .before .before .before .before .before .before .before .before .before .before .before .before .before .before .before .plan .ensures in
+    let m = c .before .before .before .before .before .before .before .before .before .before .before .before .before .before .before .plan .result .members in
+    let room = c .before .before .before .before .before .before .before .before .before .before .before .before .before .before .before .plan .kept .1 .1 .1 .1 .1 .1 .1 .1 .1 .1 .0 in
+    let few = g .few in
+    let size = c .before .before .before .before .before .before .before .before .before .before .before .before .before .before .before .plan .kept .1 .1 .1 .1 .1 .1 .1 .1 .1 .0 in
+    sym (length-take-le (c .before .before .before .before .before .before .before .before .before .before .before .before .before .before .before .plan .result .branches) bs (omega arith))
+
+slice-aggregate-carry-out-4 : tie.Need-slice-aggregate-carry-out-4
+slice-aggregate-carry-out-4 c = search needs
+
+carry-out-requires : tie.Need-carry-out-requires
+carry-out-requires c κs =
+    let a = c .before .before .before .before .before .before .before .before .before .before .before .before .before .before .before .before .before .before .before .before .before .before .before .before .before .before .before .before .before .before .before .args in
+    let p = passed (a .s) (a .image .now) (a .map .now) (a .places .now) (a .numbers .now) (a .used .now) (a .head) (a .blocks .now) (a .count) (c .before .before .before .before .before .before .before .before .before .before .before .before .before .before .before .before .before .before .before .before .before .before .before .before .before .before .before .before .before .before .before .pre .0) in
+    let tk = c .before .before .before .before .before .before .before .before .before .before .before .before .before .before .before .before .plan .last .1 .1 .1 .1 .1 .1 .1 .1 .1 .1 .0 in
+    let bs = c .before .before .before .before .before .before .before .before .before .before .before .before .before .before .before .before .plan .last .1 .1 .1 .1 .1 .1 .1 .1 .1 .0 in
+    let wr = c .before .before .before .before .before .before .before .before .before .before .before .before .before .before .before .before .plan .last .1 .1 .1 .1 .1 .1 .1 .1 .0 in
+    let g = c .before .before .before .before .before .before .before .before .before .before .before .before .before .before .before .before .plan .ensures in
+    let m = c .before .before .before .before .before .before .before .before .before .before .before .before .before .before .before .before .plan .result .members in
+    let room = c .before .before .before .before .before .before .before .before .before .before .before .before .before .before .before .before .plan .kept .1 .1 .1 .1 .1 .1 .1 .1 .1 .1 .0 in
+    let few = g .few in
+    let size = c .before .before .before .before .before .before .before .before .before .before .before .before .before .before .before .before .plan .kept .1 .1 .1 .1 .1 .1 .1 .1 .1 .0 in
+    let cut = length-take-le (c .before .before .before .before .before .before .before .before .before .before .before .before .before .before .before .before .plan .result .branches) bs (omega arith) in
+    (p .range, (p .image, (p .map, (p .places, (p .numbers, (p .used, (p .sound-tables, (settling (a .s) (a .image .now) (a .map .now) (a .places .now) (a .numbers .now) (a .used .now) (a .head) (a .blocks .now) (a .bytes .now) (a .count) p (c .before .before .before .before .before .before .before .before .before .before .before .before .before .before .before .before .before .before .before .before .before .before .before .before .before .before .before .before .before .before .before .pre .1 .0) (c .before .before .before .before .before .before .before .before .before .before .before .before .before .before .before .before .plan .result .branches) m bs wr tk (take (a .count + m) tk) g refl (c .before .before .before .before .before .before .before .before .before .before .entries-for .last .1 .1 .1 .0) (c .before .before .before .before .before .before .before .before .before .before .entries-for .ensures) (c .before .before .before .before .before .before .before .before .before .before .before .before .before .before .before .before .plan .kept .1 .1 .1 .1 .1 .1 .1 .1 .0), (members-counted (a .s) (a .image .now) (a .map .now) (a .places .now) (a .numbers .now) (a .used .now) (a .head) (a .blocks .now) (a .bytes .now) (a .count) p (c .before .before .before .before .before .before .before .before .before .before .before .before .before .before .before .before .before .before .before .before .before .before .before .before .before .before .before .before .before .before .before .pre .1 .0) (c .before .before .before .before .before .before .before .before .before .before .before .before .before .before .before .before .plan .result .branches) m bs wr tk (take (a .count + m) tk) g refl (c .before .before .before .before .before .before .before .before .before .before .entries-for .last .1 .1 .1 .0) (c .before .before .before .before .before .before .before .before .before .before .entries-for .ensures), (some-members (a .s) (a .image .now) (a .map .now) (a .places .now) (a .numbers .now) (a .used .now) (a .head) (a .blocks .now) (a .bytes .now) (a .count) p (c .before .before .before .before .before .before .before .before .before .before .before .before .before .before .before .before .before .before .before .before .before .before .before .before .before .before .before .before .before .before .before .pre .1 .0) (c .before .before .before .before .before .before .before .before .before .before .before .before .before .before .before .before .plan .result .branches) m bs wr tk (take (a .count + m) tk) g refl, (omega arith, c .before .before .before .before .before .before .before .before .before .before .before .before .before .before .before .before .before .before .before .before .before .before .before .before .before .before .before .before .before .before .before .pre .1 .1)))))))))))
+
+same-length : tie.Need-same-length
+same-length c = search needs
+
+same-length-2 : tie.Need-same-length-2
+same-length-2 c = search needs
+
+same-length-3 : tie.Need-same-length-3
+same-length-3 c = search needs
+
+same-length-4 : tie.Need-same-length-4
+same-length-4 c = search needs
+
+same-length-5 : tie.Need-same-length-5
+same-length-5 c = search needs
+
+returns : tie.Need-returns
+returns c =
+    let a = c .before .before .before .before .before .before .before .before .before .before .before .before .before .before .before .before .before .before .before .before .before .before .before .before .before .before .before .before .before .before .before .before .before .before .before .before .before .before .before .before .before .before .args in
+    let p = passed (a .s) (a .image .now) (a .map .now) (a .places .now) (a .numbers .now) (a .used .now) (a .head) (a .blocks .now) (a .count) (c .before .before .before .before .before .before .before .before .before .before .before .before .before .before .before .before .before .before .before .before .before .before .before .before .before .before .before .before .before .before .before .before .before .before .before .before .before .before .before .before .before .before .pre .0) in
+    let tk = c .before .before .before .before .before .before .before .before .before .before .before .before .before .before .before .before .before .before .before .before .before .before .before .before .before .before .before .plan .last .1 .1 .1 .1 .1 .1 .1 .1 .1 .1 .0 in
+    let bs = c .before .before .before .before .before .before .before .before .before .before .before .before .before .before .before .before .before .before .before .before .before .before .before .before .before .before .before .plan .last .1 .1 .1 .1 .1 .1 .1 .1 .1 .0 in
+    let wr = c .before .before .before .before .before .before .before .before .before .before .before .before .before .before .before .before .before .before .before .before .before .before .before .before .before .before .before .plan .last .1 .1 .1 .1 .1 .1 .1 .1 .0 in
+    let g = c .before .before .before .before .before .before .before .before .before .before .before .before .before .before .before .before .before .before .before .before .before .before .before .before .before .before .before .plan .ensures in
+    let m = c .before .before .before .before .before .before .before .before .before .before .before .before .before .before .before .before .before .before .before .before .before .before .before .before .before .before .before .plan .result .members in
+    let room = c .before .before .before .before .before .before .before .before .before .before .before .before .before .before .before .before .before .before .before .before .before .before .before .before .before .before .before .plan .kept .1 .1 .1 .1 .1 .1 .1 .1 .1 .1 .0 in
+    c .before .before .before .before .before .before .before .before .before .before .carry-out .ensures ∙ ap (λ (x : Action). performed (a .allowance) x (memory (a .image .now) (a .map .now) (a .places .now) (a .numbers .now) (a .used .now))) (commit-action (a .s) (a .image .now) (a .map .now) (a .places .now) (a .numbers .now) (a .used .now) (a .head) (a .blocks .now) (a .bytes .now) (a .count) p (c .before .before .before .before .before .before .before .before .before .before .before .before .before .before .before .before .before .before .before .before .before .before .before .before .before .before .before .before .before .before .before .before .before .before .before .before .before .before .before .before .before .before .pre .1 .0) (c .before .before .before .before .before .before .before .before .before .before .before .before .before .before .before .before .before .before .before .before .before .before .before .before .before .before .before .plan .result .branches) m bs wr tk (take (a .count + m) tk) g refl (c .before .before .before .before .before .before .before .before .before .before .before .before .before .before .before .before .before .before .before .before .before .entries-for .last .1 .1 .1 .0) (c .before .before .before .before .before .before .before .before .before .before .before .before .before .before .before .before .before .before .before .before .before .entries-for .ensures))
+
+pub commit-spec : {M : Type 1} → statement M
+commit-spec =
+    tie.close
+    (tie.spec
+    slice-aggregate-plan
+    slice-aggregate-plan-2
+    slice-aggregate-plan-3
+    plan-requires
+    add-total
+    cast-total
+    array-share-prefix-taken
+    slice-aggregate-entries-for
+    slice-aggregate-entries-for-2
+    entries-for-requires
+    slice-aggregate-carry-out
+    array-share-prefix-taken-2
+    slice-aggregate-carry-out-2
+    array-share-prefix-branches
+    slice-aggregate-carry-out-3
+    slice-aggregate-carry-out-4
+    carry-out-requires
+    same-length
+    same-length-2
+    same-length-3
+    same-length-4
+    same-length-5
+    returns)

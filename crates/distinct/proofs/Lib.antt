@@ -1,0 +1,3 @@
+-- Laws that this crate's proofs cite, and its callers' may.
+pub mod Exchange
+pub mod Gathering

@@ -1,0 +1,46 @@
+-- What was gathered are the numbers of the marked sectors.
+use Prim.Native.Nat.{ℕ, _-_}
+use mathlib.Core.Path.{_∙_, ap}
+use lib.ListN.{length-replicate}
+use Rattle.layout.specs.Bounded.{distinct}
+use Rattle.distinct.proofs.Exchange.{lent-end}
+use borrow.Author.Needs.{needs}
+use Rattle.distinct.proofs.numbers_distinct.Statement.{statement}
+use Rattle.distinct.proofs.numbers_distinct.Tie as tie
+
+slice-aggregate-gather : tie.Need-slice-aggregate-gather
+slice-aggregate-gather c = search needs
+
+gather-requires : tie.Need-gather-requires
+gather-requires c κs = search needs
+
+mul-xs : tie.Need-mul-xs
+mul-xs c = search needs
+
+sub-words-distinct : tie.Need-sub-words-distinct
+sub-words-distinct c = search needs
+
+part-xs-start : tie.Need-part-xs-start
+part-xs-start c = search needs
+
+part-xs-end : tie.Need-part-xs-end
+part-xs-end c = search needs
+
+words-distinct-requires : tie.Need-words-distinct-requires
+words-distinct-requires c κs = search needs
+
+returns : tie.Need-returns
+returns c = c .before .words-distinct .ensures ∙ ap distinct (lent-end _ 65536 (c .before .before .before .before .gather .result) (c .before .before .before .before .gather .kept .1 .1 .1 .0 ∙ length-replicate {A = ℕ} 65536 0) (c .before .before .before .before .gather .ensures .0) ∙ c .before .before .before .before .gather .ensures .1)
+
+pub numbers-distinct-spec : {M : Type 1} → statement M
+numbers-distinct-spec =
+    tie.close
+    (tie.spec
+    slice-aggregate-gather
+    gather-requires
+    mul-xs
+    sub-words-distinct
+    part-xs-start
+    part-xs-end
+    words-distinct-requires
+    returns)

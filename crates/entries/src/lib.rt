@@ -1,0 +1,83 @@
+// The entries that a commit's map sectors hold.
+ghost use mathlib.Core.Path.{_≡_};
+ghost use mathlib.Core.List.{_++_};
+ghost use Prim.Native.Nat.{ℕ, _+_, _*_, _≤_, _<_, _^_};
+ghost use lib.ListN.{length, drop};
+ghost use Rattle.geometry.specs.Geometry.{sectorBytes, entriesPerPiece};
+ghost use Rattle.layout.specs.Bounded.{at, listFrom, updated, updates};
+ghost use Rattle.layout.specs.Entry.{entryFor};
+ghost use Rattle.volume.specs.Tables.{sectorAt, pieceEntries};
+use geometry::Geometry;
+
+// The entry of each block that is written: the place of its data sector, with bit 31 set where it is flipped.
+pub fn entries_for(bytes: &[u8], places: &[u32], count: usize, entries: &mut [u32])
+    requires { ⌜ length (now bytes) ≡ sectorBytes * count ⌝ }
+    requires { ⌜ count ≤ length (now places) ⌝ }
+    requires { ⌜ count ≤ length (now entries) ⌝ }
+    requires { ⌜ ((i : ℕ) → i < count → at (now places) i < 2 ^ 31) ⌝ }
+    ensures { λ _. ⌜ now (entries .exit) ≡ listFrom (λ i. entryFor (sectorAt (now (bytes .entry)) i) (at (now (places .entry)) i)) 0 count ++ drop count (now (entries .entry)) ⌝ }
+{
+    let mut i = 0;
+    while i < count {
+        let entry = blocks::entry_for(images::sector(bytes, i), places[i]);
+        entries[i] = entry;
+        i += 1;
+    }
+}
+
+// Entry i of piece p, zero past the map's end.
+fn entry_of(map: &[u32], p: u32, i: usize) -> u32
+    requires { ⌜ p < 256 ⌝ }
+    requires { ⌜ i < entriesPerPiece ⌝ }
+    ensures { λ r. ⌜ r ≡ at (now (map .entry)) (entriesPerPiece * p + i) ⌝ }
+{
+    let b = 96 * (p as usize) + i;
+    if map.len() <= b {
+        return 0;
+    }
+    map[b]
+}
+
+// The entries of piece p, as the map has them.
+fn copy_piece(map: &[u32], p: u32, entries: &mut [u32])
+    requires { ⌜ p < 256 ⌝ }
+    requires { ⌜ length (now entries) ≡ entriesPerPiece ⌝ }
+    ensures { λ _. ⌜ now (entries .exit) ≡ pieceEntries (length (now (map .entry))) (at (now (map .entry))) p ⌝ }
+{
+    let mut i = 0;
+    while i < 96 {
+        let entry = entry_of(map, p, i);
+        entries[i] = entry;
+        i += 1;
+    }
+}
+
+// Puts the new entry of block b into the entries of piece p, if it is in that piece.
+fn change_entry(entries: &mut [u32], p: u32, b: u32, entry: u32, l: u32)
+    requires { ⌜ length (now entries) ≡ entriesPerPiece ⌝ }
+    requires { ⌜ b < l ⌝ }
+    ensures { λ _. ⌜ ((f : ℕ → ℕ) → now (entries .entry) ≡ pieceEntries l f p → now (entries .exit) ≡ pieceEntries l (updated f b entry) p) ⌝ }
+{
+    if Geometry::piece_of(b) != p {
+        return;
+    }
+    let i = Geometry::index_of(b) as usize;
+    entries[i] = entry;
+}
+
+// The entries of piece p after the change of the named blocks.
+pub fn changed_piece(map: &[u32], l: u32, p: u32, blocks: &[u32], news: &[u32], entries: &mut [u32])
+    requires { ⌜ length (now map) ≡ l ⌝ }
+    requires { ⌜ p < 256 ⌝ }
+    requires { ⌜ length (now blocks) ≤ length (now news) ⌝ }
+    requires { ⌜ length (now entries) ≡ entriesPerPiece ⌝ }
+    requires { ⌜ ((i : ℕ) → i < length (now blocks) → at (now blocks) i < l) ⌝ }
+    ensures { λ _. ⌜ now (entries .exit) ≡ pieceEntries l (updates (at (now (map .entry))) (at (now (blocks .entry))) (at (now (news .entry))) (length (now (blocks .entry)))) p ⌝ }
+{
+    copy_piece(map, p, entries);
+    let mut i = 0;
+    while i < blocks.len() {
+        change_entry(entries, p, blocks[i], news[i], l);
+        i += 1;
+    }
+}

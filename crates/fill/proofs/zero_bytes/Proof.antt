@@ -1,0 +1,64 @@
+-- The places below i are filled, by the laws of Filling.
+use Prim.Native.Nat.{_-_}
+use mathlib.Core.Path.{_∙_}
+use native.Mathlib.Omega.{arith}
+use lib.ListN.{length}
+use Rattle.laws.proofs.Filling.{Filled, filled-none, filled-length, filled-more, filled-all, zeros}
+use Rattle.fill.proofs.zero_bytes.Statement.{statement}
+use Rattle.fill.proofs.zero_bytes.Tie as tie
+
+abbrev Inv-loop : tie.InvT-loop
+Inv-loop bytes₀ i₀ bytes i = Filled (λ _. 0) bytes₀ i bytes
+
+abbrev μ-loop : tie.MeasureT-loop
+μ-loop bytes₀ i₀ bytes i = length bytes₀ - i
+
+loop-holds : tie.Need-loop-holds Inv-loop μ-loop
+loop-holds c = filled-none _ _
+
+slice-write-bytes : tie.Need-slice-write-bytes Inv-loop μ-loop
+slice-write-bytes c =
+    let e = filled-length (λ _. 0) (c .before .before .args .bytes .now) (c .before .loop .i) (c .before .loop .bytes) (c .before .loop .inv) in
+    let t = c .loop-test .taken in
+    omega arith
+
+add-i : tie.Need-add-i Inv-loop μ-loop
+add-i c =
+    let e = filled-length (λ _. 0) (c .before .before .args .bytes .now) (c .before .loop .i) (c .before .loop .bytes) (c .before .loop .inv) in
+    let t = c .loop-test .taken in
+    omega arith
+
+loop-less : tie.Need-loop-less Inv-loop μ-loop
+loop-less c =
+    let e = filled-length (λ _. 0) (c .before .before .args .bytes .now) (c .before .loop .i) (c .before .loop .bytes) (c .before .loop .inv) in
+    let t = c .loop-test .taken in
+    omega arith
+
+loop-again : tie.Need-loop-again Inv-loop μ-loop
+loop-again c =
+    let e = filled-length (λ _. 0) (c .before .before .args .bytes .now) (c .before .loop .i) (c .before .loop .bytes) (c .before .loop .inv) in
+    let t = c .loop-test .taken in
+    filled-more (λ _. 0) (c .before .before .args .bytes .now) (c .before .loop .i) (c .before .loop .bytes) (omega arith) (c .before .loop .inv)
+
+same-length : tie.Need-same-length Inv-loop μ-loop
+same-length c = filled-length (λ _. 0) (c .before .before .args .bytes .now) (c .before .loop .i) (c .before .loop .bytes) (c .before .loop .inv)
+
+returns : tie.Need-returns Inv-loop μ-loop
+returns c =
+    let e = filled-length (λ _. 0) (c .before .before .args .bytes .now) (c .before .loop .i) (c .before .loop .bytes) (c .before .loop .inv) in
+    let t = c .loop-test .left in
+    filled-all (λ _. 0) (c .before .before .args .bytes .now) (c .before .loop .i) (c .before .loop .bytes) (omega arith) (c .before .loop .inv) ∙ zeros 0 (length (c .before .before .args .bytes .now))
+
+pub zero-bytes-spec : {M : Type 1} → statement M
+zero-bytes-spec =
+    tie.close
+    (tie.spec
+    Inv-loop
+    μ-loop
+    loop-holds
+    slice-write-bytes
+    add-i
+    loop-less
+    loop-again
+    same-length
+    returns)

@@ -1,0 +1,131 @@
+-- The stores end in a cut or are whole; the tables follow.
+use mathlib.Core.Path.{sym, _∙_}
+use native.Mathlib.Omega.{arith}
+use Rattle.power.proofs.Runs.{left-enough}
+use Rattle.checks.proofs.SizeLaws.{size-passed}
+use Rattle.fresh.proofs.FormatLaws.{format-cut, format-whole}
+use borrow.Author.Needs.{needs}
+use Rattle.format.proofs.make.Statement.{statement}
+use Rattle.format.proofs.make.Tie as tie
+use Rattle.geometry.proofs.Geometry.pieces_for.Reads as pieces-for-reads
+use Rattle.lent.proofs.fresh_tables.Reads as fresh-tables-reads
+use Rattle.lent.proofs.zero_tables.Reads as zero-tables-reads
+use Rattle.format.proofs.store_all.Reads as store-all-reads
+
+cast-n : tie.Need-cast-n
+cast-n c =
+    let a = c .before .before .before .before .before .args in
+    let s = size-passed (a .image .now) (a .map .now) (a .places .now) (a .numbers .now) (a .used .now) (a .l) (c .before .before .before .before .before .pre) in
+    let h = s .range .sectors in
+    omega arith
+
+pieces-for-requires : tie.Need-pieces-for-requires
+pieces-for-requires c κs = search needs
+
+store-all-requires : tie.Need-store-all-requires
+store-all-requires c κs =
+    let a = c .before .before .before .before .before .before .before .args in
+    let s = size-passed (a .image .now) (a .map .now) (a .places .now) (a .numbers .now) (a .used .now) (a .l) (c .before .before .before .before .before .before .before .pre) in
+    let e = c .before .pieces-for .ensures in
+    let h = s .range .most in
+    let h2 = s .range .least in
+    (e, (omega arith, (omega arith, s .image)))
+
+enum-told : tie.Need-enum-told
+enum-told c = search needs
+
+zero-tables-requires : tie.Need-zero-tables-requires
+zero-tables-requires c κs = search needs
+
+lost-requires : tie.Need-lost-requires
+lost-requires c κs = search needs
+
+enum-known-power : tie.Need-enum-known-power
+enum-known-power c = search needs
+
+fresh-tables-requires : tie.Need-fresh-tables-requires
+fresh-tables-requires c κs =
+    let a = c .before .before .before .before .before .before .before .before .before .before .before .before .before .before .before .before .before .args in
+    let s = size-passed (a .image .now) (a .map .now) (a .places .now) (a .numbers .now) (a .used .now) (a .l) (c .before .before .before .before .before .before .before .before .before .before .before .before .before .before .before .before .before .pre) in
+    let e = c .before .before .before .before .before .before .before .before .before .before .before .pieces-for .ensures in
+    let h = s .range .most in
+    let h2 = s .range .least in
+    let u = s .used in
+    (e, (omega arith, (s .places ∙ sym e, (s .numbers ∙ sym e, omega arith))))
+
+sub-t37 : tie.Need-sub-t37
+sub-t37 c =
+    let h = left-enough _ _ _ (sym (c .before .before .before .before .before .before .before .before .before .before .before .before .before .before .power .given .1) ∙ c .before .before .before .before .before .before .before .before .before .before .before .before .before .before .before .before .before .before .store-all .ensures .0) in
+    omega arith
+
+running-requires : tie.Need-running-requires
+running-requires c κs = search needs
+
+same-length : tie.Need-same-length
+same-length c = search needs
+
+same-length-2 : tie.Need-same-length-2
+same-length-2 c = search needs
+
+same-length-3 : tie.Need-same-length-3
+same-length-3 c = search needs
+
+same-length-4 : tie.Need-same-length-4
+same-length-4 c = search needs
+
+same-length-5 : tie.Need-same-length-5
+same-length-5 c = search needs
+
+returns : tie.Need-returns
+returns c =
+    let a = c .before .before .before .before .before .before .before .before .before .before .before .before .before .before .before .before .before .before .before .before .before .before .before .before .before .before .args in
+    let z = c .before .before .before .before .before .before .before .before .before .zero-tables in
+    format-cut (a .l) (a .allowance) (a .image .now) (a .map .now) (a .places .now) (a .numbers .now) (a .used .now) _ _ _ _ _ (c .before .before .before .before .before .before .before .before .before .before .before .before .before .before .before .before .before .before .store-all .kept .0) (z .kept .0) (z .kept .1 .0) (z .kept .1 .1 .0) (z .kept .1 .1 .1 .0) (c .before .before .before .before .before .before .before .before .before .before .before .before .before .before .before .before .before .before .store-all .ensures .1) (c .lost .result) (c .lost .ensures) (sym (c .before .before .before .before .before .before .before .before .before .before .before .before .before .before .enum-told .given .1) ∙ c .before .before .before .before .before .before .before .before .before .before .before .before .before .before .before .before .before .before .store-all .ensures .0) (z .ensures)
+
+same-length-6 : tie.Need-same-length-6
+same-length-6 c = search needs
+
+same-length-7 : tie.Need-same-length-7
+same-length-7 c = search needs
+
+same-length-8 : tie.Need-same-length-8
+same-length-8 c = search needs
+
+same-length-9 : tie.Need-same-length-9
+same-length-9 c = search needs
+
+same-length-10 : tie.Need-same-length-10
+same-length-10 c = search needs
+
+returns-2 : tie.Need-returns-2
+returns-2 c =
+    let a = c .before .before .before .before .before .before .before .before .before .before .before .before .before .before .before .before .before .before .before .before .before .before .before .before .before .before .before .args in
+    let z = c .before .before .before .before .before .before .before .before .before .fresh-tables in
+    format-whole (a .l) (a .allowance) (a .image .now) (a .map .now) (a .places .now) (a .numbers .now) (a .used .now) _ _ _ _ _ (c .before .before .before .before .before .before .before .before .before .before .before .before .before .before .before .before .before .before .before .store-all .kept .0) (z .kept .0) (z .kept .1 .0) (z .kept .1 .1 .0) (z .kept .1 .1 .1 .0) (c .before .before .before .before .before .before .before .before .before .before .before .before .before .before .before .before .before .before .before .store-all .ensures .1) (c .running .result) (c .before .before .before .before .before .before .before .before .before .before .before .before .before .before .before .before .before .before .before .before .before .pieces-for .result) _ (c .before .before .before .before .before .before .before .before .before .before .before .before .before .before .before .before .before .before .before .before .before .pieces-for .ensures) (c .running .ensures) (sym (c .before .before .before .before .before .before .before .before .before .before .before .before .before .before .before .power .given .1) ∙ c .before .before .before .before .before .before .before .before .before .before .before .before .before .before .before .before .before .before .before .store-all .ensures .0) (z .ensures)
+
+pub make-spec : {M : Type 1} → statement M
+make-spec =
+    tie.close
+    (tie.spec
+    cast-n
+    pieces-for-requires
+    store-all-requires
+    enum-told
+    zero-tables-requires
+    lost-requires
+    enum-known-power
+    fresh-tables-requires
+    sub-t37
+    running-requires
+    same-length
+    same-length-2
+    same-length-3
+    same-length-4
+    same-length-5
+    returns
+    same-length-6
+    same-length-7
+    same-length-8
+    same-length-9
+    same-length-10
+    returns-2)

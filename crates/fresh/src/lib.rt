@@ -1,0 +1,84 @@
+// The stores of a format: zeros in every sector, then a fresh map.
+ghost use mathlib.Core.Path.{_≡_};
+ghost use Prim.Native.Nat.{_+_, _*_, _≤_, _<_};
+ghost use lib.ListN.{length, take};
+ghost use Rattle.geometry.specs.Geometry.{sectorBytes, piecesFor};
+ghost use Rattle.layout.specs.Bounded.{always, countBelow, updated};
+ghost use Rattle.volume.specs.Tables.{sectorAt};
+ghost use Rattle.volume.specs.Store.{applied, storesBelow};
+ghost use Rattle.volume.specs.Format.{blankStore, pieceStore};
+ghost use Rattle.power.specs.Power.{powered};
+use power::allowance::Power;
+
+// Zeros in sectors 0 to n - 1, ascending.
+pub fn blank_sectors(image: &mut [u8], n: u32, allowance: u32) -> Power
+    requires { ⌜ sectorBytes * n ≤ length (now image) ⌝ }
+    ensures { λ r. ⌜ (r ≡ powered (countBelow always n) allowance) × (sectorAt (now (image .exit)) ≡ applied (take allowance (storesBelow always blankStore n)) (sectorAt (now (image .entry)))) ⌝ }
+{
+    let mut left = allowance;
+    let mut k: u32 = 0;
+    while k < n {
+        if left == 0 {
+            return Power::Failed;
+        }
+        images::blank_sector(image, k as usize);
+        left -= 1;
+        k += 1;
+    }
+    Power::Left(left)
+}
+
+// Piece p of a fresh map goes into sector p + 1 with number p + 1. Each after the first has one branch, to the one before.
+fn store_piece(image: &mut [u8], l: u32, pieces: u32, p: u32)
+    requires { ⌜ pieces ≡ piecesFor l ⌝ }
+    requires { ⌜ p < 256 ⌝ }
+    requires { ⌜ sectorBytes * p + 1024 ≤ length (now image) ⌝ }
+    ensures { λ _. ⌜ sectorAt (now (image .exit)) ≡ updated (sectorAt (now (image .entry))) (p + 1) (pieceStore l p .bytes) ⌝ }
+{
+    let entries = [0u32; 96];
+    let branches = [p];
+    let number = p + 1;
+    if p == 0 {
+        images::store_map(
+            image,
+            number as usize,
+            l,
+            number,
+            p,
+            number == pieces,
+            &branches[..0],
+            &entries,
+        );
+        return;
+    }
+    images::store_map(
+        image,
+        number as usize,
+        l,
+        number,
+        p,
+        number == pieces,
+        &branches[..1],
+        &entries,
+    );
+}
+
+// The pieces of a fresh map, ascending; only the last one closes.
+pub fn store_pieces(image: &mut [u8], l: u32, pieces: u32, allowance: u32) -> Power
+    requires { ⌜ pieces ≡ piecesFor l ⌝ }
+    requires { ⌜ pieces ≤ 256 ⌝ }
+    requires { ⌜ sectorBytes * pieces + sectorBytes ≤ length (now image) ⌝ }
+    ensures { λ r. ⌜ (r ≡ powered (countBelow always pieces) allowance) × (sectorAt (now (image .exit)) ≡ applied (take allowance (storesBelow always (pieceStore l) pieces)) (sectorAt (now (image .entry)))) ⌝ }
+{
+    let mut left = allowance;
+    let mut p: u32 = 0;
+    while p < pieces {
+        if left == 0 {
+            return Power::Failed;
+        }
+        store_piece(image, l, pieces, p);
+        left -= 1;
+        p += 1;
+    }
+    Power::Left(left)
+}

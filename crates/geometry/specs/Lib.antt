@@ -1,0 +1,2 @@
+-- Document 01: the sizes of a volume.
+pub mod Geometry

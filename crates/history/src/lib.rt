@@ -1,0 +1,1 @@
+// Whole histories: the claim, and its proof. There is no code here.

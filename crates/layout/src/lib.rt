@@ -1,0 +1,1 @@
+// Definitions alone: the bytes of a sector. There is no code here.

@@ -1,0 +1,370 @@
+-- Branches, newest to oldest: the candidates, one step of the listing, and what a listed sector's branches reach.
+use Prim.Native.Nat.{ℕ, zero, suc, _+_, _*_, _-_, _≤_, _<_}
+use mathlib.Core.Path.{_≡_, refl, sym, _∙_, ap, fun-ext, subst}
+use mathlib.Core.Logic.{⊎-elim}
+use mathlib.Core.Bool.{Bool, true, false, cond, not, _&&_, _||_}
+use mathlib.Core.List.{List, [], _∷_, _++_, append-assoc, append-nil}
+use native.Mathlib.Nat.{not-suc-le-zero, le-of-suc-le-suc}
+use native.Mathlib.Numerals.{add-one}
+use native.Mathlib.Omega.{arith}
+use lib.ListN.{length, set, take, drop, replicate, length-drop, List·getD-eq-default}
+use lib.Seq.{set-split, take-append-add, take-at, take-all, take-suc, getD-take, length-take-le}
+use lib.Dec.{eqb, ltb, leb}
+use borrow.Author.Tests.{eq-eqb, ne-eqb, lt-ltb, le-ltb, leb-true}
+use Rattle.geometry.specs.Geometry.{within, piecesFor}
+use Rattle.layout.specs.Bounded.{at, all, best, elem, isZero}
+use Rattle.layout.specs.Word.{wordsOf, wordSum, startsWith}
+use Rattle.layout.specs.MapSector.{View, mapMark, valid, branchesFit, branchWords, entryWords, decoded}
+use Rattle.volume.specs.Tables.{Tables, sectorAt, tablesOf}
+use Rattle.volume.specs.Commit.{olderKey, listing, branchesIn}
+use Rattle.volume.specs.Calls.{viewOf}
+use Rattle.laws.proofs.Bounded.{bool?, lt?, eq?, and-l, and-r, cond-true, cond-false, tabled-at}
+use Rattle.pieces.specs.Arrays.{flagged, unflagged, Live}
+use Rattle.pieces.proofs.FlagLaws.{flag-set, none-flagged}
+use Rattle.laws.proofs.Words.{length-wordsOf}
+use Rattle.laws.proofs.Sectors.{sector-length}
+
+-- The key of a candidate.
+module _ (nu touched : List ℕ) (bound : ℕ) where
+  abbrev pub key : ℕ → ℕ
+  key = olderKey (tablesOf [] [] nu []) (unflagged (length nu) touched) bound
+
+  remains : (q : ℕ) → q < length nu → unflagged (length nu) touched q ≡ not (flagged touched q)
+  unfolding unflagged
+  remains q h = tabled-at false (length nu) (λ r. not (flagged touched r)) q h
+
+  pub key-touched : (q : ℕ) → q < length nu → at touched q ≡ 1 → 0 ≡ key q
+  unfolding olderKey flagged
+  key-touched q h e = rw (remains q h, eq-eqb (at touched q) 1 e) refl
+
+  pub key-older : (q : ℕ) → q < length nu → (at touched q ≡ 1 → ⊥) → at nu q < bound → at nu q ≡ key q
+  unfolding olderKey flagged
+  key-older q h d e = rw (remains q h, ne-eqb (at touched q) 1 d, lt-ltb (at nu q) bound e) refl
+
+  pub key-newer : (q : ℕ) → q < length nu → (at touched q ≡ 1 → ⊥) → bound ≤ at nu q → 0 ≡ key q
+  unfolding olderKey flagged
+  key-newer q h d e = rw (remains q h, ne-eqb (at touched q) 1 d, le-ltb (at nu q) bound e) refl
+
+-- The best so far.
+pub best-none : (key : ℕ → ℕ) → 0 ≡ best key 0
+unfolding best
+best-none key = refl
+
+pub best-new : (key : ℕ → ℕ) (q found : ℕ) → found ≡ best key q → key found < key q → q ≡ best key (q + 1)
+unfolding best
+best-new key q found e h = rw (add-one, ← e, lt-ltb (key found) (key q) h) refl
+
+pub best-old : (key : ℕ → ℕ) (q found : ℕ) → found ≡ best key q → key q ≤ key found → found ≡ best key (q + 1)
+unfolding best
+best-old key q found e h = rw (add-one, ← e, le-ltb (key found) (key q) h) refl
+
+-- One more in the list of branches.
+pub list-more : (bs : List ℕ) (count place : ℕ) → count < length bs → take (count + 1) (set bs count place) ≡ take count bs ++ (place ∷ [])
+list-more bs count place h =
+    let e = length-take-le count bs (omega arith) in
+    ap (take (count + 1)) (set-split bs count place h)
+    ∙ ap (λ (k : ℕ). take k (take count bs ++ place ∷ drop (suc count) bs)) (let q : count + 1 ≡ length (take count bs) + 1 = omega arith in q)
+    ∙ take-append-add (take count bs) (place ∷ drop (suc count) bs) 1
+
+-- What one branch reaches.
+module _ (reached pl nu : List ℕ) (p b bound : ℕ) (only : (q : ℕ) → at pl q ≡ b → (q ≡ p) × (q < length pl)) where
+  abbrev then : ℕ → Bool
+  then q = flagged reached q || (eqb (at pl q) b && ltb (at nu q) bound)
+
+  same : (a : Bool) → a ≡ (a || false)
+  same true = refl
+  same false = refl
+
+  also : (a : Bool) → true ≡ (a || true)
+  also true = refl
+  also false = refl
+
+  away : (q : ℕ) → (at pl q ≡ b → ⊥) → flagged reached q ≡ then q
+  away q d = rw (ne-eqb (at pl q) b d) (same (flagged reached q))
+
+  pub reach-none : (at pl p ≡ b → p < length pl → ⊥) → flagged reached ≡ then
+  reach-none d =
+      fun-ext (λ q.
+      ⊎-elim (λ (e : at pl q ≡ b). let w = only q e in absurd (d (ap (at pl) (sym (w .0)) ∙ e) (let h = w .1 in let z = w .0 in omega arith)))
+      (λ (f : at pl q ≡ b → ⊥). away q f) (eq? (at pl q) b))
+
+  pub reach-newer : bound ≤ at nu p → flagged reached ≡ then
+  reach-newer h =
+      fun-ext (λ q.
+      ⊎-elim (λ (e : at pl q ≡ b).
+      let w = only q e in
+      rw (eq-eqb (at pl q) b e, le-ltb (at nu q) bound (subst (λ (x : ℕ). bound ≤ at nu x) (sym (w .0)) h)) (same (flagged reached q)))
+      (λ (f : at pl q ≡ b → ⊥). away q f) (eq? (at pl q) b))
+
+  pub reach-one : at pl p ≡ b → at nu p < bound → p < length reached → flagged (set reached p 1) ≡ then
+  reach-one e h k =
+      flag-set reached p k
+      ∙ fun-ext (λ q.
+      ⊎-elim (λ (z : q ≡ p).
+      rw (eq-eqb q p z, eq-eqb (at pl q) b (ap (at pl) z ∙ e), lt-ltb (at nu q) bound (subst (λ (x : ℕ). at nu x < bound) (sym z) h)) (also (flagged reached q)))
+      (λ (z : q ≡ p → ⊥). rw (ne-eqb q p z) (away q (λ (f : at pl q ≡ b). z (only q f .0)))) (eq? q p))
+
+-- A test of a whole list, at one place.
+pub all-at : (test : ℕ → Bool) (xs : List ℕ) (i : ℕ) → all test xs ≡ true → i < length xs → test (at xs i) ≡ true
+unfolding all
+all-at test [] i e h = absurd (not-suc-le-zero h)
+all-at test (x ∷ xs) zero e h = and-l (test x) (all test xs) e
+all-at test (x ∷ xs) (suc i) e h = all-at test xs i (and-r (test x) (all test xs) e) (le-of-suc-le-suc h)
+
+-- A signed sector: its branches are sectors, and at most 24 of them.
+module _ (n l : ℕ) (bytes : List ℕ) (signed : valid n l bytes (wordsOf bytes) ≡ true) where
+  abbrev ws : List ℕ
+  ws = wordsOf bytes
+
+  c1 : Bool
+  c1 = startsWith mapMark bytes && isZero (wordSum ws) && leb 1 (at ws 2) && isZero (at ws 3) && ltb (at ws 4) (piecesFor l) && leb (at ws 5) 1
+
+  c2 : Bool
+  c2 = leb (at ws 6) 24
+
+  c3 : Bool
+  c3 = eqb (at ws 7) l
+
+  c4 : Bool
+  c4 = branchesFit n (at ws 6) (branchWords ws)
+
+  c5 : Bool
+  c5 = all isZero (drop (l - 96 * at ws 4) (entryWords ws))
+
+  pub few-branches : at ws 6 ≤ 24
+  unfolding valid c1 c2 c3 c4 c5
+  few-branches = leb-true (at ws 6) 24 (and-r c1 c2 (and-l (c1 && c2) c3 (and-l (c1 && c2 && c3) c4 (and-l (c1 && c2 && c3 && c4) c5 signed))))
+
+  fit : branchesFit n (at ws 6) (branchWords ws) ≡ true
+  unfolding valid c1 c2 c3 c4 c5
+  fit = and-r (c1 && c2 && c3) c4 (and-l (c1 && c2 && c3 && c4) c5 signed)
+
+  pub branch-inside : (i : ℕ) → length (branchWords ws) ≡ 24 → i < at ws 6 → (1 ≤ at (branchWords ws) i) × (at (branchWords ws) i ≤ n - 1)
+  unfolding branchesFit
+  branch-inside i len h =
+      let few = few-branches in
+      let bs = branchWords ws in
+      let inside = and-l (all (within 1 (n - 1)) (take (at ws 6) bs)) (all isZero (drop (at ws 6) bs)) fit in
+      let k = length-take-le (at ws 6) bs (omega arith) in
+      let w = all-at (within 1 (n - 1)) (take (at ws 6) bs) i inside (omega arith) in
+      let e = getD-take (at ws 6) bs i 0 h in
+      let z = at (take (at ws 6) bs) i in
+      let low = leb-true 1 z (and-l (leb 1 z) (leb z (n - 1)) w) in
+      let high = leb-true z (n - 1) (and-r (leb 1 z) (leb z (n - 1)) w) in
+      (omega arith, omega arith)
+
+  pub branches-view : branchesIn (decoded n l bytes) ≡ take (at ws 6) (branchWords ws)
+  unfolding decoded branchesIn
+  branches-view = rw signed refl
+
+-- Reached by the first i of a sector's branches.
+elem-end : (k : ℕ) (xs : List ℕ) (x : ℕ) → elem k (xs ++ (x ∷ [])) ≡ (elem k xs || eqb k x)
+unfolding elem
+elem-end k [] x = either (eqb k x)
+  where
+    either : (a : Bool) → (a || false) ≡ (false || a)
+    either true = refl
+    either false = refl
+elem-end k (y ∷ xs) x = ap (λ (b : Bool). eqb k y || b) (elem-end k xs x) ∙ shift (eqb k y) (elem k xs) (eqb k x)
+  where
+    shift : (a b c : Bool) → (a || (b || c)) ≡ ((a || b) || c)
+    shift true b c = refl
+    shift false b c = refl
+
+module _ (before : ℕ → Bool) (pl nu bs : List ℕ) (bound : ℕ) where
+  abbrev pub reachedBy : ℕ → ℕ → Bool
+  reachedBy i q = before q || (elem (at pl q) (take i bs) && ltb (at nu q) bound)
+
+  pub reached-none : before ≡ reachedBy 0
+  unfolding elem
+  reached-none = fun-ext (λ q. either (before q))
+    where
+      either : (a : Bool) → a ≡ (a || false)
+      either true = refl
+      either false = refl
+
+  pub reached-more : (i b : ℕ) → i < length bs → b ≡ at bs i → (f g : ℕ → Bool) → f ≡ reachedBy i
+      → g ≡ (λ q. f q || (eqb (at pl q) b && ltb (at nu q) bound)) → g ≡ reachedBy (i + 1)
+  reached-more i b h e f g p r =
+      r
+      ∙ fun-ext (λ q.
+      ap (λ (x : ℕ → Bool). x q || (eqb (at pl q) b && ltb (at nu q) bound)) p
+      ∙ either (before q) (elem (at pl q) (take i bs)) (eqb (at pl q) b) (ltb (at nu q) bound)
+      ∙ ap (λ (x : Bool). before q || (x && ltb (at nu q) bound))
+      (sym
+      (ap (λ (xs : List ℕ). elem (at pl q) xs)
+      (ap (λ (k : ℕ). take k bs) (add-one i) ∙ take-suc bs i 0 h ∙ ap (λ (x : ℕ). take i bs ++ (x ∷ [])) (sym e))
+      ∙ elem-end (at pl q) (take i bs) b)))
+    where
+      either : (a x y z : Bool) → ((a || (x && z)) || (y && z)) ≡ (a || ((x || y) && z))
+      either true x y z = refl
+      either false true y true = refl
+      either false true true false = refl
+      either false true false false = refl
+      either false false y z = refl
+
+-- One step of the listing.
+module _ (pieces : ℕ) (t : Tables) (view : View) (remaining : ℕ → Bool) where
+  pub listing-ends : (steps bound : ℕ) (reached : ℕ → Bool) → olderKey t remaining bound (best (olderKey t remaining bound) pieces) ≡ 0
+      → listing pieces t view remaining steps bound reached ≡ []
+  unfolding listing
+  listing-ends zero bound reached e = refl
+  listing-ends (suc steps) bound reached e = cond-true (isZero (olderKey t remaining bound (best (olderKey t remaining bound) pieces))) [] _ (eq-eqb _ 0 e)
+
+  pub listing-over : (steps bound : ℕ) (reached : ℕ → Bool) → steps ≡ 0 → listing pieces t view remaining steps bound reached ≡ []
+  unfolding listing
+  listing-over zero bound reached e = refl
+  listing-over (suc steps) bound reached e = absurd (omega arith)
+
+  key-number : (bound q : ℕ) → (olderKey t remaining bound q ≡ 0 → ⊥) → olderKey t remaining bound q ≡ t .number q
+  unfolding olderKey
+  key-number bound q d =
+      ⊎-elim (λ (e : (remaining q && ltb (t .number q) bound) ≡ true). cond-true _ (t .number q) 0 e)
+      (λ (e : (remaining q && ltb (t .number q) bound) ≡ false). absurd (d (cond-false _ (t .number q) 0 e)))
+      (bool? (remaining q && ltb (t .number q) bound))
+
+  -- The newest candidate is listed unless it is reached; the rest is listed from its number on.
+  pub listing-on : (steps bound : ℕ) (reached : ℕ → Bool) (q number : ℕ) → 0 < steps → q ≡ best (olderKey t remaining bound) pieces
+      → number ≡ olderKey t remaining bound q → (number ≡ 0 → ⊥)
+      → listing pieces t view remaining steps bound reached
+      ≡ cond (reached q) [] (t .place q ∷ [])
+      ++ listing pieces t view remaining (steps - 1) number
+      (λ r. reached r || (elem (t .place r) (branchesIn (view (t .place q))) && ltb (t .number r) number))
+  unfolding listing
+  listing-on zero bound reached q number h e f d = absurd (not-suc-le-zero h)
+  listing-on (suc steps) bound reached q number h e f d =
+      let key = olderKey t remaining bound in
+      let known = key-number bound q (λ (z : key q ≡ 0). d (f ∙ z)) in
+      ap (λ (x : ℕ). cond (isZero (key x)) [] (cond (reached x) (from x) (t .place x ∷ from x))) (sym e)
+      ∙ cond-false (isZero (key q)) [] _ (ne-eqb (key q) 0 (λ (z : key q ≡ 0). d (f ∙ z)))
+      ∙ either (reached q) (t .place q) (from q)
+      ∙ ap (λ (xs : List ℕ). cond (reached q) [] (t .place q ∷ []) ++ xs)
+      (ap (λ (x : ℕ).
+      listing pieces t view remaining steps x (λ r. reached r || (elem (t .place r) (branchesIn (view (t .place q))) && ltb (t .number r) x)))
+      (sym known ∙ sym f)
+      ∙ ap (λ (k : ℕ).
+      listing pieces t view remaining k number (λ r. reached r || (elem (t .place r) (branchesIn (view (t .place q))) && ltb (t .number r) number)))
+      (let z : steps ≡ suc steps - 1 = omega arith in z))
+    where
+      from : ℕ → List ℕ
+      from x =
+          listing pieces t view remaining steps (t .number x)
+          (λ r. reached r || (elem (t .place r) (branchesIn (view (t .place x))) && ltb (t .number r) (t .number x)))
+
+      either : (b : Bool) (x : ℕ) (xs : List ℕ) → cond b xs (x ∷ xs) ≡ cond b [] (x ∷ []) ++ xs
+      either true x xs = refl
+      either false x xs = refl
+
+pub branch-room : (bytes : List ℕ) → length bytes ≡ 512 → length (branchWords (wordsOf bytes)) ≡ 24
+branch-room bytes e =
+    let w = length-wordsOf bytes in
+    let d = length-drop 8 (wordsOf bytes) in
+    length-take-le 24 (drop 8 (wordsOf bytes)) (omega arith)
+
+-- The whole listing: what is listed so far, and what is listed from here on.
+module _ (n l : ℕ) (image : ℕ → List ℕ) (pl nu touched : List ℕ) (number : ℕ) where
+  abbrev pub listedFrom : ℕ → ℕ → (ℕ → Bool) → List ℕ
+  listedFrom steps bound reached =
+      listing (length nu) (tablesOf [] pl nu []) (viewOf n l image) (unflagged (length nu) touched) steps bound reached
+
+  abbrev pub Listing : List ℕ → ℕ → ℕ → (ℕ → Bool) → Type 0
+  Listing done steps bound reached = listedFrom (length nu) (suc number) (λ _. false) ≡ done ++ listedFrom steps bound reached
+
+  any-places : (bound : ℕ) → key nu touched bound ≡ olderKey (tablesOf [] pl nu []) (unflagged (length nu) touched) bound
+  unfolding olderKey
+  any-places bound = refl
+
+  pub listing-starts : (flags branches : List ℕ) (size : ℕ) → flags ≡ replicate size 0 → Listing (take 0 branches) (length nu) (number + 1) (flagged flags)
+  listing-starts flags branches size e = rw (add-one, none-flagged flags size e) refl
+
+  pub listing-more : (done done′ : List ℕ) (steps bound bound′ q place : ℕ) (reached reached′ : ℕ → Bool) (known : Bool)
+      → Listing done steps bound reached → 0 < steps → q ≡ best (key nu touched bound) (length nu) → bound′ ≡ key nu touched bound q
+      → (bound′ ≡ 0 → ⊥) → known ≡ reached q → place ≡ at pl q → done′ ≡ done ++ cond known [] (place ∷ [])
+      → reached′ ≡ (λ r. reached r || (elem (at pl r) (branchesIn (viewOf n l image (at pl q))) && ltb (at nu r) bound′))
+      → Listing done′ (steps - 1) bound′ reached′
+  listing-more done done′ steps bound bound′ q place reached reached′ known s h e f d k p g r =
+      let here = any-places bound in
+      let rest : List ℕ = listedFrom (steps - 1) bound′ (λ r. reached r || (elem (at pl r) (branchesIn (viewOf n l image (at pl q))) && ltb (at nu r) bound′)) in
+      s
+      ∙ ap (λ (xs : List ℕ). done ++ xs)
+      (listing-on (length nu) (tablesOf [] pl nu []) (viewOf n l image) (unflagged (length nu) touched) steps bound reached q bound′ h
+      (e ∙ ap (λ (x : ℕ → ℕ). best x (length nu)) here) (f ∙ ap (λ (x : ℕ → ℕ). x q) here) d)
+      ∙ sym (append-assoc done (cond (reached q) [] (at pl q ∷ [])) rest)
+      ∙ ap (λ (b : Bool). (done ++ cond b [] (at pl q ∷ [])) ++ rest) (sym k)
+      ∙ ap (λ (x : ℕ). (done ++ cond known [] (x ∷ [])) ++ rest) (sym p)
+      ∙ ap (λ (xs : List ℕ). xs ++ rest) (sym g)
+      ∙ ap (λ (x : ℕ → Bool). done′ ++ listedFrom (steps - 1) bound′ x) (sym r)
+
+  -- It ends with all of it, or with the first 25.
+  pub listing-full : (branches : List ℕ) (steps bound : ℕ) (reached : ℕ → Bool) → length branches ≡ 25 → Listing (take 25 branches) steps bound reached
+      → take 25 branches ≡ take 25 (listedFrom (length nu) (suc number) (λ _. false))
+  listing-full branches steps bound reached e s =
+      sym (ap (take 25) s ∙ take-at (take 25 branches) (listedFrom steps bound reached) 25 (length-take-le 25 branches (omega arith)))
+
+  all-of-it : (branches : List ℕ) (count : ℕ) (rest : List ℕ) → count ≤ 25 → count ≤ length branches → rest ≡ []
+      → listedFrom (length nu) (suc number) (λ _. false) ≡ take count branches ++ rest
+      → take count branches ≡ take 25 (listedFrom (length nu) (suc number) (λ _. false))
+  all-of-it branches count rest h k e s =
+      let len = length-take-le count branches k in
+      sym
+      (ap (take 25) (s ∙ ap (λ (xs : List ℕ). take count branches ++ xs) e ∙ append-nil (take count branches))
+      ∙ take-all 25 (take count branches) (omega arith))
+
+  pub listing-no-more : (branches : List ℕ) (count steps bound : ℕ) (reached : ℕ → Bool) (q bound′ : ℕ) → count ≤ 25 → length branches ≡ 25
+      → Listing (take count branches) steps bound reached → q ≡ best (key nu touched bound) (length nu) → bound′ ≡ key nu touched bound q → bound′ ≡ 0
+      → take count branches ≡ take 25 (listedFrom (length nu) (suc number) (λ _. false))
+  listing-no-more branches count steps bound reached q bound′ h len s e f z =
+      let here = any-places bound in
+      all-of-it branches count (listedFrom steps bound reached) h (omega arith)
+      (listing-ends (length nu) (tablesOf [] pl nu []) (viewOf n l image) (unflagged (length nu) touched) steps bound reached
+      (subst (λ (x : ℕ → ℕ). x (best x (length nu)) ≡ 0) here (ap (key nu touched bound) (sym e) ∙ sym f ∙ z)))
+      s
+
+  pub listing-done : (branches : List ℕ) (count steps bound : ℕ) (reached : ℕ → Bool) → count ≤ 25 → length branches ≡ 25
+      → Listing (take count branches) steps bound reached → steps ≡ 0
+      → take count branches ≡ take 25 (listedFrom (length nu) (suc number) (λ _. false))
+  listing-done branches count steps bound reached h len s z =
+      all-of-it branches count (listedFrom steps bound reached) h (omega arith)
+      (listing-over (length nu) (tablesOf [] pl nu []) (viewOf n l image) (unflagged (length nu) touched) steps bound reached z) s
+
+-- The live sector at a branch is the one of the piece that the sector there says.
+pub only-there : (n l : ℕ) (image : ℕ → List ℕ) (pl : List ℕ) (b p : ℕ) → Live n l image (at pl) (length pl) → 1 ≤ b → p ≡ at (wordsOf (image b)) 4
+    → (q : ℕ) → at pl q ≡ b → (q ≡ p) × (q < length pl)
+only-there n l image pl b p live low e q f =
+    ⊎-elim (λ (h : q < length pl).
+    (sym (live .piece q h) ∙ ap (λ (x : ℕ). at (wordsOf (image x)) 4) f ∙ sym e, h))
+    (λ (h : length pl ≤ q). let z = List·getD-eq-default pl 0 {n = q} h in absurd (omega arith)) (lt? q (length pl))
+
+-- All branches of a listed sector.
+pub reached-all : (n l : ℕ) (bytes s : List ℕ) (before f : ℕ → Bool) (pl nu : List ℕ) (bound i count : ℕ) → s ≡ bytes
+    → valid n l bytes (wordsOf bytes) ≡ true → count ≡ at (wordsOf s) 6 → i ≡ count → f ≡ reachedBy before pl nu (branchWords (wordsOf s)) bound i
+    → f ≡ (λ r. before r || (elem (at pl r) (branchesIn (decoded n l bytes)) && ltb (at nu r) bound))
+reached-all n l bytes s before f pl nu bound i count e v g h r =
+    let same : take i (branchWords (wordsOf s)) ≡ branchesIn (decoded n l bytes)
+    = ap (λ (x : ℕ). take x (branchWords (wordsOf s))) (h ∙ g) ∙ ap (λ (x : List ℕ). take (at (wordsOf x) 6) (branchWords (wordsOf x))) e
+    ∙ sym (branches-view n l bytes v) in
+    r ∙ fun-ext (λ q. ap (λ (xs : List ℕ). before q || (elem (at pl q) xs && ltb (at nu q) bound)) same)
+
+-- At most one more is listed.
+pub one-more : (count r most : ℕ) (known : Bool) → r ≡ cond known count (count + 1) → count < most → r ≤ most
+one-more count r most true e h = omega arith
+one-more count r most false e h = omega arith
+
+-- A listed sector, and the sector that a branch of it names.
+module _ (n l : ℕ) (im s : List ℕ) (place : ℕ) (len : length im ≡ 512 * n) (inside : place < n) (is : s ≡ sectorAt im place)
+    (signed : valid n l (sectorAt im place) (wordsOf (sectorAt im place)) ≡ true) where
+  pub whole-sector : length s ≡ 512
+  whole-sector = ap length is ∙ sector-length im place (omega arith)
+
+  signed-s : valid n l s (wordsOf s) ≡ true
+  signed-s = subst (λ (x : List ℕ). valid n l x (wordsOf x) ≡ true) (sym is) signed
+
+  pub count-few : (count : ℕ) → count ≡ at (wordsOf s) 6 → count ≤ 24
+  count-few count e = let h = few-branches n l s signed-s in omega arith
+
+  pub branch-sector : (count i b : ℕ) → count ≡ at (wordsOf s) 6 → i < count → b ≡ at (branchWords (wordsOf s)) i → (1 ≤ b) × (512 * b + 512 ≤ length im)
+  branch-sector count i b e h f =
+      let w = branch-inside n l s signed-s i (branch-room s whole-sector) (omega arith) in
+      let low = w .0 in
+      let high = w .1 in
+      (omega arith, omega arith)

@@ -1,0 +1,61 @@
+-- Sound tables name places below n; the returns are laws of LiveLaws.
+use Prim.Native.Nat.{_≤_}
+use native.Mathlib.Omega.{arith}
+use Rattle.soundness.proofs.Sounding.{sectors-some, blocks-most}
+use Rattle.live_sectors.proofs.LiveLaws.{image-long, geometry-fits, map-long, places-long, numbers-long, used-long, tables-unsound, places-below, live-decides}
+use Rattle.live_sectors.proofs.tables_agree.Statement.{statement}
+use Rattle.live_sectors.proofs.tables_agree.Tie as tie
+
+is-consistent-requires : tie.Need-is-consistent-requires
+is-consistent-requires c κs =
+    let a = c .before .before .before .before .before .args in
+    let f = c .before .before .before .before .before .pre .0 in
+    let t = c .before .before .before .before .before .pre .1 in (
+      geometry-fits (a .s) (a .image .now) (a .map .now) (a .places .now) (a .numbers .now) (a .used .now) f,
+      (
+        map-long (a .s) (a .image .now) (a .map .now) (a .places .now) (a .numbers .now) (a .used .now) t,
+        (
+          places-long (a .s) (a .image .now) (a .map .now) (a .places .now) (a .numbers .now) (a .used .now) t,
+          (numbers-long (a .s) (a .image .now) (a .map .now) (a .places .now) (a .numbers .now) (a .used .now) t, used-long (a .s) (a .image .now) (a .map .now) (a .places .now) (a .numbers .now) (a .used .now) t),
+        ),
+      ),
+    )
+
+returns : tie.Need-returns
+returns c =
+    let a = c .before .before .before .before .before .before .before .args in
+    tables-unsound (a .s) (a .image .now) (a .map .now) (a .places .now) (a .numbers .now) (a .used .now) (c .before .is-consistent .result) (c .before .is-consistent .ensures) (c .if1 .taken)
+
+live-valid-requires : tie.Need-live-valid-requires
+live-valid-requires c κs =
+    let a = c .before .before .before .before .before .before .before .args in
+    let f = c .before .before .before .before .before .before .before .pre .0 in
+    let t = c .before .before .before .before .before .before .before .pre .1 in
+    let g = geometry-fits (a .s) (a .image .now) (a .map .now) (a .places .now) (a .numbers .now) (a .used .now) f in
+    let n = sectors-some (a .s .n) (a .s .l) g in
+    let l = blocks-most (a .s .n) (a .s .l) g in
+    let least : 1 ≤ a .s .n = omega arith in (
+      least,
+      (
+        omega arith,
+        (
+          image-long (a .s) (a .image .now) (a .map .now) (a .places .now) (a .numbers .now) (a .used .now) f,
+          (
+            map-long (a .s) (a .image .now) (a .map .now) (a .places .now) (a .numbers .now) (a .used .now) t,
+            (
+              places-long (a .s) (a .image .now) (a .map .now) (a .places .now) (a .numbers .now) (a .used .now) t,
+              (numbers-long (a .s) (a .image .now) (a .map .now) (a .places .now) (a .numbers .now) (a .used .now) t, places-below (a .s) (a .image .now) (a .map .now) (a .places .now) (a .numbers .now) (a .used .now) (c .before .is-consistent .result) (c .before .is-consistent .ensures) (c .if1 .left) least),
+            ),
+          ),
+        ),
+      ),
+    )
+
+returns-2 : tie.Need-returns-2
+returns-2 c =
+    let a = c .before .before .before .before .before .before .before .before .args in
+    live-decides (a .s) (a .image .now) (a .map .now) (a .places .now) (a .numbers .now) (a .used .now) (c .before .before .is-consistent .result) (c .before .before .is-consistent .ensures) (c .before .if1 .left) (c .live-valid .result) (c .live-valid .ensures)
+
+pub tables-agree-spec : {M : Type 1} → statement M
+tables-agree-spec =
+    tie.close (tie.spec is-consistent-requires returns live-valid-requires returns-2)

@@ -1,0 +1,94 @@
+-- Tables whose used map is made of what they name: it need not be compared.
+use Prim.Native.Nat.{ℕ, _*_, _-_, _≤_, _<_}
+use mathlib.Core.Path.{_≡_, refl, sym, _∙_, ap}
+use mathlib.Core.Bool.{Bool, true, false, not, _&&_, Bool·beq, true≢false}
+use mathlib.Core.List.{List, []}
+use native.Mathlib.Omega.{arith}
+use lib.Dec.{eqb, leb}
+use borrow.Author.Tests.{le-leb, lt-leb, not-true, not-false}
+use Rattle.geometry.specs.Geometry.{within, piecesFor, usedBytes}
+use Rattle.layout.specs.Bounded.{at, allBelow, best, all, distinct, always, gathered}
+use Rattle.volume.specs.Tables.{namedBy, usedBy, freeSectors, consistent}
+use Rattle.laws.proofs.Bounded.{allBelow-is}
+use Rattle.names.proofs.Marking.{Left}
+use Rattle.numbers.proofs.Numbering.{Agree}
+use Rattle.log_tables.specs.LogTables.{tablesNamed}
+
+beq-self : (b : Bool) → Bool·beq b b ≡ true
+beq-self true = refl
+beq-self false = refl
+
+module _ (a b c d e f g : Bool) where
+  names-off : a ≡ false → false ≡ (a && b && c && d && e && f && g)
+  names-off p = rw p refl
+
+  room-off : a ≡ true → b ≡ true → c ≡ false → false ≡ (a && b && c && d && e && f && g)
+  room-off p q r = rw (p, q, r) refl
+
+  rest-on : a ≡ true → b ≡ true → c ≡ true → (d && e && f && g) ≡ (a && b && c && d && e && f && g)
+  rest-on p q r = rw (p, q, r) refl
+
+module _ (n l : ℕ) (map places numbers : List ℕ) (tail number : ℕ) where
+  abbrev Names : List ℕ
+  Names = namedBy l (at map) (at places)
+
+  abbrev Fits : Bool
+  Fits = all (within 1 (n - 1)) Names && distinct Names
+
+  abbrev Bits : Bool
+  Bits = allBelow (λ k. Bool·beq (usedBy Names k) (usedBy Names k)) (8 * usedBytes n)
+
+  abbrev Room : Bool
+  Room = leb (piecesFor l) (freeSectors n (usedBy Names))
+
+  abbrev D : Bool
+  D = distinct (gathered always (at numbers) [] (piecesFor l))
+
+  abbrev E : Bool
+  E = allBelow (λ q. leb 1 (at numbers q)) (piecesFor l)
+
+  abbrev F : Bool
+  F = eqb tail (at places (best (at numbers) (piecesFor l)))
+
+  abbrev G : Bool
+  G = eqb number (at numbers (best (at numbers) (piecesFor l)))
+
+  -- What is answered, and the bits then.
+  abbrev pub Agrees : Bool → (ℕ → Bool) → Type 0
+  Agrees r bits = (r ≡ consistent n l (tablesNamed l map places numbers) tail number) × (r ≡ true → bits ≡ usedBy Names)
+
+  no-claim : (bits : ℕ → Bool) → false ≡ true → bits ≡ usedBy Names
+  no-claim bits z = absurd (true≢false (sym z))
+
+  bits-same : Bits ≡ true
+  bits-same = allBelow-is (λ k. Bool·beq (usedBy Names k) (usedBy Names k)) (8 * usedBytes n) (λ k h. beq-self (usedBy Names k))
+
+  module _ (bits : ℕ → Bool) (r : Bool) (h : Left n Names r bits) where
+    pub names-fail : not r ≡ true → Agrees false bits
+    unfolding consistent
+    names-fail e = (names-off Fits Bits Room D E F G (sym (h .0) ∙ not-true r e), no-claim bits)
+
+    module _ (e : not r ≡ false) (free p : ℕ) (counted : free ≡ freeSectors n bits) (pieces : p ≡ piecesFor l) where
+      fits : Fits ≡ true
+      fits = sym (h .0) ∙ not-false r e
+
+      made : bits ≡ usedBy Names
+      made = h .1 (not-false r e)
+
+      free-is : free ≡ freeSectors n (usedBy Names)
+      free-is = counted ∙ ap (freeSectors n) made
+
+      pub room-fails : free < p → Agrees false bits
+      unfolding consistent
+      room-fails g =
+          let w = free-is in
+          (room-off Fits Bits Room D E F G fits bits-same (lt-leb (piecesFor l) (freeSectors n (usedBy Names)) (omega arith)), no-claim bits)
+
+      pub numbers-decide : p ≤ free → (u : Bool) (m : ℕ) → m ≡ piecesFor l → u ≡ Agree (at places) (at numbers) m tail number → Agrees u bits
+      unfolding consistent
+      numbers-decide g u m same v =
+          let w = free-is in (
+            v ∙ ap (λ (x : ℕ). Agree (at places) (at numbers) x tail number) same
+                ∙ rest-on Fits Bits Room D E F G fits bits-same (le-leb (piecesFor l) (freeSectors n (usedBy Names)) (omega arith)),
+            λ z. made,
+          )

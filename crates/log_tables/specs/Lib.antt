@@ -1,0 +1,2 @@
+-- A log that was found, as the code has it.
+pub mod LogTables

@@ -1,0 +1,26 @@
+-- The tables of a log that was found, in the arrays that were lent.
+use Prim.Native.Nat.{ℕ}
+use mathlib.Core.Bool.{Bool}
+use mathlib.Core.List.{List}
+use Rattle.geometry.specs.Geometry.{pieceOf, indexOf}
+use Rattle.layout.specs.Bounded.{at, best, listFrom}
+use Rattle.layout.specs.Word.{wordsOf}
+use Rattle.layout.specs.MapSector.{entryWords}
+use Rattle.volume.specs.Tables.{Tables, namedBy, usedBy}
+use Rattle.signed.specs.Signed.{pieceAt}
+
+-- The tables of these words, places and numbers: used are sector 0 and the sectors that they name.
+abbrev pub tablesNamed : ℕ → List ℕ → List ℕ → List ℕ → Tables
+tablesNamed l map places numbers =
+    record { entry = at map; place = at places; number = at numbers; isUsed = usedBy (namedBy l (at map) (at places)) }
+
+-- The live sectors of the pieces, up to number c, and their numbers.
+unfoldable pub livePlaces : (ℕ → Bool) → (ℕ → List ℕ) → ℕ → ℕ → ℕ → List ℕ
+livePlaces bits image c n pieces = listFrom (λ p. best (pieceAt bits image c p) n) 0 pieces
+
+unfoldable pub liveNumbers : (ℕ → Bool) → (ℕ → List ℕ) → ℕ → ℕ → ℕ → List ℕ
+liveNumbers bits image c n pieces = listFrom (λ p. pieceAt bits image c p (best (pieceAt bits image c p) n)) 0 pieces
+
+-- The map that live sectors hold.
+unfoldable pub mapFrom : (ℕ → List ℕ) → List ℕ → ℕ → List ℕ
+mapFrom image places l = listFrom (λ b. at (entryWords (wordsOf (image (at places (pieceOf b))))) (indexOf b)) 0 l

@@ -1,0 +1,37 @@
+// Whether tables that were found are sound.
+ghost use mathlib.Core.Path.{_≡_};
+ghost use mathlib.Core.Bool.{true};
+ghost use lib.ListN.{length};
+ghost use Rattle.geometry.specs.Geometry.{piecesFor, usedBytes, geometryFits};
+ghost use Rattle.layout.specs.Bounded.{at};
+ghost use Rattle.volume.specs.Tables.{bitAt, namedBy, usedBy, consistent};
+ghost use Rattle.log_tables.specs.LogTables.{tablesNamed};
+use geometry::Geometry;
+
+// Marks the sectors that the tables name in the used map, and says whether the tables are then sound.
+pub fn log_agrees(
+    n: u32,
+    l: u32,
+    map: &[u32],
+    places: &[u32],
+    numbers: &[u32],
+    used: &mut [u8],
+    tail: u32,
+    number: u32,
+) -> bool
+    requires { ⌜ geometryFits n l ≡ true ⌝ }
+    requires { ⌜ length (now map) ≡ l ⌝ }
+    requires { ⌜ length (now places) ≡ piecesFor l ⌝ }
+    requires { ⌜ length (now numbers) ≡ piecesFor l ⌝ }
+    requires { ⌜ length (now used) ≡ usedBytes n ⌝ }
+    ensures { λ r. ⌜ (r ≡ consistent n l (tablesNamed l (now (map .entry)) (now (places .entry)) (now (numbers .entry))) tail number) × (r ≡ true → bitAt (now (used .exit)) ≡ usedBy (namedBy l (at (now (map .entry))) (at (now (places .entry))))) ⌝ }
+{
+    fill::zero_bytes(used);
+    if !names::mark_names(used, n, l, map, places) {
+        return false;
+    }
+    if bits::count_free(used, n) < Geometry::pieces_for(l) {
+        return false;
+    }
+    numbers::numbers_agree(places, numbers, tail, number)
+}

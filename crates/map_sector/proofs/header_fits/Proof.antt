@@ -1,0 +1,58 @@
+-- The fields are words 2 to 7.
+use borrow.Author.Needs.{needs}
+use Rattle.layout.specs.Word.{wordsOf}
+use Rattle.map_sector.proofs.Maps.{header-words}
+use Rattle.map_sector.proofs.header_fits.Statement.{statement}
+use Rattle.map_sector.proofs.header_fits.Tie as tie
+
+word-at-requires : tie.Need-word-at-requires
+word-at-requires c κs = search needs
+
+word-at-requires-2 : tie.Need-word-at-requires-2
+word-at-requires-2 c κs = search needs
+
+word-at-requires-3 : tie.Need-word-at-requires-3
+word-at-requires-3 c κs = search needs
+
+word-at-requires-4 : tie.Need-word-at-requires-4
+word-at-requires-4 c κs = search needs
+
+word-at-requires-5 : tie.Need-word-at-requires-5
+word-at-requires-5 c κs = search needs
+
+word-at-requires-6 : tie.Need-word-at-requires-6
+word-at-requires-6 c κs = search needs
+
+fields-fit-requires : tie.Need-fields-fit-requires
+fields-fit-requires c κs = search needs
+
+returns : tie.Need-returns
+returns c =
+    let at-word-at6 = c .before in
+    let at-word-at5 = at-word-at6 .before in
+    let at-word-at4 = at-word-at5 .before in
+    let at-word-at3 = at-word-at4 .before in
+    let at-word-at2 = at-word-at3 .before in
+    let at-word-at = at-word-at2 .before in
+    let at-start = at-word-at .before .before in
+    let a = at-start .args in
+    header-words (a .l) (wordsOf (a .s .now)) _ _ _ _ _ _ _ (c .fields-fit .ensures)
+    (at-word-at .word-at .ensures)
+    (at-word-at2 .word-at2 .ensures)
+    (at-word-at3 .word-at3 .ensures)
+    (at-word-at4 .word-at4 .ensures)
+    (at-word-at5 .word-at5 .ensures)
+    (at-word-at6 .word-at6 .ensures)
+
+pub header-fits-spec : {M : Type 1} → statement M
+header-fits-spec =
+    tie.close
+    (tie.spec
+    word-at-requires
+    word-at-requires-2
+    word-at-requires-3
+    word-at-requires-4
+    word-at-requires-5
+    word-at-requires-6
+    fields-fit-requires
+    returns)

@@ -1,0 +1,154 @@
+// Map sectors: whether a sector is one ("signed"), what one says, and how one is made. Word 0 is the mark, 1 the balance, 2 the
+// number, 3 zero, 4 the piece, 5 the kind, 6 the count of branches, 7 L, 8 to 31 the branches, 32 to 127 the entries.
+ghost use mathlib.Core.Path.{_≡_};
+ghost use mathlib.Core.Bool.{true};
+ghost use Prim.Native.Nat.{_*_, _-_, _≤_, _<_};
+ghost use lib.ListN.{length, drop};
+ghost use lib.Dec.{eqb};
+ghost use Rattle.geometry.specs.Geometry.{sectorBytes, piecesFor, entriesPerPiece, branchRoom};
+ghost use Rattle.layout.specs.Bounded.{at, all, isZero};
+ghost use Rattle.layout.specs.Word.{wordsOf};
+ghost use Rattle.layout.specs.MapSector.{branchWords, entryWords, branchesFit, valid};
+ghost use Rattle.map_sector.specs.Header.{fieldsFit, headerFits};
+use geometry::Geometry;
+
+// The sector's number.
+pub fn number_of(s: &[u8]) -> u32
+    requires { ⌜ length (now s) ≡ sectorBytes ⌝ }
+    ensures { λ r. ⌜ r ≡ at (wordsOf (now (s .entry))) 2 ⌝ }
+{
+    words::word_at(s, 2)
+}
+
+pub fn piece_of(s: &[u8]) -> u32
+    requires { ⌜ length (now s) ≡ sectorBytes ⌝ }
+    ensures { λ r. ⌜ r ≡ at (wordsOf (now (s .entry))) 4 ⌝ }
+{
+    words::word_at(s, 4)
+}
+
+pub fn is_closing(s: &[u8]) -> bool
+    requires { ⌜ length (now s) ≡ sectorBytes ⌝ }
+    ensures { λ r. ⌜ r ≡ eqb (at (wordsOf (now (s .entry))) 5) 1 ⌝ }
+{
+    words::word_at(s, 5) == 1
+}
+
+pub fn branch_count(s: &[u8]) -> u32
+    requires { ⌜ length (now s) ≡ sectorBytes ⌝ }
+    ensures { λ r. ⌜ r ≡ at (wordsOf (now (s .entry))) 6 ⌝ }
+{
+    words::word_at(s, 6)
+}
+
+// Branch i: word 8 + i.
+pub fn branch_at(s: &[u8], i: usize) -> u32
+    requires { ⌜ length (now s) ≡ sectorBytes ⌝ }
+    requires { ⌜ i < branchRoom ⌝ }
+    ensures { λ r. ⌜ r ≡ at (branchWords (wordsOf (now (s .entry)))) i ⌝ }
+{
+    words::word_at(s, 8 + i)
+}
+
+// Entry i of the piece: word 32 + i.
+pub fn entry_at(s: &[u8], i: usize) -> u32
+    requires { ⌜ length (now s) ≡ sectorBytes ⌝ }
+    requires { ⌜ i < entriesPerPiece ⌝ }
+    ensures { λ r. ⌜ r ≡ at (entryWords (wordsOf (now (s .entry)))) i ⌝ }
+{
+    words::word_at(s, 32 + i)
+}
+
+fn fields_fit(
+    l: u32,
+    number: u32,
+    reserved: u32,
+    piece: u32,
+    kind: u32,
+    count: u32,
+    blocks: u32,
+) -> bool
+    ensures { λ r. ⌜ r ≡ fieldsFit l number reserved piece kind count blocks ⌝ }
+{
+    if number < 1 {
+        return false;
+    }
+    if reserved != 0 {
+        return false;
+    }
+    if Geometry::pieces_for(l) <= piece {
+        return false;
+    }
+    if 1 < kind {
+        return false;
+    }
+    if Geometry::BRANCHES < count {
+        return false;
+    }
+    blocks == l
+}
+
+// Whether words 2 to 7 are as in a map sector of a volume of l blocks.
+fn header_fits(s: &[u8], l: u32) -> bool
+    requires { ⌜ length (now s) ≡ sectorBytes ⌝ }
+    ensures { λ r. ⌜ r ≡ headerFits l (wordsOf (now (s .entry))) ⌝ }
+{
+    fields_fit(
+        l,
+        words::word_at(s, 2),
+        words::word_at(s, 3),
+        words::word_at(s, 4),
+        words::word_at(s, 5),
+        words::word_at(s, 6),
+        words::word_at(s, 7),
+    )
+}
+
+// Whether the branches are sectors from 1 to n - 1, and the unused ones zero.
+fn branches_fit(s: &[u8], n: u32) -> bool
+    requires { ⌜ length (now s) ≡ sectorBytes ⌝ }
+    requires { ⌜ 1 ≤ n ⌝ }
+    requires { ⌜ at (wordsOf (now s)) 6 ≤ branchRoom ⌝ }
+    ensures { λ r. ⌜ r ≡ branchesFit n (at (wordsOf (now (s .entry))) 6) (branchWords (wordsOf (now (s .entry)))) ⌝ }
+{
+    let count = words::word_at(s, 6) as usize;
+    let end = 8 + count;
+    if !words::words_within(s, 8, end, 1, n - 1) {
+        return false;
+    }
+    words::words_zero(s, end, 32)
+}
+
+// Whether the entries past block l - 1 are zero.
+fn entries_fit(s: &[u8], l: u32) -> bool
+    requires { ⌜ length (now s) ≡ sectorBytes ⌝ }
+    requires { ⌜ at (wordsOf (now s)) 4 < piecesFor l ⌝ }
+    ensures { λ r. ⌜ r ≡ all isZero (drop (l - entriesPerPiece * at (wordsOf (now (s .entry))) 4) (entryWords (wordsOf (now (s .entry))))) ⌝ }
+{
+    let held = l - Geometry::ENTRIES * words::word_at(s, 4);
+    if Geometry::ENTRIES <= held {
+        return true;
+    }
+    words::words_zero(s, 32 + held as usize, 128)
+}
+
+// Whether s is a map sector of a volume of n sectors and l blocks. Most sectors are decided by their first bytes.
+pub fn is_valid(s: &[u8], n: u32, l: u32) -> bool
+    requires { ⌜ length (now s) ≡ sectorBytes ⌝ }
+    requires { ⌜ 1 ≤ n ⌝ }
+    ensures { λ r. ⌜ r ≡ valid n l (now (s .entry)) (wordsOf (now (s .entry))) ⌝ }
+{
+    if !marks::starts_with(s, &marks::MAP_MARK) {
+        return false;
+    }
+    if sums::word_sum(s) != 0 {
+        return false;
+    }
+    if !header_fits(s, l) {
+        return false;
+    }
+    if !branches_fit(s, n) {
+        return false;
+    }
+    entries_fit(s, l)
+}

@@ -1,0 +1,86 @@
+// Live numbers, and the tail among them.
+ghost use mathlib.Core.Path.{_≡_};
+ghost use mathlib.Core.Bool.{_&&_};
+ghost use mathlib.Core.List.{[]};
+ghost use Prim.Native.Nat.{_<_};
+ghost use lib.ListN.{length};
+ghost use lib.Dec.{eqb, leb};
+ghost use Rattle.layout.specs.Bounded.{at, allBelow, best, elem, distinct, always, gathered};
+
+// Whether number i stands below i already.
+fn stands_before(numbers: &[u32], i: usize) -> bool
+    requires { ⌜ i < length (now numbers) ⌝ }
+    ensures { λ r. ⌜ r ≡ elem (at (now (numbers .entry)) i) (gathered always (at (now (numbers .entry))) [] i) ⌝ }
+{
+    let number = numbers[i];
+    let mut j = 0;
+    while j < i {
+        if numbers[j] == number {
+            return true;
+        }
+        j += 1;
+    }
+    false
+}
+
+// At most P x P / 2 steps.
+fn all_distinct(numbers: &[u32]) -> bool
+    ensures { λ r. ⌜ r ≡ distinct (gathered always (at (now (numbers .entry))) [] (length (now (numbers .entry)))) ⌝ }
+{
+    let mut i = 0;
+    while i < numbers.len() {
+        if stands_before(numbers, i) {
+            return false;
+        }
+        i += 1;
+    }
+    true
+}
+
+fn all_from_1(numbers: &[u32]) -> bool
+    ensures { λ r. ⌜ r ≡ allBelow (λ q. leb 1 (at (now (numbers .entry)) q)) (length (now (numbers .entry))) ⌝ }
+{
+    let mut i = 0;
+    while i < numbers.len() {
+        if numbers[i] < 1 {
+            return false;
+        }
+        i += 1;
+    }
+    true
+}
+
+// The index of the greatest number, of equal ones the lowest.
+pub fn newest(numbers: &[u32]) -> usize
+    requires { ⌜ 0 < length (now numbers) ⌝ }
+    ensures { λ r. ⌜ r ≡ best (at (now (numbers .entry))) (length (now (numbers .entry))) ⌝ }
+{
+    let mut found = 0;
+    let mut i = 0;
+    while i < numbers.len() {
+        if numbers[found] < numbers[i] {
+            found = i;
+        }
+        i += 1;
+    }
+    found
+}
+
+// Live numbers are distinct and from 1, and the tail is the place with the greatest.
+pub fn numbers_agree(places: &[u32], numbers: &[u32], tail: u32, number: u32) -> bool
+    requires { ⌜ 0 < length (now numbers) ⌝ }
+    requires { ⌜ length (now places) ≡ length (now numbers) ⌝ }
+    ensures { λ r. ⌜ r ≡ (distinct (gathered always (at (now (numbers .entry))) [] (length (now (numbers .entry)))) && allBelow (λ q. leb 1 (at (now (numbers .entry)) q)) (length (now (numbers .entry))) && eqb tail (at (now (places .entry)) (best (at (now (numbers .entry))) (length (now (numbers .entry))))) && eqb number (at (now (numbers .entry)) (best (at (now (numbers .entry))) (length (now (numbers .entry)))))) ⌝ }
+{
+    if !all_distinct(numbers) {
+        return false;
+    }
+    if !all_from_1(numbers) {
+        return false;
+    }
+    let q = newest(numbers);
+    if tail != places[q] {
+        return false;
+    }
+    number == numbers[q]
+}

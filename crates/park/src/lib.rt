@@ -1,0 +1,77 @@
+// The park call: the tail and its number go into sector 0, so that recovery can walk from there.
+ghost use mathlib.Core.Path.{_≡_};
+ghost use lib.ListN.{length};
+ghost use Rattle.volume.specs.Tables.{memory};
+ghost use Rattle.volume.specs.Refusals.{judged};
+ghost use Rattle.volume.specs.Store.{after, performed};
+ghost use Rattle.volume.specs.Calls.{parkChecks, parkAction, parkOf};
+ghost use Rattle.answer.specs.declared.Verdict.the-variants.{Pass};
+use answer::Answer;
+use answer::Refusal;
+use answer::Verdict;
+use state::Outcome;
+use state::State;
+
+// The refusals of a park, in their order.
+fn park_verdict(
+    s: State,
+    image: &[u8],
+    map: &[u32],
+    places: &[u32],
+    numbers: &[u32],
+    used: &[u8],
+) -> Verdict
+    ensures { λ r. ⌜ r ≡ judged (parkChecks s (memory (now (image .entry)) (now (map .entry)) (now (places .entry)) (now (numbers .entry)) (now (used .entry)))) ⌝ }
+{
+    if !checks::state_fits(s, image.len()) {
+        return Verdict::Refuse(Refusal::Size);
+    }
+    let n = s.n;
+    let l = s.l;
+    if !checks::tables_fit(n, l, map.len(), places.len(), numbers.len(), used.len()) {
+        return Verdict::Refuse(Refusal::BufferLength);
+    }
+    if !s.is_running() {
+        return Verdict::Refuse(Refusal::WrongPhase);
+    }
+    if !live_sectors::tables_agree(s, image, map, places, numbers, used) {
+        return Verdict::Refuse(Refusal::Inconsistent);
+    }
+    Verdict::Pass
+}
+
+// Stores the park record.
+pub fn park(
+    s: State,
+    image: &mut [u8],
+    map: &[u32],
+    places: &[u32],
+    numbers: &[u32],
+    used: &[u8],
+    allowance: u32,
+) -> Outcome
+    ensures { λ r. ⌜ after r (memory (now (image .exit)) (now (map .entry)) (now (places .entry)) (now (numbers .entry)) (now (used .entry))) ≡ parkOf s (memory (now (image .entry)) (now (map .entry)) (now (places .entry)) (now (numbers .entry)) (now (used .entry))) allowance ⌝ }
+{
+    let verdict = park_verdict(s, image, map, places, numbers, used);
+    match verdict {
+        Verdict::Refuse(refusal) => Outcome {
+            answer: Answer::Refused(refusal),
+            state: s,
+        },
+        Verdict::Pass => {
+            if allowance == 0 {
+                return Outcome {
+                    answer: Answer::PowerFailed { stores: 0 },
+                    state: s.cut(),
+                };
+            }
+            let number = s.number;
+            let tail = s.tail;
+            images::store_park(image, number, tail);
+            Outcome {
+                answer: Answer::Accepted { stores: 1 },
+                state: s.parked(),
+            }
+        }
+    }
+}

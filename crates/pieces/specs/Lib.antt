@@ -1,0 +1,2 @@
+-- A commit as the arrays of the code hold it.
+pub mod Arrays

@@ -1,0 +1,61 @@
+// Placing: where the sectors of a commit go.
+ghost use mathlib.Core.Path.{_≡_};
+ghost use mathlib.Core.List.{_++_};
+ghost use Prim.Native.Nat.{_*_, _≤_, _<_};
+ghost use lib.ListN.{length, drop};
+ghost use Rattle.layout.specs.Bounded.{listFrom};
+ghost use Rattle.volume.specs.Tables.{bitAt};
+ghost use Rattle.volume.specs.Placing.{base, sectorAfter, firstFree, placeOf};
+
+// The sector after k: upwards, and from n - 1 on to 1.
+fn sector_after(n: u32, k: u32) -> u32
+    requires { ⌜ k < n ⌝ }
+    ensures { λ r. ⌜ r ≡ sectorAfter n k ⌝ }
+{
+    if k + 1 < n {
+        return k + 1;
+    }
+    1
+}
+
+// The first free sector from start on.
+fn find_place(used: &[u8], n: u32, start: u32) -> u32
+    requires { ⌜ 1 < n ⌝ }
+    requires { ⌜ start < n ⌝ }
+    requires { ⌜ n ≤ 8 * length (now used) ⌝ }
+    ensures { λ r. ⌜ (r ≡ firstFree n (bitAt (now (used .entry))) n start) × (r < n) ⌝ }
+{
+    let mut k = start;
+    let mut steps = n;
+    let place = loop {
+        if steps == 0 {
+            break k;
+        }
+        if !bits::is_set(used, k as usize) {
+            break k;
+        }
+        k = sector_after(n, k);
+        steps -= 1;
+    };
+    place
+}
+
+// The sectors that a commit takes, in order. They are marked in a copy of the used map, so that none is taken twice and nothing
+// superseded is free; each search starts just after the last place, so that all of them are one sweep.
+pub fn find_places(used: &mut [u8], n: u32, head: u32, count: usize, places: &mut [u32])
+    requires { ⌜ 1 < n ⌝ }
+    requires { ⌜ head < n ⌝ }
+    requires { ⌜ n ≤ 8 * length (now used) ⌝ }
+    requires { ⌜ count ≤ length (now places) ⌝ }
+    ensures { λ _. ⌜ now (places .exit) ≡ listFrom (placeOf base n (bitAt (now (used .entry))) head) 0 count ++ drop count (now (places .entry)) ⌝ }
+{
+    let mut start = head;
+    let mut j = 0;
+    while j < count {
+        let place = find_place(used, n, start);
+        bits::set_bit(used, place as usize);
+        places[j] = place;
+        start = sector_after(n, place);
+        j += 1;
+    }
+}

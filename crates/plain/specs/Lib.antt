@@ -1,0 +1,2 @@
+-- States and results in plain numbers.
+pub mod Plain

@@ -1,0 +1,51 @@
+-- Document 01, "Numbers a call turns back with", for callers that know numbers alone: states, answers and phases.
+use Prim.Native.Nat.{ℕ}
+use mathlib.Core.Bool.{cond}
+use lib.Dec.{eqb}
+use Rattle.state.specs.declared.State.{State}
+use Rattle.state.specs.declared.Phase.{Phase}
+use Rattle.state.specs.declared.Phase.the-variants.{Running, Parked, Cut}
+use Rattle.state.specs.declared.Outcome.{Outcome}
+use Rattle.geometry.specs.Geometry.{within}
+use Rattle.answer.specs.Answer.{numberOf, storesOf, wayOf, readsOf}
+use Rattle.plain.specs.declared.CState.{CState}
+use Rattle.plain.specs.declared.CResult.{CResult}
+
+-- 0 running, 1 parked, 2 cut. Any other number is neither running nor readable, as cut is.
+abbrev pub phaseNumber : Phase → ℕ
+phaseNumber Running = 0
+phaseNumber Parked = 1
+phaseNumber Cut = 2
+
+unfoldable pub phaseOf : ℕ → Phase
+phaseOf number = cond (eqb number 0) Running (cond (eqb number 1) Parked Cut)
+
+abbrev pub stateOf : CState → State
+stateOf c = record { n = c .n; l = c .l; tail = c .tail; number = c .number; phase = phaseOf (c .phase) }
+
+abbrev pub plainOf : State → CState
+plainOf s = record { n = s .n; l = s .l; tail = s .tail; number = s .number; phase = phaseNumber (s .phase) }
+
+-- Numbers 1 to 7 leave the state as it came; any other answer has the state of the outcome.
+unfoldable pub stateLeft : CState → ℕ → State → CState
+stateLeft c number s = cond (within 1 7 number) c (plainOf s)
+
+abbrev pub joined : ℕ → ℕ → ℕ → ℕ → CState → CResult
+joined answer stores way read left =
+    record {
+      answer = answer;
+      stores = stores;
+      way = way;
+      read = read;
+      n = left .n;
+      l = left .l;
+      tail = left .tail;
+      number = left .number;
+      phase = left .phase;
+    }
+
+-- The numbers of an outcome, for a call that was handed the state c.
+unfoldable pub resultOf : CState → Outcome → CResult
+resultOf c o =
+    joined (numberOf (o .answer)) (storesOf (o .answer)) (wayOf (o .answer)) (readsOf (o .answer))
+    (stateLeft c (numberOf (o .answer)) (o .state))

@@ -1,0 +1,116 @@
+// A state and a result in plain numbers, as they cross to C.
+ghost use mathlib.Core.Path.{_≡_};
+ghost use Rattle.plain.specs.Plain.{phaseOf, phaseNumber, stateOf, plainOf, stateLeft, resultOf};
+use state::Outcome;
+use state::Phase;
+use state::State;
+
+// A volume's state. The phase is 0 running, 1 parked, 2 cut.
+#[repr(C)]
+pub struct CState {
+    pub n: u32,
+    pub l: u32,
+    pub tail: u32,
+    pub number: u32,
+    pub phase: u32,
+}
+
+// What a call hands back: its answer (0, or the number of the refusal), the stores it made, how a recovery found the log
+// (1 walk, 2 scan) and the sectors it read, and the state.
+#[repr(C)]
+pub struct CResult {
+    pub answer: u32,
+    pub stores: u32,
+    pub way: u32,
+    pub read: u32,
+    pub n: u32,
+    pub l: u32,
+    pub tail: u32,
+    pub number: u32,
+    pub phase: u32,
+}
+
+// A number that is no phase lets no call go on but format and recover, as cut does.
+fn phase_of(number: u32) -> Phase
+    ensures { λ r. ⌜ r ≡ phaseOf number ⌝ }
+{
+    if number == 0 {
+        return Phase::Running;
+    }
+    if number == 1 {
+        return Phase::Parked;
+    }
+    Phase::Cut
+}
+
+fn phase_number(phase: Phase) -> u32
+    ensures { λ r. ⌜ r ≡ phaseNumber phase ⌝ }
+{
+    match phase {
+        Phase::Running => 0,
+        Phase::Parked => 1,
+        Phase::Cut => 2,
+    }
+}
+
+pub fn state_of(c: CState) -> State
+    ensures { λ r. ⌜ r ≡ stateOf c ⌝ }
+{
+    let phase = phase_of(c.phase);
+    State {
+        n: c.n,
+        l: c.l,
+        tail: c.tail,
+        number: c.number,
+        phase,
+    }
+}
+
+fn plain_of(s: State) -> CState
+    ensures { λ r. ⌜ r ≡ plainOf s ⌝ }
+{
+    let came = s.phase;
+    let phase = phase_number(came);
+    CState {
+        n: s.n,
+        l: s.l,
+        tail: s.tail,
+        number: s.number,
+        phase,
+    }
+}
+
+// The state that goes back: after a refusal 1 to 7 it is the one that came, a number that is no phase too.
+fn state_left(c: CState, number: u32, s: State) -> CState
+    ensures { λ r. ⌜ r ≡ stateLeft c number s ⌝ }
+{
+    if number < 1 {
+        return plain_of(s);
+    }
+    if 7 < number {
+        return plain_of(s);
+    }
+    c
+}
+
+pub fn result_of(c: CState, o: Outcome) -> CResult
+    ensures { λ r. ⌜ r ≡ resultOf c o ⌝ }
+{
+    let given = o.answer;
+    let answer = given.number();
+    let stores = given.stores();
+    let way = given.way();
+    let read = given.sectors_read();
+    let left = state_left(c, answer, o.state);
+    CResult {
+        answer,
+        stores,
+        way,
+        read,
+        n: left.n,
+        l: left.l,
+        tail: left.tail,
+        number: left.number,
+        phase: left.phase,
+    }
+}

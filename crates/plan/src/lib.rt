@@ -1,0 +1,105 @@
+// The plan of a commit: which pieces it writes, the first member's branches, and the sectors that it takes. Nothing is stored and
+// no table is touched.
+ghost use mathlib.Core.Path.{_≡_};
+ghost use mathlib.Core.Bool.{true, cond, _||_};
+ghost use mathlib.Core.List.{[]};
+ghost use Prim.Native.Nat.{ℕ, _+_, _*_, _≤_, _<_};
+ghost use lib.ListN.{length, take, replicate};
+ghost use lib.Dec.{ltb};
+ghost use Rattle.geometry.specs.Geometry.{sectorBytes, piecesFor, usedBytes, geometryFits};
+ghost use Rattle.layout.specs.Bounded.{at, listFrom};
+ghost use Rattle.volume.specs.Tables.{bitAt, sectorAt, tablesOf};
+ghost use Rattle.volume.specs.Placing.{base, placeOf};
+ghost use Rattle.volume.specs.Commit.{planned};
+ghost use Rattle.volume.specs.Calls.{viewOf};
+ghost use Rattle.pieces.specs.Arrays.{flagged, changeOf, Live, Planning};
+use geometry::Geometry;
+use state::State;
+
+// How many branches the first member has, and how many members there are.
+pub struct Sizes {
+    pub branches: usize,
+    pub members: u32,
+}
+
+// A copy of the used map, in which the places can be marked.
+fn copy_used(used: &[u8], marks: &mut [u8])
+    requires { ⌜ length (now used) ≤ length (now marks) ⌝ }
+    requires { ⌜ now marks ≡ replicate (length (now marks)) 0 ⌝ }
+    ensures { λ _. ⌜ bitAt (now (marks .exit)) ≡ bitAt (now (used .entry)) ⌝ }
+{
+    let mut i = 0;
+    while i < used.len() {
+        marks[i] = used[i];
+        i += 1;
+    }
+}
+
+// With more than 24 branches listed, every piece is written and the first member has none.
+fn fold(written: &mut [u8], pieces: u32, listed: usize) -> usize
+    requires { ⌜ pieces ≤ length (now written) ⌝ }
+    ensures { λ r. ⌜ (r ≡ cond (ltb 24 listed) 0 listed) × (flagged (now (written .exit)) ≡ cond (ltb 24 listed) (λ q. ltb q pieces || flagged (now (written .entry)) q) (flagged (now (written .entry)))) ⌝ }
+{
+    if listed <= 24 {
+        return listed;
+    }
+    pieces::flag_all(written, pieces);
+    0
+}
+
+// The sectors that a commit takes, searched in a copy of the used map.
+fn take_sectors(used: &[u8], n: u32, head: u32, count: usize, taken: &mut [u32])
+    requires { ⌜ 1 < n ⌝ }
+    requires { ⌜ head < n ⌝ }
+    requires { ⌜ n ≤ 8 * length (now used) ⌝ }
+    requires { ⌜ length (now used) ≤ 8192 ⌝ }
+    requires { ⌜ count ≤ length (now taken) ⌝ }
+    ensures { λ _. ⌜ take count (now (taken .exit)) ≡ listFrom (placeOf base n (bitAt (now (used .entry))) head) 0 count ⌝ }
+{
+    let mut marks = [0u8; 8192];
+    copy_used(used, &mut marks);
+    placing::find_places(&mut marks, n, head, count, taken);
+}
+
+// Plans a commit of the named blocks with so many data sectors.
+pub fn plan(
+    s: State,
+    image: &[u8],
+    places: &[u32],
+    numbers: &[u32],
+    used: &[u8],
+    head: u32,
+    blocks: &[u32],
+    count: u32,
+    written: &mut [u8],
+    branches: &mut [u32],
+    taken: &mut [u32],
+) -> Sizes
+    requires { ⌜ geometryFits (s .n) (s .l) ≡ true ⌝ }
+    requires { ⌜ length (now image) ≡ sectorBytes * s .n ⌝ }
+    requires { ⌜ length (now places) ≡ piecesFor (s .l) ⌝ }
+    requires { ⌜ length (now numbers) ≡ piecesFor (s .l) ⌝ }
+    requires { ⌜ length (now used) ≡ usedBytes (s .n) ⌝ }
+    requires { ⌜ head < s .n ⌝ }
+    requires { ⌜ s .number ≤ 4294967039 ⌝ }
+    requires { ⌜ count ≤ 64 ⌝ }
+    requires { ⌜ ((i : ℕ) → i < length (now blocks) → at (now blocks) i < s .l) ⌝ }
+    requires { ⌜ Live (s .n) (s .l) (sectorAt (now image)) (at (now places)) (piecesFor (s .l)) ⌝ }
+    requires { ⌜ now written ≡ replicate 256 0 ⌝ }
+    requires { ⌜ length (now branches) ≡ 25 ⌝ }
+    requires { ⌜ length (now taken) ≡ 320 ⌝ }
+    ensures { λ r. ⌜ Planning (planned base s (tablesOf [] (now (places .entry)) (now (numbers .entry)) (now (used .entry))) (viewOf (s .n) (s .l) (sectorAt (now (image .entry)))) head (changeOf (now (blocks .entry)) [] count)) (r .branches) (r .members) (now (branches .exit)) (now (written .exit)) count (now (taken .exit)) ⌝ }
+{
+    let n = s.n;
+    let l = s.l;
+    let pieces = Geometry::pieces_for(l);
+    pieces::touch_pieces(written, blocks);
+    let listed = listing::list_branches(image, n, l, places, numbers, written, s.number, branches);
+    let first = fold(written, pieces, listed);
+    let members = pieces::count_flagged(written, pieces);
+    take_sectors(used, n, head, (count + members) as usize, taken);
+    Sizes {
+        branches: first,
+        members,
+    }
+}

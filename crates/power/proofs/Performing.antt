@@ -1,0 +1,45 @@
+-- From the stores that the code made to what the definition says of a storing call: the cut, and the memory that is left.
+use Prim.Native.Nat.{ℕ, _-_}
+use mathlib.Core.Path.{_≡_, refl, sym, _∙_, ap}
+use mathlib.Core.List.{List}
+use native.Mathlib.Omega.{arith}
+use lib.ListN.{length, take}
+use lib.Seq.{take-all}
+use Rattle.answer.specs.declared.Answer.the-variants.{PowerFailed}
+use Rattle.volume.specs.Tables.{Tables, Memory, memory, sectorAt, tablesOf}
+use Rattle.volume.specs.Store.{Store, applied, after, memoryWith, Action, performed}
+use Rattle.laws.proofs.Judged.{performed-cut, performed-whole}
+use Rattle.power.specs.declared.allowance.Power.the-variants.{Left, Failed}
+use Rattle.power.specs.Power.{powered}
+use Rattle.power.proofs.Runs.{failed-short, left-enough}
+
+-- The memory that a call leaves, by its parts.
+pub memory-left : (im mp pl nu us im′ mp′ pl′ nu′ us′ : List ℕ) (image : ℕ → List ℕ) (t : Tables)
+    → length im′ ≡ length im → length mp′ ≡ length mp → length pl′ ≡ length pl → length nu′ ≡ length nu → length us′ ≡ length us
+    → sectorAt im′ ≡ image → tablesOf mp′ pl′ nu′ us′ ≡ t
+    → memory im′ mp′ pl′ nu′ us′ ≡ memoryWith (memory im mp pl nu us) image t
+unfolding memory
+memory-left im mp pl nu us im′ mp′ pl′ nu′ us′ image t e1 e2 e3 e4 e5 i f =
+    ap (λ (q : Tables). record {
+      lengths = record { image = length im′; map = length mp′; places = length pl′; numbers = length nu′; used = length us′ };
+      image = sectorAt im′;
+      tables = q;
+    }) f ∙ rw (e1, e2, e3, e4, e5, i) refl
+
+-- A storing call by the stores that it made, and the memory that it left.
+module _ (allowance : ℕ) (a : Action) (m m′ : Memory) (image : ℕ → List ℕ) (made : image ≡ applied (take allowance (a .stores)) (m .image)) where
+  pub call-cut : Failed ≡ powered (length (a .stores)) allowance → m′ ≡ memoryWith m image (a .cutTables)
+      → after (record { answer = PowerFailed allowance; state = a .cutState }) m′ ≡ performed allowance a m
+  call-cut e f =
+      ap (after (record { answer = PowerFailed allowance; state = a .cutState })) (f ∙ ap (λ (i : ℕ → List ℕ). memoryWith m i (a .cutTables)) made)
+      ∙ sym (performed-cut allowance a m (failed-short (length (a .stores)) allowance e))
+
+  pub call-whole : (left : ℕ) → Left left ≡ powered (length (a .stores)) allowance → m′ ≡ memoryWith m image (a .tables)
+      → after (record { answer = (a .answer) (allowance - left); state = a .state }) m′ ≡ performed allowance a m
+  call-whole left e f =
+      let enough = left-enough (length (a .stores)) allowance left e in
+      let count : allowance - left ≡ length (a .stores) = omega arith in
+      ap (λ (k : ℕ). after (record { answer = (a .answer) k; state = a .state }) m′) count
+      ∙ ap (after (record { answer = (a .answer) (length (a .stores)); state = a .state }))
+      (f ∙ ap (λ (i : ℕ → List ℕ). memoryWith m i (a .tables)) (made ∙ ap (λ (zs : List Store). applied zs (m .image)) (take-all allowance (a .stores) (omega arith))))
+      ∙ sym (performed-whole allowance a m (omega arith))

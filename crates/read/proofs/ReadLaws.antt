@@ -1,0 +1,170 @@
+-- Which refusal a read meets, by the tests that led there; and what a read that meets none may rely on.
+use Prim.Native.Nat.{ℕ, _*_, _+_, _-_, _≤_, _<_}
+use mathlib.Core.Path.{_≡_, refl, sym, _∙_, ap}
+use mathlib.Core.Logic.{⊎-elim}
+use mathlib.Core.Bool.{Bool, true, false, not, _&&_}
+use mathlib.Core.List.{List}
+use native.Mathlib.Omega.{arith}
+use lib.ListN.{length}
+use lib.Dec.{eqb, ltb, leb}
+use borrow.Author.Tests.{eqb-true, eq-eqb, ne-eqb, lt-ltb, le-ltb, ltb-true, leb-true, le-leb, lt-leb, not-true, not-false}
+use Rattle.state.specs.declared.State.{State}
+use Rattle.answer.specs.declared.Refusal.{Refusal}
+use Rattle.answer.specs.declared.Answer.the-variants.{Accepted, Refused}
+use Rattle.answer.specs.declared.Refusal.the-variants.{Size, BufferLength, BlockNumbers, WrongPhase, Inconsistent}
+use Rattle.answer.specs.declared.Verdict.{Verdict}
+use Rattle.answer.specs.declared.Verdict.the-variants.{Pass, Refuse}
+use Rattle.geometry.specs.Geometry.{within, piecesFor, usedBytes, geometryFits}
+use Rattle.state.specs.State.{isReadable}
+use Rattle.layout.specs.Bounded.{at}
+use Rattle.layout.specs.Entry.{isEmpty, sectorOf, restored}
+use Rattle.volume.specs.Tables.{memory, sectorAt}
+use Rattle.volume.specs.Refusals.{judged}
+use Rattle.volume.specs.Format.{tablesFit}
+use Rattle.volume.specs.Calls.{stateFits, entryReadable, readChecks, blockOf, readJudged, readOf}
+use Rattle.checks.specs.Left.{readLeft}
+use Rattle.laws.proofs.Bounded.{and-l, and-r, or-cases}
+use Rattle.laws.proofs.Sizes.{fits}
+use Rattle.laws.proofs.Judged.{passes-first, passes-rest}
+use Rattle.checks.proofs.TestLaws.{StateTest, TablesTest}
+
+-- The test of one entry.
+pub entry-empty : (n entry : ℕ) → entry ≡ 0 → true ≡ entryReadable n entry
+unfolding entryReadable
+entry-empty n entry e = rw e refl
+
+pub entry-low : (n entry : ℕ) → (entry ≡ 0 → ⊥) → (k : ℕ) → k ≡ sectorOf entry → k < 1 → false ≡ entryReadable n entry
+unfolding entryReadable
+entry-low n entry d k e h = rw (ne-eqb entry 0 d, ← e, lt-leb 1 k h) refl
+
+pub entry-high : (n entry : ℕ) → (entry ≡ 0 → ⊥) → (k : ℕ) → k ≡ sectorOf entry → 1 ≤ k → leb k (n - 1) ≡ entryReadable n entry
+unfolding entryReadable
+entry-high n entry d k e h = rw (ne-eqb entry 0 d, ← e, le-leb 1 k h) refl
+
+module _ (s : State) (im mp pl nu us : List ℕ) (block out : ℕ) (b1 : Bool) (f1 : StateTest s im b1) where
+  abbrev verdict : Verdict
+  verdict = judged (readChecks s (memory im mp pl nu us) block out)
+
+  pub size-refused : not b1 ≡ true → Refuse Size ≡ verdict
+  unfolding readChecks stateFits memory judged
+  size-refused e = rw (sym f1 ∙ not-true b1 e) refl
+
+  module _ (e1 : not b1 ≡ false) (b2 : Bool) (f2 : TablesTest s mp pl nu us b2) where
+    pub tables-refused : not b2 ≡ true → Refuse BufferLength ≡ verdict
+    unfolding readChecks stateFits tablesFit memory judged
+    tables-refused e = rw (sym f1 ∙ not-false b1 e1, sym f2 ∙ not-true b2 e) refl
+
+    module _ (e2 : not b2 ≡ false) where
+      pub out-refused : (out ≡ 512 → ⊥) → Refuse BufferLength ≡ verdict
+      unfolding readChecks stateFits tablesFit memory judged
+      out-refused e = rw (sym f1 ∙ not-false b1 e1, sym f2 ∙ not-false b2 e2, ne-eqb out 512 e) refl
+
+      pub block-refused : out ≡ 512 → s .l ≤ block → Refuse BlockNumbers ≡ verdict
+      unfolding readChecks stateFits tablesFit memory judged
+      block-refused e h = rw (sym f1 ∙ not-false b1 e1, sym f2 ∙ not-false b2 e2, eq-eqb out 512 e, le-ltb block (s .l) h) refl
+
+      module _ (e3 : out ≡ 512) (h : block < s .l) (b3 : Bool) (f3 : b3 ≡ isReadable (s .phase)) where
+        pub phase-refused : not b3 ≡ true → Refuse WrongPhase ≡ verdict
+        unfolding readChecks stateFits tablesFit memory judged
+        phase-refused e =
+            rw (sym f1 ∙ not-false b1 e1, sym f2 ∙ not-false b2 e2, eq-eqb out 512 e3, lt-ltb block (s .l) h, sym f3 ∙ not-true b3 e) refl
+
+        module _ (e4 : not b3 ≡ false) (b4 : Bool) (f4 : b4 ≡ entryReadable (s .n) (at mp block)) where
+          pub entry-refused : not b4 ≡ true → Refuse Inconsistent ≡ verdict
+          unfolding readChecks stateFits tablesFit memory judged
+          entry-refused e =
+              rw (
+                sym f1 ∙ not-false b1 e1,
+                sym f2 ∙ not-false b2 e2,
+                eq-eqb out 512 e3,
+                lt-ltb block (s .l) h,
+                sym f3 ∙ not-false b3 e4,
+                sym f4 ∙ not-true b4 e,
+              )
+              refl
+
+          pub none-refused : not b4 ≡ false → Pass ≡ verdict
+          unfolding readChecks stateFits tablesFit memory judged
+          none-refused e =
+              rw (
+                sym f1 ∙ not-false b1 e1,
+                sym f2 ∙ not-false b2 e2,
+                eq-eqb out 512 e3,
+                lt-ltb block (s .l) h,
+                sym f3 ∙ not-false b3 e4,
+                sym f4 ∙ not-false b4 e,
+              )
+              refl
+
+  -- The map has L words.
+  pub map-length : not b1 ≡ false → (b2 : Bool) → TablesTest s mp pl nu us b2 → not b2 ≡ false → length mp ≡ s .l
+  map-length e1 b2 f2 e2 =
+      let c1 = eqb (length mp) (s .l) in
+      let c2 = eqb (length pl) (piecesFor (s .l)) in
+      let c3 = eqb (length nu) (piecesFor (s .l)) in
+      let c4 = eqb (length us) (usedBytes (s .n)) in
+      eqb-true (length mp) (s .l) (and-l c1 c2 (and-l (c1 && c2) c3 (and-l (c1 && c2 && c3) c4 (sym f2 ∙ not-false b2 e2))))
+
+  pub some-sectors : not b1 ≡ false → 1 ≤ s .n
+  some-sectors e =
+      let f = fits (s .n) (s .l) (and-r (eqb (length im) (512 * s .n)) (geometryFits (s .n) (s .l)) (sym f1 ∙ not-false b1 e)) in
+      let z = f .least in
+      omega arith
+
+-- What a read that meets no refusal relies on.
+pub record Readable (im mp : List ℕ) (block out : ℕ) : Type 0 where
+  pub in-map : block < length mp
+  pub in-image : 512 * sectorOf (at mp block) + 512 ≤ length im
+  pub whole : out ≡ 512
+
+entry-inside : (n entry : ℕ) → 1 ≤ n → entryReadable n entry ≡ true → sectorOf entry < n
+unfolding entryReadable
+entry-inside n entry some e =
+    ⊎-elim (λ (z : isEmpty entry ≡ true). rw (eqb-true entry 0 z) some)
+    (λ (z : within 1 (n - 1) (sectorOf entry) ≡ true).
+    let h = leb-true (sectorOf entry) (n - 1) (and-r (leb 1 (sectorOf entry)) (leb (sectorOf entry) (n - 1)) z) in
+    omega arith)
+    (or-cases (isEmpty entry) (within 1 (n - 1) (sectorOf entry)) e)
+
+pub readable : (s : State) (im mp pl nu us : List ℕ) (block out : ℕ) → Pass ≡ judged (readChecks s (memory im mp pl nu us) block out)
+    → Readable im mp block out
+unfolding readChecks stateFits tablesFit memory
+readable s im mp pl nu us block out e =
+    let p1 = sym e in
+    let p2 = passes-rest _ _ p1 in
+    let p3 = passes-rest _ _ p2 in
+    let p4 = passes-rest _ _ p3 in
+    let p5 = passes-rest _ _ p4 in
+    let sizes = not-false (eqb (length im) (512 * s .n) && geometryFits (s .n) (s .l)) (passes-first _ _ p1) in
+    let fit = fits (s .n) (s .l) (and-r (eqb (length im) (512 * s .n)) (geometryFits (s .n) (s .l)) sizes) in
+    let len = eqb-true (length im) (512 * s .n) (and-l (eqb (length im) (512 * s .n)) (geometryFits (s .n) (s .l)) sizes) in
+    let c1 = eqb (length mp) (s .l) in
+    let c2 = eqb (length pl) (piecesFor (s .l)) in
+    let c3 = eqb (length nu) (piecesFor (s .l)) in
+    let c4 = eqb (length us) (usedBytes (s .n)) in
+    let lens = not-false (c1 && c2 && c3 && c4 && eqb out 512) (passes-first _ _ p2) in
+    let map = eqb-true (length mp) (s .l) (and-l c1 c2 (and-l (c1 && c2) c3 (and-l (c1 && c2 && c3) c4 (and-l (c1 && c2 && c3 && c4) (eqb out 512) lens)))) in
+    let below = ltb-true block (s .l) (not-false (ltb block (s .l)) (passes-first _ _ p3)) in
+    let least = fit .least in
+    let inside = entry-inside (s .n) (at mp block) (omega arith) (not-false (entryReadable (s .n) (at mp block)) (passes-first _ _ p5)) in
+    record {
+      in-map = omega arith;
+      in-image = omega arith;
+      whole = eqb-true out 512 (and-r (c1 && c2 && c3 && c4) (eqb out 512) lens);
+    }
+
+-- The result of a read.
+pub read-refused : (s : State) (im mp pl nu us : List ℕ) (block : ℕ) (out : List ℕ) (r : Refusal)
+    → Refuse r ≡ judged (readChecks s (memory im mp pl nu us) block (length out))
+    → readLeft (record { answer = Refused r; state = s }) (memory im mp pl nu us) out ≡ readOf s (memory im mp pl nu us) block out
+unfolding readOf readJudged
+read-refused s im mp pl nu us block out r e = ap (λ (v : Verdict). readJudged v s (memory im mp pl nu us) block out) e
+
+pub read-done : (s : State) (im mp pl nu us : List ℕ) (block : ℕ) (out left : List ℕ)
+    → Pass ≡ judged (readChecks s (memory im mp pl nu us) block (length out))
+    → left ≡ restored (at mp block) (sectorAt im (sectorOf (at mp block)))
+    → readLeft (record { answer = Accepted 0; state = s }) (memory im mp pl nu us) left ≡ readOf s (memory im mp pl nu us) block out
+unfolding readOf readJudged blockOf memory
+read-done s im mp pl nu us block out left e f =
+    ap (λ (xs : List ℕ). readLeft (record { answer = Accepted 0; state = s }) (memory im mp pl nu us) xs) f
+    ∙ ap (λ (v : Verdict). readJudged v s (memory im mp pl nu us) block out) e

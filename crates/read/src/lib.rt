@@ -1,0 +1,116 @@
+// The read call: the block that an entry names, restored where it was stored flipped.
+ghost use mathlib.Core.Path.{_≡_};
+ghost use Prim.Native.Nat.{_*_, _≤_, _<_};
+ghost use lib.ListN.{length};
+ghost use Rattle.geometry.specs.Geometry.{sectorBytes};
+ghost use Rattle.layout.specs.Bounded.{at};
+ghost use Rattle.layout.specs.Entry.{sectorOf, restored};
+ghost use Rattle.volume.specs.Tables.{sectorAt, memory};
+ghost use Rattle.volume.specs.Refusals.{judged};
+ghost use Rattle.volume.specs.Calls.{entryReadable, readChecks, readOf};
+ghost use Rattle.checks.specs.Left.{readLeft};
+ghost use Rattle.answer.specs.declared.Verdict.the-variants.{Pass};
+use answer::Answer;
+use answer::Refusal;
+use answer::Verdict;
+use state::Outcome;
+use state::State;
+
+// Refusal 5 of a read: its own entry is empty, or names a sector from 1 to n - 1.
+fn entry_readable(n: u32, entry: u32) -> bool
+    requires { ⌜ 1 ≤ n ⌝ }
+    ensures { λ r. ⌜ r ≡ entryReadable n entry ⌝ }
+{
+    if entry == 0 {
+        return true;
+    }
+    let sector = blocks::sector_of(entry);
+    if sector < 1 {
+        return false;
+    }
+    sector <= n - 1
+}
+
+// The refusals of a read, in their order.
+fn read_verdict(
+    s: State,
+    image: &[u8],
+    map: &[u32],
+    places: &[u32],
+    numbers: &[u32],
+    used: &[u8],
+    block: u32,
+    out: usize,
+) -> Verdict
+    ensures { λ r. ⌜ r ≡ judged (readChecks s (memory (now (image .entry)) (now (map .entry)) (now (places .entry)) (now (numbers .entry)) (now (used .entry))) block out) ⌝ }
+{
+    if !checks::state_fits(s, image.len()) {
+        return Verdict::Refuse(Refusal::Size);
+    }
+    let n = s.n;
+    let l = s.l;
+    if !checks::tables_fit(n, l, map.len(), places.len(), numbers.len(), used.len()) {
+        return Verdict::Refuse(Refusal::BufferLength);
+    }
+    if out != 512 {
+        return Verdict::Refuse(Refusal::BufferLength);
+    }
+    if l <= block {
+        return Verdict::Refuse(Refusal::BlockNumbers);
+    }
+    if !s.is_readable() {
+        return Verdict::Refuse(Refusal::WrongPhase);
+    }
+    if !entry_readable(n, map[block as usize]) {
+        return Verdict::Refuse(Refusal::Inconsistent);
+    }
+    Verdict::Pass
+}
+
+// The block's bytes, where no refusal applies.
+fn fill(
+    s: State,
+    image: &[u8],
+    map: &[u32],
+    places: &[u32],
+    numbers: &[u32],
+    used: &[u8],
+    block: u32,
+    out: &mut [u8],
+)
+    requires { ⌜ Pass ≡ judged (readChecks s (memory (now image) (now map) (now places) (now numbers) (now used)) block (length (now out))) ⌝ }
+    ensures { λ _. ⌜ now (out .exit) ≡ restored (at (now (map .entry)) block) (sectorAt (now (image .entry)) (sectorOf (at (now (map .entry)) block))) ⌝ }
+{
+    let entry = map[block as usize];
+    let k = blocks::sector_of(entry) as usize;
+    blocks::restore_block(out, entry, images::sector(image, k));
+}
+
+// Fills out with a block: an accepted read changes only those 512 bytes.
+pub fn read(
+    s: State,
+    image: &[u8],
+    map: &[u32],
+    places: &[u32],
+    numbers: &[u32],
+    used: &[u8],
+    block: u32,
+    out: &mut [u8],
+) -> Outcome
+    ensures { λ r. ⌜ readLeft r (memory (now (image .entry)) (now (map .entry)) (now (places .entry)) (now (numbers .entry)) (now (used .entry))) (now (out .exit)) ≡ readOf s (memory (now (image .entry)) (now (map .entry)) (now (places .entry)) (now (numbers .entry)) (now (used .entry))) block (now (out .entry)) ⌝ }
+{
+    let verdict = read_verdict(s, image, map, places, numbers, used, block, out.len());
+    match verdict {
+        Verdict::Refuse(refusal) => Outcome {
+            answer: Answer::Refused(refusal),
+            state: s,
+        },
+        Verdict::Pass => {
+            fill(s, image, map, places, numbers, used, block, out);
+            Outcome {
+                answer: Answer::Accepted { stores: 0 },
+                state: s,
+            }
+        }
+    }
+}

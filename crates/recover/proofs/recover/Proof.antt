@@ -1,0 +1,63 @@
+-- A refused recovery hands everything back; otherwise it is the definition's.
+use mathlib.Core.Path.{sym, _∙_}
+use Rattle.checks.proofs.SizeLaws.{by-lengths}
+use Rattle.finding.proofs.RecoverLaws.{recover-refused, recover-passed}
+use borrow.Author.Needs.{needs}
+use Rattle.recover.proofs.recover.Statement.{statement}
+use Rattle.recover.proofs.recover.Tie as tie
+use Rattle.checks.proofs.size_verdict.Reads as size-verdict-reads
+
+size-verdict-requires : tie.Need-size-verdict-requires
+size-verdict-requires c κs = search needs
+
+enum-known-verdict : tie.Need-enum-known-verdict
+enum-known-verdict c = search needs
+
+enum-told : tie.Need-enum-told
+enum-told c = search needs
+
+find-requires : tie.Need-find-requires
+find-requires c κs =
+    let a = c .before .before .before .before .before .before .before .before .before .before .before .before .before .args in
+    sym (c .before .before .before .before .before .enum-told .given .1) ∙ c .before .before .before .before .before .before .before .size-verdict .ensures ∙ by-lengths (a .image .now) (a .map .now) (a .places .now) (a .numbers .now) (a .used .now) (a .l)
+
+returns : tie.Need-returns
+returns c =
+    let a = c .before .before .before .before .before .before .before .before .before .args in
+    recover-refused (a .s) (a .image .now) (a .map .now) (a .places .now) (a .numbers .now) (a .used .now) (a .l) (a .allowance) _ (sym (c .before .verdict .given .1) ∙ c .before .before .before .size-verdict .ensures ∙ by-lengths (a .image .now) (a .map .now) (a .places .now) (a .numbers .now) (a .used .now) (a .l))
+
+same-length : tie.Need-same-length
+same-length c = search needs
+
+same-length-2 : tie.Need-same-length-2
+same-length-2 c = search needs
+
+same-length-3 : tie.Need-same-length-3
+same-length-3 c = search needs
+
+same-length-4 : tie.Need-same-length-4
+same-length-4 c = search needs
+
+same-length-5 : tie.Need-same-length-5
+same-length-5 c = search needs
+
+returns-2 : tie.Need-returns-2
+returns-2 c =
+    let a = c .before .before .before .before .before .before .before .before .before .before .before .before .before .before .before .before .before .before .before .before .before .before .before .before .args in
+    recover-passed (a .s) (a .image .now) (a .map .now) (a .places .now) (a .numbers .now) (a .used .now) (a .l) (a .allowance) _ (sym (c .before .before .before .before .before .before .before .before .before .before .before .before .before .before .before .before .enum-told .given .1) ∙ c .before .before .before .before .before .before .before .before .before .before .before .before .before .before .before .before .before .before .size-verdict .ensures ∙ by-lengths (a .image .now) (a .map .now) (a .places .now) (a .numbers .now) (a .used .now) (a .l)) (c .before .before .before .before .before .before .before .before .before .before .find .ensures)
+
+pub recover-spec : {M : Type 1} → statement M
+recover-spec =
+    tie.close
+    (tie.spec
+    size-verdict-requires
+    enum-known-verdict
+    enum-told
+    find-requires
+    returns
+    same-length
+    same-length-2
+    same-length-3
+    same-length-4
+    same-length-5
+    returns-2)

@@ -1,0 +1,47 @@
+use Prim.Native.Nat.{_-_}
+use lib.ListN.{length}
+use mathlib.Core.Path.{_≡_}
+use borrow.Author.Needs.{needs}
+use Rattle.reference_board.proofs.board.fill_sector.Statement.{statement}
+use Rattle.reference_board.proofs.board.fill_sector.Tie as tie
+
+abbrev Inv-loop : tie.InvT-loop
+Inv-loop board₀ from k x i₀ board i = length board ≡ length board₀
+
+abbrev μ-loop : tie.MeasureT-loop
+μ-loop board₀ from k x i₀ board i = 128 - i
+
+loop-holds : tie.Need-loop-holds Inv-loop μ-loop
+loop-holds c = search needs
+
+put-word-requires : tie.Need-put-word-requires Inv-loop μ-loop
+put-word-requires c κs = search needs
+
+add-i : tie.Need-add-i Inv-loop μ-loop
+add-i c = search needs
+
+loop-less : tie.Need-loop-less Inv-loop μ-loop
+loop-less c = search needs
+
+loop-again : tie.Need-loop-again Inv-loop μ-loop
+loop-again c = search needs
+
+same-length : tie.Need-same-length Inv-loop μ-loop
+same-length c = search needs
+
+returns : tie.Need-returns Inv-loop μ-loop
+returns c = search needs
+
+pub fill-sector-spec : {M : Type 1} → statement M
+fill-sector-spec =
+    tie.close
+    (tie.spec
+    Inv-loop
+    μ-loop
+    loop-holds
+    put-word-requires
+    add-i
+    loop-less
+    loop-again
+    same-length
+    returns)

@@ -1,0 +1,53 @@
+use Prim.Native.Nat.{_-_}
+use borrow.Author.Needs.{needs}
+use Rattle.reference_board.proofs.consistent.entries_agree.Statement.{statement}
+use Rattle.reference_board.proofs.consistent.entries_agree.Tie as tie
+
+abbrev Inv-loop : tie.InvT-loop
+Inv-loop b k q l i₀ i = Unit {0}
+
+abbrev μ-loop : tie.MeasureT-loop
+μ-loop b k q l i₀ i = l - i
+
+loop-holds : tie.Need-loop-holds Inv-loop μ-loop
+loop-holds c = search needs
+
+get-requires : tie.Need-get-requires Inv-loop μ-loop
+get-requires c κs = search needs
+
+add-word : tie.Need-add-word Inv-loop μ-loop
+add-word c = search needs
+
+word-requires : tie.Need-word-requires Inv-loop μ-loop
+word-requires c κs = search needs
+
+returns : tie.Need-returns Inv-loop μ-loop
+returns c = search needs
+
+add-i : tie.Need-add-i Inv-loop μ-loop
+add-i c = search needs
+
+loop-less : tie.Need-loop-less Inv-loop μ-loop
+loop-less c = search needs
+
+loop-again : tie.Need-loop-again Inv-loop μ-loop
+loop-again c = search needs
+
+returns-2 : tie.Need-returns-2 Inv-loop μ-loop
+returns-2 c = search needs
+
+pub entries-agree-spec : {M : Type 1} → statement M
+entries-agree-spec =
+    tie.close
+    (tie.spec
+    Inv-loop
+    μ-loop
+    loop-holds
+    get-requires
+    add-word
+    word-requires
+    returns
+    add-i
+    loop-less
+    loop-again
+    returns-2)

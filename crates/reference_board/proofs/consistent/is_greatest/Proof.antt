@@ -1,0 +1,45 @@
+use Prim.Native.Nat.{_-_}
+use borrow.Author.Needs.{needs}
+use Rattle.reference_board.proofs.consistent.is_greatest.Statement.{statement}
+use Rattle.reference_board.proofs.consistent.is_greatest.Tie as tie
+
+abbrev Inv-loop : tie.InvT-loop
+Inv-loop b t p number q₀ q = Unit {0}
+
+abbrev μ-loop : tie.MeasureT-loop
+μ-loop b t p number q₀ q = p - q
+
+loop-holds : tie.Need-loop-holds Inv-loop μ-loop
+loop-holds c = search needs
+
+number-at-requires : tie.Need-number-at-requires Inv-loop μ-loop
+number-at-requires c κs = search needs
+
+returns : tie.Need-returns Inv-loop μ-loop
+returns c = search needs
+
+add-q : tie.Need-add-q Inv-loop μ-loop
+add-q c = search needs
+
+loop-less : tie.Need-loop-less Inv-loop μ-loop
+loop-less c = search needs
+
+loop-again : tie.Need-loop-again Inv-loop μ-loop
+loop-again c = search needs
+
+returns-2 : tie.Need-returns-2 Inv-loop μ-loop
+returns-2 c = search needs
+
+pub is-greatest-spec : {M : Type 1} → statement M
+is-greatest-spec =
+    tie.close
+    (tie.spec
+    Inv-loop
+    μ-loop
+    loop-holds
+    number-at-requires
+    returns
+    add-q
+    loop-less
+    loop-again
+    returns-2)

@@ -1,0 +1,53 @@
+use Prim.Native.Nat.{_-_}
+use borrow.Author.Needs.{needs}
+use Rattle.reference_board.proofs.consistent.numbers_fit.Statement.{statement}
+use Rattle.reference_board.proofs.consistent.numbers_fit.Tie as tie
+
+abbrev Inv-loop : tie.InvT-loop
+Inv-loop b t p q₀ q = Unit {0}
+
+abbrev μ-loop : tie.MeasureT-loop
+μ-loop b t p q₀ q = p - q
+
+loop-holds : tie.Need-loop-holds Inv-loop μ-loop
+loop-holds c = search needs
+
+number-at-requires : tie.Need-number-at-requires Inv-loop μ-loop
+number-at-requires c κs = search needs
+
+returns : tie.Need-returns Inv-loop μ-loop
+returns c = search needs
+
+has-equal-requires : tie.Need-has-equal-requires Inv-loop μ-loop
+has-equal-requires c κs = search needs
+
+returns-2 : tie.Need-returns-2 Inv-loop μ-loop
+returns-2 c = search needs
+
+add-q : tie.Need-add-q Inv-loop μ-loop
+add-q c = search needs
+
+loop-less : tie.Need-loop-less Inv-loop μ-loop
+loop-less c = search needs
+
+loop-again : tie.Need-loop-again Inv-loop μ-loop
+loop-again c = search needs
+
+returns-3 : tie.Need-returns-3 Inv-loop μ-loop
+returns-3 c = search needs
+
+pub numbers-fit-spec : {M : Type 1} → statement M
+numbers-fit-spec =
+    tie.close
+    (tie.spec
+    Inv-loop
+    μ-loop
+    loop-holds
+    number-at-requires
+    returns
+    has-equal-requires
+    returns-2
+    add-q
+    loop-less
+    loop-again
+    returns-3)

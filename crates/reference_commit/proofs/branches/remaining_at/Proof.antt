@@ -1,0 +1,53 @@
+use Prim.Native.Nat.{_-_}
+use borrow.Author.Needs.{needs}
+use Rattle.reference_commit.proofs.branches.remaining_at.Statement.{statement}
+use Rattle.reference_commit.proofs.branches.remaining_at.Tie as tie
+
+abbrev Inv-loop : tie.InvT-loop
+Inv-loop b k p q₀ q = Unit {0}
+
+abbrev μ-loop : tie.MeasureT-loop
+μ-loop b k p q₀ q = p - q
+
+loop-holds : tie.Need-loop-holds Inv-loop μ-loop
+loop-holds c = search needs
+
+is-touched-requires : tie.Need-is-touched-requires Inv-loop μ-loop
+is-touched-requires c κs = search needs
+
+plus-requires : tie.Need-plus-requires Inv-loop μ-loop
+plus-requires c κs = search needs
+
+get-requires : tie.Need-get-requires Inv-loop μ-loop
+get-requires c κs = search needs
+
+returns : tie.Need-returns Inv-loop μ-loop
+returns c = search needs
+
+add-q : tie.Need-add-q Inv-loop μ-loop
+add-q c = search needs
+
+loop-less : tie.Need-loop-less Inv-loop μ-loop
+loop-less c = search needs
+
+loop-again : tie.Need-loop-again Inv-loop μ-loop
+loop-again c = search needs
+
+returns-2 : tie.Need-returns-2 Inv-loop μ-loop
+returns-2 c = search needs
+
+pub remaining-at-spec : {M : Type 1} → statement M
+remaining-at-spec =
+    tie.close
+    (tie.spec
+    Inv-loop
+    μ-loop
+    loop-holds
+    is-touched-requires
+    plus-requires
+    get-requires
+    returns
+    add-q
+    loop-less
+    loop-again
+    returns-2)

@@ -1,0 +1,45 @@
+use Prim.Native.Nat.{_-_}
+use borrow.Author.Needs.{needs}
+use Rattle.reference_commit.proofs.changes.touched_count.Statement.{statement}
+use Rattle.reference_commit.proofs.changes.touched_count.Tie as tie
+
+abbrev Inv-loop : tie.InvT-loop
+Inv-loop b p count₀ q₀ count q = Unit {0}
+
+abbrev μ-loop : tie.MeasureT-loop
+μ-loop b p count₀ q₀ count q = p - q
+
+loop-holds : tie.Need-loop-holds Inv-loop μ-loop
+loop-holds c = search needs
+
+get-requires : tie.Need-get-requires Inv-loop μ-loop
+get-requires c κs = search needs
+
+plus-requires : tie.Need-plus-requires Inv-loop μ-loop
+plus-requires c κs = search needs
+
+add-q : tie.Need-add-q Inv-loop μ-loop
+add-q c = search needs
+
+loop-less : tie.Need-loop-less Inv-loop μ-loop
+loop-less c = search needs
+
+loop-again : tie.Need-loop-again Inv-loop μ-loop
+loop-again c = search needs
+
+returns : tie.Need-returns Inv-loop μ-loop
+returns c = search needs
+
+pub touched-count-spec : {M : Type 1} → statement M
+touched-count-spec =
+    tie.close
+    (tie.spec
+    Inv-loop
+    μ-loop
+    loop-holds
+    get-requires
+    plus-requires
+    add-q
+    loop-less
+    loop-again
+    returns)

@@ -1,0 +1,3 @@
+// The second implementation: the plan of a commit.
+pub mod branches;
+pub mod changes;

@@ -1,0 +1,47 @@
+use Prim.Native.Nat.{_-_}
+use lib.ListN.{length}
+use mathlib.Core.Path.{_≡_}
+use borrow.Author.Needs.{needs}
+use Rattle.reference_recovery.proofs.scanned.list_all_uncommitted.Statement.{statement}
+use Rattle.reference_recovery.proofs.scanned.list_all_uncommitted.Tie as tie
+
+abbrev Inv-loop : tie.InvT-loop
+Inv-loop b₀ c n l k₀ b k = length b ≡ length b₀
+
+abbrev μ-loop : tie.MeasureT-loop
+μ-loop b₀ c n l k₀ b k = n - k
+
+loop-holds : tie.Need-loop-holds Inv-loop μ-loop
+loop-holds c = search needs
+
+list-uncommitted-requires : tie.Need-list-uncommitted-requires Inv-loop μ-loop
+list-uncommitted-requires c κs = search needs
+
+add-k : tie.Need-add-k Inv-loop μ-loop
+add-k c = search needs
+
+loop-less : tie.Need-loop-less Inv-loop μ-loop
+loop-less c = search needs
+
+loop-again : tie.Need-loop-again Inv-loop μ-loop
+loop-again c = search needs
+
+same-length : tie.Need-same-length Inv-loop μ-loop
+same-length c = search needs
+
+returns : tie.Need-returns Inv-loop μ-loop
+returns c = search needs
+
+pub list-all-uncommitted-spec : {M : Type 1} → statement M
+list-all-uncommitted-spec =
+    tie.close
+    (tie.spec
+    Inv-loop
+    μ-loop
+    loop-holds
+    list-uncommitted-requires
+    add-k
+    loop-less
+    loop-again
+    same-length
+    returns)

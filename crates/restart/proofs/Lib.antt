@@ -1,2 +1,0 @@
--- Laws of the definitions that the proof of recover cites.
-pub mod RecoverLaws

@@ -1,2 +1,0 @@
-// The recover call.
-pub mod recover;

@@ -1,0 +1,1 @@
+// The sample volumes of document 01, computed from the definitions. There is no code here.

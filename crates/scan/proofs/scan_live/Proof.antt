@@ -1,0 +1,91 @@
+use Rattle.signed.proofs.ViewLaws.{signed-piece}
+use Rattle.scan.proofs.ScanLaws.{place-inside, are-places, are-numbers, is-map}
+-- The live sectors are found in tables of zeros, and each lies in the image.
+use Prim.Native.Nat.{ℕ, _-_}
+use mathlib.Core.Path.{_≡_, sym, _∙_, ap}
+use mathlib.Core.Bool.{Bool}
+use native.Mathlib.Omega.{arith}
+use lib.ListN.{length, replicate}
+use Rattle.volume.specs.Tables.{sectorAt, bitAt}
+use Rattle.signed.proofs.ViewLaws.{signed-piece}
+use Rattle.scan.proofs.ScanLaws.{place-inside}
+use borrow.Author.Needs.{needs}
+use Rattle.scan.proofs.scan_live.Statement.{statement}
+use Rattle.scan.proofs.scan_live.Tie as tie
+
+zero-words-requires : tie.Need-zero-words-requires
+zero-words-requires c κs = search needs
+
+zero-words-requires-2 : tie.Need-zero-words-requires-2
+zero-words-requires-2 c κs = search needs
+
+find-live-requires : tie.Need-find-live-requires
+find-live-requires c κs =
+    let a = c .before .before .before .before .before .before .before .before .before .before .before .before .before .before .before .args in
+    let p = c .before .before .before .before .before .before .before .before .before .before .before .before .before .before .before .pre in
+    let k1 = c .before .before .before .before .before .before .before .before .zero-words .kept .0 in
+    let p1 = p .1 .1 .1 .1 .1 .0 in
+    let p2 = p .1 .1 .1 .1 .1 .1 in
+    let e : length (a .numbers .now) ≡ length (c .before .before .before .before .before .before .before .before .zero-words .last .0) = omega arith in (
+      p .0,
+      (
+        p .1 .0,
+        (
+          p .1 .1 .0,
+          (
+            c .before .before .before .before .before .before .before .before .zero-words .ensures ∙ ap (λ (x : ℕ). replicate x 0) (sym k1),
+            (
+              c .before .before .before .before .zero-words2 .ensures ∙ ap (λ (x : ℕ). replicate x 0) e,
+              λ k z.
+                  let h = signed-piece (a .n) (a .l) (sectorAt (a .image .now)) k (sym (ap (λ (f : ℕ → Bool). f k) (p .1 .1 .1 .0)) ∙ z) in
+                  omega arith,
+            ),
+          ),
+        ),
+      ),
+    )
+
+fill-map-requires : tie.Need-fill-map-requires
+fill-map-requires c κs =
+    let a = c .before .before .before .before .before .before .before .before .before .before .before .before .before .before .before .before .before .before .before .before .before .before .args in
+    let p = c .before .before .before .before .before .before .before .before .before .before .before .before .before .before .before .before .before .before .before .before .before .before .pre in
+    let k1 = c .before .before .before .before .before .before .before .before .before .before .before .before .before .before .before .zero-words .kept .0 in let p1 = p .1 .1 .1 .1 .1 .0 in
+    let k2 = c .before .before .before .before .before .before .find-live .kept .1 .1 .1 .1 .0 in
+    let m1 = p .1 .1 .1 .1 .0 in
+    let i1 = p .1 .0 in
+    let e = are-places (a .n) (a .l) (sectorAt (a .image .now)) (bitAt (a .marks .now)) (p .1 .1 .1 .0) (a .c) _ _ (k1 ∙ p1) (c .before .before .before .before .before .before .find-live .ensures .0) in (
+      omega arith,
+      λ q h. let b = place-inside (a .n) (a .l) (sectorAt (a .image .now)) (bitAt (a .marks .now)) (p .1 .1 .1 .0) (a .c) q _ (p .0) e (omega arith) in omega arith,
+    )
+
+same-length : tie.Need-same-length
+same-length c = search needs
+
+same-length-2 : tie.Need-same-length-2
+same-length-2 c = search needs
+
+same-length-3 : tie.Need-same-length-3
+same-length-3 c = search needs
+
+returns : tie.Need-returns
+returns c =
+    let a = c .before .before .before .before .before .before .before .before .before .before .before .before .before .before .before .before .before .before .before .before .before .before .before .before .before .args in
+    let p = c .before .before .before .before .before .before .before .before .before .before .before .before .before .before .before .before .before .before .before .before .before .before .before .before .before .pre in
+    let k1 = c .before .before .before .before .before .before .before .before .before .before .before .before .before .before .before .before .before .before .zero-words .kept .0 in let p1 = p .1 .1 .1 .1 .1 .0 in (
+      are-places (a .n) (a .l) (sectorAt (a .image .now)) (bitAt (a .marks .now)) (p .1 .1 .1 .0) (a .c) _ _ (k1 ∙ p1) (c .before .before .before .before .before .before .before .before .before .find-live .ensures .0),
+      are-numbers (a .n) (a .l) (sectorAt (a .image .now)) (bitAt (a .marks .now)) (p .1 .1 .1 .0) (a .c) _ _ (k1 ∙ p1) (c .before .before .before .before .before .before .before .before .before .find-live .ensures .1),
+      is-map (sectorAt (a .image .now)) _ _ _ (a .l) (p .1 .1 .1 .1 .0) (c .before .before .fill-map .ensures),
+    )
+
+pub scan-live-spec : {M : Type 1} → statement M
+scan-live-spec =
+    tie.close
+    (tie.spec
+    zero-words-requires
+    zero-words-requires-2
+    find-live-requires
+    fill-map-requires
+    same-length
+    same-length-2
+    same-length-3
+    returns)

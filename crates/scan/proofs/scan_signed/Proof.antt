@@ -1,0 +1,96 @@
+-- Each return, by a law of ScanLaws.
+use Prim.Native.Nat.{_-_}
+use native.Mathlib.Omega.{arith}
+use Rattle.volume.specs.Tables.{sectorAt, bitAt}
+use Rattle.laws.proofs.Bounded.{best-below}
+use Rattle.signed.specs.Signed.{closingAt}
+use Rattle.soundness.proofs.Sounding.{sectors-some}
+use Rattle.scan.proofs.ScanLaws.{tail-newest, scan-none, scan-damaged, scan-finds}
+use borrow.Author.Needs.{needs}
+use Rattle.scan.proofs.scan_signed.Statement.{statement}
+use Rattle.scan.proofs.scan_signed.Tie as tie
+
+newest-closing-requires : tie.Need-newest-closing-requires
+newest-closing-requires c κs = let a = c .before .before .before .before .before .before .before .args in let p = c .before .before .before .before .before .before .before .pre in let s = sectors-some (a .n) (a .l) (p .0) in (omega arith, (p .1 .0, p .1 .1 .0))
+
+closing-at-requires : tie.Need-closing-at-requires
+closing-at-requires c κs =
+    let a = c .before .before .before .before .before .before .before .before .args in
+    let p = c .before .before .before .before .before .before .before .before .pre in
+    let s = sectors-some (a .n) (a .l) (p .0) in
+    let i = p .1 .0 in
+    let m = p .1 .1 .0 in
+    let e = c .newest-closing .ensures in
+    let b = best-below (closingAt (bitAt (a .marks .now)) (sectorAt (a .image .now))) (a .n) (omega arith) in
+    (omega arith, omega arith)
+
+returns : tie.Need-returns
+returns c = let a = c .before .before .before .before .before .before .before .before .before .before .args in let p = c .before .before .before .before .before .before .before .before .before .before .pre in scan-none (a .n) (a .l) (sectorAt (a .image .now)) (bitAt (a .marks .now)) (p .1 .1 .1 .0) (c .before .before .newest-closing .result) (c .before .closing-at .result) (c .before .before .newest-closing .ensures) (c .before .closing-at .ensures) (c .if1 .taken) _ _
+
+mark-above-requires : tie.Need-mark-above-requires
+mark-above-requires c κs = search needs
+
+scan-tables-requires : tie.Need-scan-tables-requires
+scan-tables-requires c κs =
+    let a = c .before .before .before .before .before .before .before .before .before .before .before .before .before .before .before .before .before .before .args in
+    let p = c .before .before .before .before .before .before .before .before .before .before .before .before .before .before .before .before .before .before .pre in
+    let q = p .1 .1 .1 .1 in
+    (p .0, (p .1 .0, (p .1 .1 .0, (p .1 .1 .1 .0, (tail-newest (a .n) (a .l) (sectorAt (a .image .now)) (bitAt (a .marks .now)) (p .1 .1 .1 .0) (c .before .before .before .before .before .before .before .before .before .before .newest-closing .result) (c .before .before .before .before .before .before .before .before .before .closing-at .result) (c .before .before .before .before .before .before .before .before .before .before .newest-closing .ensures) (c .before .before .before .before .before .before .before .before .before .closing-at .ensures), (q .0, (q .1 .0, (q .1 .1 .0, q .1 .1 .1 .0))))))))
+
+same-length : tie.Need-same-length
+same-length c = search needs
+
+same-length-2 : tie.Need-same-length-2
+same-length-2 c = search needs
+
+same-length-3 : tie.Need-same-length-3
+same-length-3 c = search needs
+
+same-length-4 : tie.Need-same-length-4
+same-length-4 c = search needs
+
+same-length-5 : tie.Need-same-length-5
+same-length-5 c = search needs
+
+returns-2 : tie.Need-returns-2
+returns-2 c = let a = c .before .before .before .before .before .before .before .before .before .before .before .before .before .before .before .before .before .before .before .before .before .before .before .before .before .before .before .before .args in let p = c .before .before .before .before .before .before .before .before .before .before .before .before .before .before .before .before .before .before .before .before .before .before .before .before .before .before .before .before .pre in scan-damaged (a .n) (a .l) (sectorAt (a .image .now)) (bitAt (a .marks .now)) (p .1 .1 .1 .0) (c .before .before .before .before .before .before .before .before .before .before .before .before .before .before .before .before .before .before .before .before .newest-closing .result) (c .before .before .before .before .before .before .before .before .before .before .before .before .before .before .before .before .before .before .before .closing-at .result) (c .before .before .before .before .before .before .before .before .before .before .before .before .before .before .before .before .before .before .before .before .newest-closing .ensures) (c .before .before .before .before .before .before .before .before .before .before .before .before .before .before .before .before .before .before .before .closing-at .ensures) (c .before .before .before .before .before .before .before .before .before .before .before .before .before .before .before .before .before .before .if1 .left) (c .before .before .before .before .before .before .before .before .before .scan-tables .result) _ (c .before .before .before .before .before .before .before .before .before .scan-tables .ensures) (c .if2 .taken) _
+
+same-length-6 : tie.Need-same-length-6
+same-length-6 c = search needs
+
+same-length-7 : tie.Need-same-length-7
+same-length-7 c = search needs
+
+same-length-8 : tie.Need-same-length-8
+same-length-8 c = search needs
+
+same-length-9 : tie.Need-same-length-9
+same-length-9 c = search needs
+
+same-length-10 : tie.Need-same-length-10
+same-length-10 c = search needs
+
+returns-3 : tie.Need-returns-3
+returns-3 c = let a = c .before .before .before .before .before .before .before .before .before .before .before .before .before .before .before .before .before .before .before .before .before .before .before .before .before .before .before .before .args in let p = c .before .before .before .before .before .before .before .before .before .before .before .before .before .before .before .before .before .before .before .before .before .before .before .before .before .before .before .before .pre in scan-finds (a .n) (a .l) (sectorAt (a .image .now)) (bitAt (a .marks .now)) (p .1 .1 .1 .0) (c .before .before .before .before .before .before .before .before .before .before .before .before .before .before .before .before .before .before .before .before .newest-closing .result) (c .before .before .before .before .before .before .before .before .before .before .before .before .before .before .before .before .before .before .before .closing-at .result) (c .before .before .before .before .before .before .before .before .before .before .before .before .before .before .before .before .before .before .before .before .newest-closing .ensures) (c .before .before .before .before .before .before .before .before .before .before .before .before .before .before .before .before .before .before .before .closing-at .ensures) (c .before .before .before .before .before .before .before .before .before .before .before .before .before .before .before .before .before .before .if1 .left) (c .before .before .before .before .before .before .before .before .before .scan-tables .result) _ (c .before .before .before .before .before .before .before .before .before .scan-tables .ensures) (c .if2 .left) _ (c .before .before .before .before .before .before .before .before .before .before .before .before .before .before .before .before .mark-above .ensures)
+
+pub scan-signed-spec : {M : Type 1} → statement M
+scan-signed-spec =
+    tie.close
+    (tie.spec
+    newest-closing-requires
+    closing-at-requires
+    returns
+    mark-above-requires
+    scan-tables-requires
+    same-length
+    same-length-2
+    same-length-3
+    same-length-4
+    same-length-5
+    returns-2
+    same-length-6
+    same-length-7
+    same-length-8
+    same-length-9
+    same-length-10
+    returns-3)

@@ -1,0 +1,2 @@
+-- What a scan found, as the code has it.
+pub mod Scanned

@@ -1,0 +1,107 @@
+-- The places of the written pieces below p are free.
+use borrow.Author.Needs.{needs}
+use Prim.Native.Nat.{ℕ, _-_, _≤_}
+use mathlib.Core.Path.{_≡_, refl, _∙_, ap}
+use mathlib.Core.Bool.{Bool}
+use native.Mathlib.Omega.{arith}
+use lib.ListN.{length}
+use Rattle.layout.specs.Bounded.{at}
+use Rattle.volume.specs.Tables.{bitAt}
+use Rattle.pieces.specs.Arrays.{flagged, without}
+use Rattle.store.proofs.StoreLaws.{is-flagged, not-flagged}
+use Rattle.settle.proofs.SettleLaws.{without-none, without-hit, without-miss}
+use Rattle.settle.proofs.free_places.Statement.{statement}
+use Rattle.settle.proofs.free_places.Tie as tie
+use Rattle.bits.proofs.clear_bit.Reads as clear-bit-reads
+
+abbrev Inv-pieces : tie.InvT-pieces
+Inv-pieces used₀ places written p₀ used p = (p ≤ length places) × (length used ≡ length used₀) × (bitAt used ≡ without (bitAt used₀) (flagged written) (at places) p)
+
+abbrev μ-pieces : tie.MeasureT-pieces
+μ-pieces used₀ places written p₀ used p = length places - p
+
+pieces-holds : tie.Need-pieces-holds Inv-pieces μ-pieces
+pieces-holds c =
+    let a = c .before .before .before .args in
+    (omega arith, refl, without-none (bitAt (a .used .now)) (flagged (a .written .now)) (at (a .places .now)))
+
+shared-slice-read-if1 : tie.Need-shared-slice-read-if1 Inv-pieces μ-pieces
+shared-slice-read-if1 c =
+    let t = c .before .pieces-test .taken in
+    let h = c .before .before .before .before .before .before .pre .0 in
+    omega arith
+
+add-p : tie.Need-add-p Inv-pieces μ-pieces
+add-p c = let t = c .before .before .pieces-test .taken in omega arith
+
+pieces-less : tie.Need-pieces-less Inv-pieces μ-pieces
+pieces-less c = let t = c .before .before .pieces-test .taken in omega arith
+
+pieces-again : tie.Need-pieces-again Inv-pieces μ-pieces
+pieces-again c =
+    let a = c .before .before .before .before .before .before .before .args in
+    let l = c .before .before .before .pieces in
+    let t = c .before .before .pieces-test .taken in
+    (omega arith, l .inv .1, without-miss (bitAt (a .used .now)) (flagged (a .written .now)) (at (a .places .now)) (l .p) (bitAt (l .used)) (not-flagged (a .written .now) (l .p) (c .if1 .taken)) (l .inv .2))
+
+mul-clear-bit : tie.Need-mul-clear-bit Inv-pieces μ-pieces
+mul-clear-bit c = search needs
+
+shared-slice-read-clear-bit : tie.Need-shared-slice-read-clear-bit Inv-pieces μ-pieces
+shared-slice-read-clear-bit c = c .before .before .before .before .pieces-test .taken
+
+cast-clear-bit : tie.Need-cast-clear-bit Inv-pieces μ-pieces
+cast-clear-bit c =
+    let h = c .shared-slice-known4 .given (c .before .before .before .before .before .pieces .p) in
+    omega arith
+
+clear-bit-requires : tie.Need-clear-bit-requires Inv-pieces μ-pieces
+clear-bit-requires c κs =
+    let h = c .before .before .before .before .before .before .before .before .before .pre .1 (c .before .before .before .before .before .pieces .p) (c .before .before .before .before .pieces-test .taken) in
+    let e = c .before .before .before .before .before .pieces .inv .1 in
+    omega arith
+
+add-p-2 : tie.Need-add-p-2 Inv-pieces μ-pieces
+add-p-2 c = let t = c .before .before .before .before .before .before .before .pieces-test .taken in omega arith
+
+pieces-less-2 : tie.Need-pieces-less-2 Inv-pieces μ-pieces
+pieces-less-2 c = let t = c .before .before .before .before .before .before .before .pieces-test .taken in omega arith
+
+pieces-again-2 : tie.Need-pieces-again-2 Inv-pieces μ-pieces
+pieces-again-2 c =
+    let a = c .before .before .before .before .before .before .before .before .before .before .before .before .args in
+    let l = c .before .before .before .before .before .before .before .before .pieces in
+    let t = c .before .before .before .before .before .before .before .pieces-test .taken in
+    (omega arith, c .before .before .clear-bit .kept .0 ∙ l .inv .1, without-hit (bitAt (a .used .now)) (flagged (a .written .now)) (at (a .places .now)) (l .p) (bitAt (l .used)) _ (is-flagged (a .written .now) (l .p) (c .before .before .before .before .before .if1 .left)) (l .inv .2) (c .before .before .clear-bit .ensures))
+
+same-length : tie.Need-same-length Inv-pieces μ-pieces
+same-length c = c .before .pieces .inv .1
+
+returns : tie.Need-returns Inv-pieces μ-pieces
+returns c =
+    let a = c .before .before .before .before .before .args in
+    let l = c .before .pieces in
+    let t = c .pieces-test .left in
+    let i = l .inv .0 in
+    l .inv .2 ∙ ap {B = ℕ → Bool} (λ (x : ℕ). without (bitAt (a .used .now)) (flagged (a .written .now)) (at (a .places .now)) x) (let e : l .p ≡ length (a .places .now) = omega arith in e)
+
+pub free-places-spec : {M : Type 1} → statement M
+free-places-spec =
+    tie.close
+    (tie.spec
+    Inv-pieces
+    μ-pieces
+    pieces-holds
+    shared-slice-read-if1
+    add-p
+    pieces-less
+    pieces-again
+    mul-clear-bit
+    shared-slice-read-clear-bit
+    cast-clear-bit
+    clear-bit-requires
+    add-p-2
+    pieces-less-2
+    pieces-again-2
+    same-length
+    returns)

@@ -1,2 +1,0 @@
--- Laws of the definition of a format, which its proofs cite.
-pub mod FormatLaws

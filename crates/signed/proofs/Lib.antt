@@ -1,0 +1,4 @@
+-- Laws that this crate's proofs cite, and its callers' may.
+pub mod Newest
+pub mod SignedLaws
+pub mod ViewLaws

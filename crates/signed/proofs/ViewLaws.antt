@@ -1,0 +1,165 @@
+-- The signed sectors as bits against the sectors as map sectors: both say the same.
+use Prim.Native.Nat.{ℕ, _*_, _-_, _≤_, _<_}
+use mathlib.Core.Path.{_≡_, refl, sym, _∙_, ap, fun-ext}
+use mathlib.Core.Logic.{⊎-elim}
+use mathlib.Core.Bool.{Bool, true, false, cond, not, _&&_, true≢false}
+use mathlib.Core.List.{List, []}
+use mathlib.Core.Option.{Option, none, some}
+use native.Mathlib.Omega.{arith}
+use lib.ListN.{take, drop}
+use lib.Dec.{eqb, leb, ltb}
+use borrow.Author.Tests.{lt-ltb, le-ltb, ltb-true, leb-true}
+use Rattle.geometry.specs.Geometry.{within, piecesFor, branchRoom, entriesPerPiece}
+use Rattle.layout.specs.Bounded.{at, all, isZero, gathered}
+use Rattle.layout.specs.Word.{wordsOf, wordSum, startsWith}
+use Rattle.layout.specs.MapSector.{MapSector, View, mapMark, branchesFit, branchWords, entryWords, valid, fields, decoded}
+use Rattle.volume.specs.Recover.{numberIn, closingNumber, pieceNumber, imageView, signedNumbers, isUncommitted}
+use Rattle.laws.proofs.Bounded.{bool?, lt?, and-l, and-r, cond-true, cond-false, tabled-past}
+use Rattle.laws.proofs.Sizes.{view-at}
+use Rattle.signed.specs.Signed.{below, isSigned, signedAt, numberAt, closingAt, pieceAt}
+
+-- The fifth of ten tests.
+fifth : (a b c d e f g h i j : Bool) → (a && b && c && d && e && f && g && h && i && j) ≡ true → e ≡ true
+fifth a b c d true f g h i j z = refl
+fifth a b c d false f g h i j z = absurd (true≢false (sym z ∙ off a b c d f g h i j))
+  where
+    off : (a b c d f g h i j : Bool) → (a && b && c && d && false && f && g && h && i && j) ≡ false
+    off true true true true f g h i j = refl
+    off true true true false f g h i j = refl
+    off true true false d f g h i j = refl
+    off true false c d f g h i j = refl
+    off false b c d f g h i j = refl
+
+-- The seventh and the ninth.
+module _ (a b c d e f g h i j : Bool) (z : (a && b && c && d && e && f && g && h && i && j) ≡ true) where
+  up-to-ninth : (a && b && c && d && e && f && g && h && i) ≡ true
+  up-to-ninth = and-l (a && b && c && d && e && f && g && h && i) j z
+
+  ninth : i ≡ true
+  ninth = and-r (a && b && c && d && e && f && g && h) i up-to-ninth
+
+  seventh : g ≡ true
+  seventh =
+      and-r (a && b && c && d && e && f) g
+      (and-l (a && b && c && d && e && f && g) h (and-l (a && b && c && d && e && f && g && h) i up-to-ninth))
+
+none-of : (b : Bool) → cond {A = ℕ} b 0 0 ≡ 0
+none-of true = refl
+none-of false = refl
+
+module _ (n l : ℕ) (image : ℕ → List ℕ) where
+  abbrev pub Seen : View
+  Seen = imageView n l image
+
+  pub inside : (k : ℕ) → signedAt n l image k ≡ true → k < n
+  unfolding signedAt below
+  inside k e = ltb-true k n (and-l (ltb k n) (isSigned n l image k) e)
+
+  pub is-valid : (k : ℕ) → signedAt n l image k ≡ true → valid n l (image k) (wordsOf (image k)) ≡ true
+  unfolding signedAt below isSigned
+  is-valid k e = and-r (ltb k n) (isSigned n l image k) e
+
+  pub view-signed : (k : ℕ) → signedAt n l image k ≡ true → Seen k ≡ some (fields (wordsOf (image k)))
+  unfolding decoded
+  view-signed k e = view-at n l image k (inside k e) ∙ cond-true (valid n l (image k) (wordsOf (image k))) (some (fields (wordsOf (image k)))) none (is-valid k e)
+
+  pub view-unsigned : (k : ℕ) → signedAt n l image k ≡ false → Seen k ≡ none
+  unfolding signedAt below isSigned decoded imageView
+  view-unsigned k e =
+      ⊎-elim (λ (h : k < n).
+      view-at n l image k h
+      ∙ cond-false (valid n l (image k) (wordsOf (image k))) (some (fields (wordsOf (image k)))) none
+      (ap (λ (b : Bool). b && valid n l (image k) (wordsOf (image k))) (sym (lt-ltb k n h)) ∙ e))
+      (λ (h : n ≤ k). tabled-past none n (λ j. decoded n l (image j)) k h) (lt? k n)
+
+  -- A signed sector's piece is one of the pieces.
+  pub signed-piece : (k : ℕ) → signedAt n l image k ≡ true → at (wordsOf (image k)) 4 < piecesFor l
+  unfolding valid
+  signed-piece k e =
+      let ws = wordsOf (image k) in
+      ltb-true (at ws 4) (piecesFor l)
+      (fifth (startsWith mapMark (image k)) (isZero (wordSum ws)) (leb 1 (at ws 2)) (isZero (at ws 3)) (ltb (at ws 4) (piecesFor l)) (leb (at ws 5) 1)
+      (leb (at ws 6) branchRoom) (eqb (at ws 7) l) (branchesFit n (at ws 6) (branchWords ws))
+      (all isZero (drop (l - entriesPerPiece * at ws 4) (entryWords ws))) (is-valid k e))
+
+  -- Its branches are sectors from 1 to n - 1.
+  pub signed-count : (k : ℕ) → signedAt n l image k ≡ true → at (wordsOf (image k)) 6 ≤ branchRoom
+  unfolding valid
+  signed-count k e =
+      let ws = wordsOf (image k) in
+      leb-true (at ws 6) branchRoom
+      (seventh (startsWith mapMark (image k)) (isZero (wordSum ws)) (leb 1 (at ws 2)) (isZero (at ws 3)) (ltb (at ws 4) (piecesFor l)) (leb (at ws 5) 1)
+      (leb (at ws 6) branchRoom) (eqb (at ws 7) l) (branchesFit n (at ws 6) (branchWords ws))
+      (all isZero (drop (l - entriesPerPiece * at ws 4) (entryWords ws))) (is-valid k e))
+
+  pub signed-branches : (k : ℕ) → signedAt n l image k ≡ true → all (within 1 (n - 1)) (take (at (wordsOf (image k)) 6) (branchWords (wordsOf (image k)))) ≡ true
+  unfolding valid branchesFit
+  signed-branches k e =
+      let ws = wordsOf (image k) in
+      and-l (all (within 1 (n - 1)) (take (at ws 6) (branchWords ws))) (all isZero (drop (at ws 6) (branchWords ws)))
+      (ninth (startsWith mapMark (image k)) (isZero (wordSum ws)) (leb 1 (at ws 2)) (isZero (at ws 3)) (ltb (at ws 4) (piecesFor l)) (leb (at ws 5) 1)
+      (leb (at ws 6) branchRoom) (eqb (at ws 7) l) (branchesFit n (at ws 6) (branchWords ws))
+      (all isZero (drop (l - entriesPerPiece * at ws 4) (entryWords ws))) (is-valid k e))
+
+  module _ (bits : ℕ → Bool) (e : bits ≡ signedAt n l image) where
+    at-bit : (k : ℕ) → bits k ≡ signedAt n l image k
+    at-bit k = ap (λ (f : ℕ → Bool). f k) e
+
+    -- By cases of a sector: signed, or not.
+    by-sign : (P : Bool → Option MapSector → Type 0) (k : ℕ) → P true (some (fields (wordsOf (image k)))) → P false none → P (bits k) (Seen k)
+    by-sign P k on off =
+        ⊎-elim (λ (z : signedAt n l image k ≡ true). rw (at-bit k ∙ z, view-signed k z) on)
+        (λ (z : signedAt n l image k ≡ false). rw (at-bit k ∙ z, view-unsigned k z) off) (bool? (signedAt n l image k))
+
+    pub number-view : (k : ℕ) → numberAt bits image k ≡ numberIn (Seen k)
+    unfolding numberAt numberIn
+    number-view k = by-sign (λ b o. cond b (at (wordsOf (image k)) 2) 0 ≡ numberIn o) k refl refl
+
+    pub closing-view : (k : ℕ) → closingAt bits image k ≡ closingNumber (Seen k)
+    unfolding closingAt numberAt closingNumber
+    closing-view k =
+        by-sign (λ b o. cond (eqb (at (wordsOf (image k)) 5) 1) (cond b (at (wordsOf (image k)) 2) 0) 0 ≡ closingNumber o) k refl
+        (none-of (eqb (at (wordsOf (image k)) 5) 1))
+
+    pub piece-view : (c p k : ℕ) → pieceAt bits image c p k ≡ pieceNumber c p (Seen k)
+    unfolding pieceAt numberAt pieceNumber
+    piece-view c p k =
+        by-sign (λ b o. cond (eqb (at (wordsOf (image k)) 4) p && leb (cond b (at (wordsOf (image k)) 2) 0) c) (cond b (at (wordsOf (image k)) 2) 0) 0 ≡ pieceNumber c p o)
+        k refl (none-of (eqb (at (wordsOf (image k)) 4) p && leb 0 c))
+
+    past : (k : ℕ) → n ≤ k → numberIn (Seen k) ≡ 0
+    unfolding numberIn imageView
+    past k h = ap numberIn (tabled-past none n (λ j. decoded n l (image j)) k h)
+
+    -- The same of all sectors.
+    pub closings-view : closingAt bits image ≡ (λ k. closingNumber (Seen k))
+    closings-view = fun-ext closing-view
+
+    pub pieces-view : (c p : ℕ) → pieceAt bits image c p ≡ (λ k. pieceNumber c p (Seen k))
+    pieces-view c p = fun-ext (piece-view c p)
+
+    pub numbers-view : (m : ℕ) → gathered (λ k. not (isZero (numberAt bits image k))) (numberAt bits image) [] m ≡ signedNumbers Seen m
+    unfolding signedNumbers
+    numbers-view m = ap (λ (f : ℕ → ℕ). gathered (λ k. not (isZero (f k))) f [] m) (fun-ext {f = numberAt bits image} {g = λ k. numberIn (Seen k)} number-view)
+
+    pub above-view : (c : ℕ) → below (λ k. ltb c (numberAt bits image k)) n ≡ isUncommitted Seen c
+    unfolding below
+    above-view c = fun-ext (λ k.
+        ⊎-elim (λ (h : k < n). rw (lt-ltb k n h) (ap (ltb c) (number-view k)))
+        (λ (h : n ≤ k). rw (le-ltb k n h) (sym (ap (ltb c) (past k h) ∙ le-ltb c 0 (omega arith)))) (lt? k n))
+
+  -- A sector with a number for a piece is signed, and that is its number.
+  pub piece-signed : (c p k : ℕ) → (pieceNumber c p (Seen k) ≡ 0 → ⊥) → Seen k ≡ some (fields (wordsOf (image k)))
+  unfolding pieceNumber
+  piece-signed c p k d =
+      ⊎-elim (λ (z : signedAt n l image k ≡ true). view-signed k z)
+      (λ (z : signedAt n l image k ≡ false). absurd (d (ap (pieceNumber c p) (view-unsigned k z)))) (bool? (signedAt n l image k))
+
+pub piece-number : (c p : ℕ) (o : Option MapSector) → (pieceNumber c p o ≡ 0 → ⊥) → pieceNumber c p o ≡ numberIn o
+unfolding pieceNumber numberIn
+piece-number c p none d = refl
+piece-number c p (some m) d = go (eqb (m .piece) p && leb (m .number) c) d
+  where
+    go : (b : Bool) → (cond b (m .number) 0 ≡ 0 → ⊥) → cond b (m .number) 0 ≡ m .number
+    go true f = refl
+    go false f = absurd (f refl)

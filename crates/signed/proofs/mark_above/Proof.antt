@@ -1,0 +1,97 @@
+-- The sectors below k that are numbered above c are marked.
+use Prim.Native.Nat.{_-_, _≤_}
+use mathlib.Core.Path.{_≡_, refl, sym, _∙_, ap}
+use native.Mathlib.Omega.{arith}
+use lib.ListN.{length}
+use lib.Dec.{ltb}
+use borrow.Author.Tests.{lt-ltb, le-ltb}
+use Rattle.volume.specs.Tables.{sectorAt, bitAt}
+use Rattle.signed.specs.Signed.{below, numberAt}
+use Rattle.signed.proofs.SignedLaws.{marks-none, marks-miss, marks-hit}
+use Rattle.signed.proofs.mark_above.Statement.{statement}
+use Rattle.signed.proofs.mark_above.Tie as tie
+
+abbrev Inv-sectors : tie.InvT-sectors
+Inv-sectors image n marks c above₀ k₀ above k = (k ≤ n) × (length above ≡ length above₀) × (bitAt above ≡ below (λ j. ltb c (numberAt (bitAt marks) (sectorAt image) j)) k)
+
+abbrev μ-sectors : tie.MeasureT-sectors
+μ-sectors image n marks c above₀ k₀ above k = n - k
+
+sectors-holds : tie.Need-sectors-holds Inv-sectors μ-sectors
+sectors-holds c = let a = c .before .before .before .args in (omega arith, refl, marks-none (λ k. ltb (a .c) (numberAt (bitAt (a .marks .now)) (sectorAt (a .image .now)) k)) (a .above .now) (length (a .above .now)) (c .before .before .before .pre .1 .1 .1))
+
+number-at-requires : tie.Need-number-at-requires Inv-sectors μ-sectors
+number-at-requires c κs = let t = c .sectors-test .taken in let e = c .before .before .before .before .before .pre .0 in let m = c .before .before .before .before .before .pre .1 .0 in (omega arith, omega arith)
+
+add-k : tie.Need-add-k Inv-sectors μ-sectors
+add-k c = let t = c .before .before .sectors-test .taken in omega arith
+
+sectors-less : tie.Need-sectors-less Inv-sectors μ-sectors
+sectors-less c = let t = c .before .before .sectors-test .taken in omega arith
+
+sectors-again : tie.Need-sectors-again Inv-sectors μ-sectors
+sectors-again c =
+    let a = c .before .before .before .before .before .before .before .args in
+    let l = c .before .before .before .sectors in
+    let t = c .before .before .sectors-test .taken in (
+      omega arith,
+      l .inv .1,
+      marks-miss (λ k. ltb (a .c) (numberAt (bitAt (a .marks .now)) (sectorAt (a .image .now)) k)) (l .k) (bitAt (l .above)) (l .inv .2)
+          (ap (ltb (a .c)) (sym (c .before .number-at .ensures)) ∙ le-ltb (a .c) (c .before .number-at .result) (c .if1 .taken)),
+    )
+
+cast-set-bit : tie.Need-cast-set-bit Inv-sectors μ-sectors
+cast-set-bit c = omega arith
+
+set-bit-requires : tie.Need-set-bit-requires Inv-sectors μ-sectors
+set-bit-requires c κs =
+    let t = c .before .before .before .sectors-test .taken in
+    let h = c .before .before .before .before .before .before .before .before .pre .1 .1 .0 in
+    let e = c .before .before .before .before .sectors .inv .1 in
+    omega arith
+
+add-k-2 : tie.Need-add-k-2 Inv-sectors μ-sectors
+add-k-2 c = let t = c .before .before .before .before .before .before .sectors-test .taken in omega arith
+
+sectors-less-2 : tie.Need-sectors-less-2 Inv-sectors μ-sectors
+sectors-less-2 c = let t = c .before .before .before .before .before .before .sectors-test .taken in omega arith
+
+sectors-again-2 : tie.Need-sectors-again-2 Inv-sectors μ-sectors
+sectors-again-2 c =
+    let a = c .before .before .before .before .before .before .before .before .before .before .before .args in
+    let l = c .before .before .before .before .before .before .before .sectors in
+    let t = c .before .before .before .before .before .before .sectors-test .taken in (
+      omega arith,
+      c .before .before .set-bit .kept .0 ∙ l .inv .1,
+      marks-hit (λ k. ltb (a .c) (numberAt (bitAt (a .marks .now)) (sectorAt (a .image .now)) k)) (l .k) (bitAt (l .above)) _ (l .inv .2)
+          (ap (ltb (a .c)) (sym (c .before .before .before .before .before .number-at .ensures)) ∙ lt-ltb (a .c) (c .before .before .before .before .before .number-at .result) (c .before .before .before .before .if1 .left)) (c .before .before .set-bit .ensures),
+    )
+
+same-length : tie.Need-same-length Inv-sectors μ-sectors
+same-length c = c .before .sectors .inv .1
+
+returns : tie.Need-returns Inv-sectors μ-sectors
+returns c =
+    let a = c .before .before .before .before .before .args in
+    let l = c .before .sectors in
+    let e : l .k ≡ a .n = (let i = l .inv .0 in let t = c .sectors-test .left in omega arith) in
+    l .inv .2 ∙ ap (below (λ k. ltb (a .c) (numberAt (bitAt (a .marks .now)) (sectorAt (a .image .now)) k))) e
+
+pub mark-above-spec : {M : Type 1} → statement M
+mark-above-spec =
+    tie.close
+    (tie.spec
+    Inv-sectors
+    μ-sectors
+    sectors-holds
+    number-at-requires
+    add-k
+    sectors-less
+    sectors-again
+    cast-set-bit
+    set-bit-requires
+    add-k-2
+    sectors-less-2
+    sectors-again-2
+    same-length
+    returns)

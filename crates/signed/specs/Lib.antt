@@ -1,0 +1,2 @@
+-- Signed sectors as the code goes about them.
+pub mod Signed

@@ -1,0 +1,2 @@
+-- Document 01: the state and its phases.
+pub mod State

@@ -1,0 +1,115 @@
+// The state of a volume. It goes into every call by value, and every call hands it back.
+ghost use mathlib.Core.Path.{_≡_};
+ghost use Rattle.state.specs.State.{parkedState, cutState, committedState, freshState, lostState, isRunning, isReadable};
+use answer::Answer;
+
+pub enum Phase {
+    Running,
+    Parked,
+    // A power failure came in a call: only a recovery goes on from here.
+    Cut,
+}
+
+pub struct State {
+    pub n: u32,
+    pub l: u32,
+    // The sector of the newest closed commit's closing map sector, and its number.
+    pub tail: u32,
+    pub number: u32,
+    pub phase: Phase,
+}
+
+impl State {
+    // Running, as an accepted format or recovery leaves it.
+    pub fn running(n: u32, l: u32, tail: u32, number: u32) -> State
+        ensures { λ r. ⌜ r ≡ freshState n l tail number ⌝ }
+    {
+        State {
+            n,
+            l,
+            tail,
+            number,
+            phase: Phase::Running,
+        }
+    }
+
+    // Nothing but N and L is known: a format or a recovery did not come to its end.
+    pub fn lost(n: u32, l: u32) -> State
+        ensures { λ r. ⌜ r ≡ lostState n l ⌝ }
+    {
+        State {
+            n,
+            l,
+            tail: 0,
+            number: 0,
+            phase: Phase::Cut,
+        }
+    }
+
+    pub fn parked(self) -> State
+        ensures { λ r. ⌜ r ≡ parkedState self ⌝ }
+    {
+        State {
+            n: self.n,
+            l: self.l,
+            tail: self.tail,
+            number: self.number,
+            phase: Phase::Parked,
+        }
+    }
+
+    pub fn cut(self) -> State
+        ensures { λ r. ⌜ r ≡ cutState self ⌝ }
+    {
+        State {
+            n: self.n,
+            l: self.l,
+            tail: self.tail,
+            number: self.number,
+            phase: Phase::Cut,
+        }
+    }
+
+    // With the tail and the number of a new commit.
+    pub fn committed(self, tail: u32, number: u32) -> State
+        ensures { λ r. ⌜ r ≡ committedState self tail number ⌝ }
+    {
+        State {
+            n: self.n,
+            l: self.l,
+            tail,
+            number,
+            phase: Phase::Running,
+        }
+    }
+
+    // Write, drop and park need a running volume.
+    pub fn is_running(self) -> bool
+        ensures { λ r. ⌜ r ≡ isRunning (self .phase) ⌝ }
+    {
+        let phase = self.phase;
+        match phase {
+            Phase::Running => true,
+            Phase::Parked => false,
+            Phase::Cut => false,
+        }
+    }
+
+    // Read needs a running or a parked one.
+    pub fn is_readable(self) -> bool
+        ensures { λ r. ⌜ r ≡ isReadable (self .phase) ⌝ }
+    {
+        let phase = self.phase;
+        match phase {
+            Phase::Running => true,
+            Phase::Parked => true,
+            Phase::Cut => false,
+        }
+    }
+}
+
+// What a call hands back.
+pub struct Outcome {
+    pub answer: Answer,
+    pub state: State,
+}

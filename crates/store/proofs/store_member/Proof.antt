@@ -1,0 +1,124 @@
+-- The first member, or a later one, as the definition has it.
+use Prim.Native.Nat.{_+_}
+use mathlib.Core.Path.{refl, _∙_, ap}
+use native.Mathlib.Omega.{arith}
+use Rattle.layout.specs.Bounded.{at, updated}
+use Rattle.volume.specs.Tables.{sectorAt}
+use Rattle.store.proofs.StoreLaws.{first-member, later-member}
+use borrow.Author.Needs.{needs}
+use Rattle.store.proofs.store_member.Statement.{statement}
+use Rattle.store.proofs.store_member.Tie as tie
+use Rattle.entries.proofs.changed_piece.Reads as changed-piece-reads
+use Rattle.images.proofs.store_map.Reads as store-map-reads
+
+add-first : tie.Need-add-first
+add-first c = search needs
+
+slice-aggregate-changed-piece : tie.Need-slice-aggregate-changed-piece
+slice-aggregate-changed-piece c = search needs
+
+changed-piece-requires : tie.Need-changed-piece-requires
+changed-piece-requires c κs = (c .before .before .before .before .before .before .before .before .pre .1 .0, (c .before .before .before .before .before .before .before .before .pre .1 .1 .1 .1 .1 .1 .1 .1 .1, (c .before .before .before .before .before .before .before .before .pre .1 .1 .0, (refl, c .before .before .before .before .before .before .before .before .pre .1 .1 .1 .0))))
+
+add-place : tie.Need-add-place
+add-place c = search needs
+
+mul-k : tie.Need-mul-k
+mul-k c = search needs
+
+shared-slice-read-k : tie.Need-shared-slice-read-k
+shared-slice-read-k c = search needs
+
+cast-k : tie.Need-cast-k
+cast-k c =
+    let a = c .before .before .before .before .before .before .before .before .before .before .before .args in
+    let e = c .before .before .before .before .before .before .before .before .before .before .before .pre .1 .1 .1 .1 .1 .0 in
+    let h = c .before .before .before .before .before .before .before .before .before .before .before .pre .1 .1 .1 .1 .1 .1 .1 .1 .0 in
+    let k = c .before .before .before .before .before .before .before .before .before .before .before .pre .1 .1 .1 .1 .0 (a .count + a .j) (omega arith) in
+    let g = c .before .before .before .before .before .before .before .before .before .before .before .pre .0 in
+    let f = c .before .before .before .before .before .before .before .before .before .before .before .fits in
+    omega arith
+
+slice-aggregate-store-map : tie.Need-slice-aggregate-store-map
+slice-aggregate-store-map c = search needs
+
+store-map-requires : tie.Need-store-map-requires
+store-map-requires c κs =
+    let a = c .before .before .before .before .before .before .before .before .before .before .before .before .before .before .args in
+    let e = c .before .before .before .before .before .before .before .before .before .before .before .before .before .before .pre .1 .1 .1 .1 .1 .0 in
+    let h = c .before .before .before .before .before .before .before .before .before .before .before .before .before .before .pre .1 .1 .1 .1 .1 .1 .1 .1 .0 in
+    let k = c .before .before .before .before .before .before .before .before .before .before .before .before .before .before .pre .1 .1 .1 .1 .0 (a .count + a .j) (omega arith) in
+    let f = c .before .before .before .before .before .before .before .before .before .before .before .before .before .before .pre .0 in
+    (omega arith, (c .before .before .before .before .before .before .before .before .before .before .before .before .before .before .pre .1 .1 .1 .1 .1 .1 .0, c .before .before .before .before .before .changed-piece .kept .1 .1 .1 .1 .1 .0))
+
+same-length : tie.Need-same-length
+same-length c = search needs
+
+returns : tie.Need-returns
+returns c =
+    let a = c .before .before .before .before .before .before .before .before .before .before .before .before .before .before .before .before .before .args in
+    c .before .before .store-map .ensures ∙ ap (updated (sectorAt (a .image .now)) (at (a .taken .now) (a .count + a .j))) (first-member (a .s .l) (a .s .number) (a .p) (a .members) (a .j) (a .count) (a .branches .now) (a .taken .now) _ _ (c .before .before .before .before .before .before .before .before .changed-piece .ensures) (c .before .before .before .before .before .if1 .taken))
+
+sub-store-map : tie.Need-sub-store-map
+sub-store-map c = search needs
+
+mul-store-map : tie.Need-mul-store-map
+mul-store-map c = search needs
+
+shared-slice-read-store-map : tie.Need-shared-slice-read-store-map
+shared-slice-read-store-map c = search needs
+
+add-store-map : tie.Need-add-store-map
+add-store-map c = search needs
+
+add-store-map-2 : tie.Need-add-store-map-2
+add-store-map-2 c = search needs
+
+slice-aggregate-store-map-2 : tie.Need-slice-aggregate-store-map-2
+slice-aggregate-store-map-2 c = search needs
+
+slice-aggregate-store-map-3 : tie.Need-slice-aggregate-store-map-3
+slice-aggregate-store-map-3 c = search needs
+
+store-map-requires-2 : tie.Need-store-map-requires-2
+store-map-requires-2 c κs =
+    let a = c .before .before .before .before .before .before .before .before .before .before .before .before .before .before .before .before .args in
+    let e = c .before .before .before .before .before .before .before .before .before .before .before .before .before .before .before .before .pre .1 .1 .1 .1 .1 .0 in
+    let h = c .before .before .before .before .before .before .before .before .before .before .before .before .before .before .before .before .pre .1 .1 .1 .1 .1 .1 .1 .1 .0 in
+    let k = c .before .before .before .before .before .before .before .before .before .before .before .before .before .before .before .before .pre .1 .1 .1 .1 .0 (a .count + a .j) (omega arith) in
+    let f = c .before .before .before .before .before .before .before .before .before .before .before .before .before .before .before .before .pre .0 in
+    (omega arith, (omega arith, c .before .before .before .before .before .before .before .changed-piece .kept .1 .1 .1 .1 .1 .0))
+
+same-length-2 : tie.Need-same-length-2
+same-length-2 c = search needs
+
+returns-2 : tie.Need-returns-2
+returns-2 c =
+    let a = c .before .before .before .before .before .before .before .before .before .before .before .before .before .before .before .before .before .before .before .args in
+    c .before .before .store-map2 .ensures ∙ ap (updated (sectorAt (a .image .now)) (at (a .taken .now) (a .count + a .j))) (later-member (a .s .l) (a .s .number) (a .p) (a .members) (a .j) (a .count) (a .branches .now) (a .taken .now) _ _ (c .before .before .before .before .before .before .before .before .before .before .changed-piece .ensures) (c .before .before .before .before .before .before .before .if1 .left))
+
+pub store-member-spec : {M : Type 1} → statement M
+store-member-spec =
+    tie.close
+    (tie.spec
+    add-first
+    slice-aggregate-changed-piece
+    changed-piece-requires
+    add-place
+    mul-k
+    shared-slice-read-k
+    cast-k
+    slice-aggregate-store-map
+    store-map-requires
+    same-length
+    returns
+    sub-store-map
+    mul-store-map
+    shared-slice-read-store-map
+    add-store-map
+    add-store-map-2
+    slice-aggregate-store-map-2
+    slice-aggregate-store-map-3
+    store-map-requires-2
+    same-length-2
+    returns-2)

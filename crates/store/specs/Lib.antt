@@ -1,0 +1,2 @@
+-- What the stores of a commit rely on.
+pub mod Ready

@@ -1,0 +1,35 @@
+-- The word stored is the balance of the sum found.
+use Prim.Native.Nat.{ℕ}
+use mathlib.Core.Path.{ap, _∙_}
+use lib.Seq.{sets}
+use borrow.Author.Needs.{needs}
+use Rattle.layout.specs.Word.{wordBytes, balance}
+use Rattle.sums.proofs.put_balance.Statement.{statement}
+use Rattle.sums.proofs.put_balance.Tie as tie
+
+word-sum-requires : tie.Need-word-sum-requires
+word-sum-requires c κs = search needs
+
+balance-of-requires : tie.Need-balance-of-requires
+balance-of-requires c κs = search needs
+
+put-word-requires : tie.Need-put-word-requires
+put-word-requires c κs = search needs
+
+same-length : tie.Need-same-length
+same-length c = search needs
+
+returns : tie.Need-returns
+returns c =
+    let at-put-word = c .before .before in
+    let at-balance-of = at-put-word .before in
+    let at-word-sum = at-balance-of .before .before in
+    let at-start = at-word-sum .before .before .before in
+    let s = at-start .args .s .now in
+    at-put-word .put-word .ensures
+    ∙ ap (λ (w : ℕ). sets s 4 (wordBytes w)) (at-balance-of .balance-of .ensures ∙ ap balance (at-word-sum .word-sum .ensures))
+
+pub put-balance-spec : {M : Type 1} → statement M
+put-balance-spec =
+    tie.close
+    (tie.spec word-sum-requires balance-of-requires put-word-requires same-length returns)

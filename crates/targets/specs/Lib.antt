@@ -1,0 +1,2 @@
+-- The walk as the code goes about it.
+pub mod Waiting

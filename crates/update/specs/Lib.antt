@@ -1,2 +1,0 @@
--- A commit with a plan that is made already.
-pub mod Commit

@@ -1,0 +1,2 @@
+-- What a walk found, as the code has it.
+pub mod Walking

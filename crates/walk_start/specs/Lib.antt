@@ -1,0 +1,2 @@
+-- The start of a walk, as the code has it.
+pub mod Starting

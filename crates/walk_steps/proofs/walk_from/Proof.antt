@@ -1,0 +1,78 @@
+-- Arrays of zeros, as long as there are pieces.
+use Prim.Native.Nat.{ℕ, _-_}
+use mathlib.Core.Path.{sym, _∙_, ap}
+use native.Mathlib.Omega.{arith}
+use lib.ListN.{replicate}
+use lib.Seq.{length-take-le}
+use Rattle.volume.specs.Tables.{sectorAt}
+use Rattle.soundness.proofs.Sounding.{blocks-most, sectors-most}
+use Rattle.walk_steps.proofs.WalkLaws.{known-none, zeros-part}
+use borrow.Author.Needs.{needs}
+use Rattle.walk_steps.proofs.walk_from.Statement.{statement}
+use Rattle.walk_steps.proofs.walk_from.Tie as tie
+
+pieces-for-requires : tie.Need-pieces-for-requires
+pieces-for-requires c κs = search needs
+
+cast-pieces : tie.Need-cast-pieces
+cast-pieces c = search needs
+
+slice-aggregate-walk-waiting : tie.Need-slice-aggregate-walk-waiting
+slice-aggregate-walk-waiting c = search needs
+
+slice-aggregate-walk-waiting-2 : tie.Need-slice-aggregate-walk-waiting-2
+slice-aggregate-walk-waiting-2 c = search needs
+
+array-borrow-prefix-waiting : tie.Need-array-borrow-prefix-waiting
+array-borrow-prefix-waiting c =
+    let a = c .before .before .before .before .before .args in
+    let m = blocks-most (a .n) (a .l) (c .before .before .before .before .before .pre .0) in
+    let q = c .before .before .pieces-for .ensures in omega arith
+
+slice-aggregate-walk-waiting-3 : tie.Need-slice-aggregate-walk-waiting-3
+slice-aggregate-walk-waiting-3 c =
+    let a = c .before .before .before .before .before .before .args in
+    let m = blocks-most (a .n) (a .l) (c .before .before .before .before .before .before .pre .0) in
+    let q = c .before .before .before .pieces-for .ensures in sym (length-take-le (c .before .before .before .pieces-for .result) (replicate {A = ℕ} 256 0) (omega arith))
+
+array-borrow-prefix-numbers : tie.Need-array-borrow-prefix-numbers
+array-borrow-prefix-numbers c =
+    let a = c .before .before .before .before .before .before .args in
+    let m = blocks-most (a .n) (a .l) (c .before .before .before .before .before .before .pre .0) in
+    let q = c .before .before .before .pieces-for .ensures in omega arith
+
+slice-aggregate-walk-waiting-4 : tie.Need-slice-aggregate-walk-waiting-4
+slice-aggregate-walk-waiting-4 c =
+    let a = c .before .before .before .before .before .before .before .args in
+    let m = blocks-most (a .n) (a .l) (c .before .before .before .before .before .before .before .pre .0) in
+    let q = c .before .before .before .before .pieces-for .ensures in sym (length-take-le (c .before .before .before .before .pieces-for .result) (replicate {A = ℕ} 256 0) (omega arith))
+
+walk-waiting-requires : tie.Need-walk-waiting-requires
+walk-waiting-requires c κs =
+    let a = c .before .before .before .before .before .before .before .before .args in
+    let m = blocks-most (a .n) (a .l) (c .before .before .before .before .before .before .before .before .pre .0) in
+    let q = c .before .before .before .before .before .pieces-for .ensures in
+    let z = zeros-part (c .before .before .before .before .before .pieces-for .result) 256 (omega arith) ∙ ap (λ (x : ℕ). replicate {A = ℕ} x 0) q in
+    (c .before .before .before .before .before .before .before .before .pre .1 .0, (c .before .before .before .before .before .before .before .before .pre .1 .1 .0, (c .before .before .before .before .before .before .before .before .pre .1 .1 .1 .0, (known-none (a .n) (a .l) (sectorAt (a .image .now)) (sectors-most (a .n) (a .l) (c .before .before .before .before .before .before .before .before .pre .0)), (z, (z, c .before .before .before .before .before .before .before .before .pre .1 .1 .1 .1))))))
+
+same-length : tie.Need-same-length
+same-length c = search needs
+
+returns : tie.Need-returns
+returns c = search needs
+
+pub walk-from-spec : {M : Type 1} → statement M
+walk-from-spec =
+    tie.close
+    (tie.spec
+    pieces-for-requires
+    cast-pieces
+    slice-aggregate-walk-waiting
+    slice-aggregate-walk-waiting-2
+    array-borrow-prefix-waiting
+    slice-aggregate-walk-waiting-3
+    array-borrow-prefix-numbers
+    slice-aggregate-walk-waiting-4
+    walk-waiting-requires
+    same-length
+    returns)

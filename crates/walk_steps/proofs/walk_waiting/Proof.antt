@@ -1,0 +1,119 @@
+-- The tail waits alone, and then the steps are made.
+use Prim.Native.Nat.{ℕ, _-_}
+use mathlib.Core.Path.{_∙_, ap}
+use mathlib.Core.List.{List}
+use native.Mathlib.Omega.{arith}
+use lib.ListN.{length, length-set, length-replicate}
+use Rattle.geometry.specs.Geometry.{piecesFor}
+use Rattle.layout.specs.Bounded.{at}
+use Rattle.volume.specs.Tables.{sectorAt}
+use Rattle.layout.specs.Word.{wordsOf}
+use Rattle.laws.proofs.Sectors.{sector-length}
+use Rattle.signed.proofs.ViewLaws.{inside, signed-piece}
+use Rattle.walk_steps.proofs.WalkLaws.{tail-inside, start-waits, walk-is}
+use borrow.Author.Needs.{needs}
+use Rattle.walk_steps.proofs.walk_waiting.Statement.{statement}
+use Rattle.walk_steps.proofs.walk_waiting.Tie as tie
+
+sector-requires : tie.Need-sector-requires
+sector-requires c κs =
+    let a = c .before .before .before .before .before .before .args in
+    let p = c .before .before .before .before .before .before .pre in
+    let i = p .0 in
+    let h = inside (a .n) (a .l) (sectorAt (a .image .now)) (a .tail) (p .1 .1 .0) in omega arith
+
+piece-of-requires : tie.Need-piece-of-requires
+piece-of-requires c κs =
+    let a = c .before .before .before .before .before .before .before .args in
+    let p = c .before .before .before .before .before .before .before .pre in
+    let i = p .0 in
+    let h = inside (a .n) (a .l) (sectorAt (a .image .now)) (a .tail) (p .1 .1 .0) in ap length (c .sector .ensures) ∙ sector-length (a .image .now) (a .tail) (omega arith)
+
+cast-p : tie.Need-cast-p
+cast-p c = search needs
+
+mul-waiting : tie.Need-mul-waiting
+mul-waiting c = search needs
+
+slice-write-waiting : tie.Need-slice-write-waiting
+slice-write-waiting c =
+    let a = c .before .before .before .before .before .before .before .before .args in
+    let p = c .before .before .before .before .before .before .before .before .pre in
+    let i = p .0 in
+    let h = inside (a .n) (a .l) (sectorAt (a .image .now)) (a .tail) (p .1 .1 .0) in
+    let b = signed-piece (a .n) (a .l) (sectorAt (a .image .now)) (a .tail) (p .1 .1 .0) in
+    let e = c .piece-of .ensures ∙ ap (λ (x : List ℕ). at (wordsOf x) 4) (c .before .sector .ensures) in
+    let z = ap length (p .1 .1 .1 .1 .0) ∙ length-replicate (piecesFor (a .l)) 0 in
+    omega arith
+
+number-of-requires : tie.Need-number-of-requires
+number-of-requires c κs =
+    let a = c .before .before .before .before .before .before .before .before .args in
+    let p = c .before .before .before .before .before .before .before .before .pre in
+    let i = p .0 in
+    let h = inside (a .n) (a .l) (sectorAt (a .image .now)) (a .tail) (p .1 .1 .0) in ap length (c .before .sector .ensures) ∙ sector-length (a .image .now) (a .tail) (omega arith)
+
+mul-numbers : tie.Need-mul-numbers
+mul-numbers c = search needs
+
+slice-write-numbers : tie.Need-slice-write-numbers
+slice-write-numbers c =
+    let a = c .before .before .before .before .before .before .before .before .before .args in
+    let p = c .before .before .before .before .before .before .before .before .before .pre in
+    let i = p .0 in
+    let h = inside (a .n) (a .l) (sectorAt (a .image .now)) (a .tail) (p .1 .1 .0) in
+    let b = signed-piece (a .n) (a .l) (sectorAt (a .image .now)) (a .tail) (p .1 .1 .0) in
+    let e = c .before .piece-of .ensures ∙ ap (λ (x : List ℕ). at (wordsOf x) 4) (c .before .before .sector .ensures) in
+    let z = ap length (p .1 .1 .1 .1 .1 .0) ∙ length-replicate (piecesFor (a .l)) 0 in
+    omega arith
+
+walk-steps-requires : tie.Need-walk-steps-requires
+walk-steps-requires c κs =
+    let a = c .before .before .before .before .before .before .before .before .before .before .before .before .before .before .args in
+    let p = c .before .before .before .before .before .before .before .before .before .before .before .before .before .before .pre in
+    let i = p .0 in
+    let h = inside (a .n) (a .l) (sectorAt (a .image .now)) (a .tail) (p .1 .1 .0) in
+    let b = tail-inside (a .n) (a .l) (sectorAt (a .image .now)) (a .tail) (p .1 .0) (p .1 .1 .0) _ (c .before .before .before .before .before .before .before .sector .ensures) (c .before .before .before .before .before .before .piece-of .result) (c .before .before .before .before .before .number-of .result) (c .before .before .before .before .before .before .piece-of .ensures) (c .before .before .before .before .before .number-of .ensures) in
+    (p .0, (omega arith, (p .1 .1 .1 .0, start-waits (a .n) (a .l) (sectorAt (a .image .now)) (a .tail) (p .1 .0) (p .1 .1 .0) _ (c .before .before .before .before .before .before .before .sector .ensures) (c .before .before .before .before .before .before .piece-of .result) (c .before .before .before .before .before .number-of .result) (c .before .before .before .before .before .before .piece-of .ensures) (c .before .before .before .before .before .number-of .ensures) (a .waiting .now) (a .numbers .now) (a .taken .now) (p .1 .1 .1 .1 .0) (p .1 .1 .1 .1 .1 .0) (p .1 .1 .1 .1 .1 .1))))
+
+same-length : tie.Need-same-length
+same-length c = search needs
+
+same-length-2 : tie.Need-same-length-2
+same-length-2 c = search needs
+
+same-length-3 : tie.Need-same-length-3
+same-length-3 c = c .before .before .before .before .before .before .before .before .before .before .walk-steps .kept .1 .1 .0 ∙ length-set (c .before .before .before .before .before .before .before .before .before .before .before .before .before .before .before .before .before .before .before .before .before .before .before .before .before .args .waiting .now) (c .before .before .before .before .before .before .before .before .before .before .before .before .before .before .before .before .before .piece-of .result) (c .before .before .before .before .before .before .before .before .before .before .before .before .before .before .before .before .before .before .before .before .before .before .before .before .before .args .tail)
+
+same-length-4 : tie.Need-same-length-4
+same-length-4 c = c .before .before .before .before .before .before .before .before .before .before .walk-steps .kept .1 .1 .1 .0 ∙ length-set (c .before .before .before .before .before .before .before .before .before .before .before .before .before .before .before .before .before .before .before .before .before .before .before .before .before .args .numbers .now) (c .before .before .before .before .before .before .before .before .before .before .before .before .before .before .before .before .before .piece-of .result) (c .before .before .before .before .before .before .before .before .before .before .before .before .before .before .before .before .number-of .result)
+
+same-length-5 : tie.Need-same-length-5
+same-length-5 c = search needs
+
+returns : tie.Need-returns
+returns c =
+    let a = c .before .before .before .before .before .before .before .before .before .before .before .before .before .before .before .before .before .before .before .before .before .before .before .before .before .args in
+    let p = c .before .before .before .before .before .before .before .before .before .before .before .before .before .before .before .before .before .before .before .before .before .before .before .before .before .pre in
+    let i = p .0 in
+    let h = inside (a .n) (a .l) (sectorAt (a .image .now)) (a .tail) (p .1 .1 .0) in walk-is (a .n) (a .l) (sectorAt (a .image .now)) (a .tail) (p .1 .0) (p .1 .1 .0) _ (c .before .before .before .before .before .before .before .before .before .before .before .before .before .before .before .before .before .before .sector .ensures) (c .before .before .before .before .before .before .before .before .before .before .before .before .before .before .before .before .before .piece-of .result) (c .before .before .before .before .before .before .before .before .before .before .before .before .before .before .before .before .number-of .result) (c .before .before .before .before .before .before .before .before .before .before .before .before .before .before .before .before .before .piece-of .ensures) (c .before .before .before .before .before .before .before .before .before .before .before .before .before .before .before .before .number-of .ensures) (a .waiting .now) (a .numbers .now) (a .taken .now) (p .1 .1 .1 .1 .0) (p .1 .1 .1 .1 .1 .0) (p .1 .1 .1 .1 .1 .1) (c .before .before .before .before .before .before .before .before .before .before .walk-steps .last .1 .1 .0) (c .before .before .before .before .before .before .before .before .before .before .walk-steps .last .1 .1 .1 .1 .0) (c .before .before .before .before .before .before .before .before .before .before .walk-steps .kept .1 .1 .1 .1 .0) (c .before .before .before .before .before .before .before .before .before .before .walk-steps .ensures)
+
+pub walk-waiting-spec : {M : Type 1} → statement M
+walk-waiting-spec =
+    tie.close
+    (tie.spec
+    sector-requires
+    piece-of-requires
+    cast-p
+    mul-waiting
+    slice-write-waiting
+    number-of-requires
+    mul-numbers
+    slice-write-numbers
+    walk-steps-requires
+    same-length
+    same-length-2
+    same-length-3
+    same-length-4
+    same-length-5
+    returns)

@@ -1,0 +1,120 @@
+// The steps of a walk from its tail.
+ghost use mathlib.Core.Path.{_≡_};
+ghost use mathlib.Core.Bool.{true};
+ghost use Prim.Native.Nat.{_+_, _*_, _≤_, _<_};
+ghost use lib.ListN.{length, replicate};
+ghost use Rattle.geometry.specs.Geometry.{sectorBytes, piecesFor, geometryFits};
+ghost use Rattle.layout.specs.Bounded.{listFrom};
+ghost use Rattle.volume.specs.Tables.{sectorAt};
+ghost use Rattle.volume.specs.Recover.{imageView, walkStep, walkedFor, walkFrom};
+ghost use Rattle.signed.specs.Signed.{signedAt};
+ghost use Rattle.targets.specs.Waiting.{Known, walkOf, Waits};
+use geometry::Geometry;
+
+// Takes the newest waiting sector and reads its branches. Nothing happens where none waits.
+fn walk_step(
+    seen: &mut [u8],
+    good: &mut [u8],
+    waiting: &mut [u32],
+    numbers: &mut [u32],
+    taken: &mut [u32],
+    image: &[u8],
+    n: u32,
+    l: u32,
+)
+    requires { ⌜ length (now image) ≡ sectorBytes * n ⌝ }
+    requires { ⌜ 0 < piecesFor l ⌝ }
+    requires { ⌜ Known n l (sectorAt (now image)) (now seen) (now good) ⌝ }
+    requires { ⌜ Waits (piecesFor l) (imageView n l (sectorAt (now image))) (now waiting) (now numbers) (now taken) ⌝ }
+    ensures { λ _. ⌜ (walkOf (now (waiting .exit)) (now (taken .exit)) ≡ walkStep (piecesFor l) (imageView n l (sectorAt (now (image .entry)))) (walkOf (now (waiting .entry)) (now (taken .entry)))) × Known n l (sectorAt (now (image .entry))) (now (seen .exit)) (now (good .exit)) × Waits (piecesFor l) (imageView n l (sectorAt (now (image .entry)))) (now (waiting .exit)) (now (numbers .exit)) (now (taken .exit)) ⌝ }
+{
+    let p = numbers::newest(numbers);
+    if numbers[p] == 0 {
+        return;
+    }
+    let k = waiting[p];
+    waiting[p] = 0;
+    numbers[p] = 0;
+    taken[p] = k;
+    targets::read_targets(seen, good, waiting, numbers, taken, image, n, l, k);
+}
+
+// So many steps from where the tail waits.
+fn walk_steps(
+    seen: &mut [u8],
+    good: &mut [u8],
+    waiting: &mut [u32],
+    numbers: &mut [u32],
+    taken: &mut [u32],
+    image: &[u8],
+    n: u32,
+    l: u32,
+)
+    requires { ⌜ length (now image) ≡ sectorBytes * n ⌝ }
+    requires { ⌜ 0 < piecesFor l ⌝ }
+    requires { ⌜ Known n l (sectorAt (now image)) (now seen) (now good) ⌝ }
+    requires { ⌜ Waits (piecesFor l) (imageView n l (sectorAt (now image))) (now waiting) (now numbers) (now taken) ⌝ }
+    ensures { λ _. ⌜ walkOf (now (waiting .exit)) (now (taken .exit)) ≡ walkedFor (piecesFor l) (imageView n l (sectorAt (now (image .entry)))) (walkOf (now (waiting .entry)) (now (taken .entry))) (piecesFor l) ⌝ }
+{
+    let pieces = Geometry::pieces_for(l);
+    let mut step: u32 = 0;
+    while step < pieces {
+        walk_step(seen, good, waiting, numbers, taken, image, n, l);
+        step += 1;
+    }
+}
+
+// A walk from the tail, in arrays of zeros.
+fn walk_waiting(
+    seen: &mut [u8],
+    good: &mut [u8],
+    waiting: &mut [u32],
+    numbers: &mut [u32],
+    taken: &mut [u32],
+    image: &[u8],
+    n: u32,
+    l: u32,
+    tail: u32,
+)
+    requires { ⌜ length (now image) ≡ sectorBytes * n ⌝ }
+    requires { ⌜ 1 ≤ tail ⌝ }
+    requires { ⌜ signedAt n l (sectorAt (now image)) tail ≡ true ⌝ }
+    requires { ⌜ Known n l (sectorAt (now image)) (now seen) (now good) ⌝ }
+    requires { ⌜ now waiting ≡ replicate (piecesFor l) 0 ⌝ }
+    requires { ⌜ now numbers ≡ replicate (piecesFor l) 0 ⌝ }
+    requires { ⌜ now taken ≡ replicate (piecesFor l) 0 ⌝ }
+    ensures { λ _. ⌜ now (taken .exit) ≡ listFrom (walkFrom (piecesFor l) (imageView n l (sectorAt (now (image .entry)))) tail) 0 (piecesFor l) ⌝ }
+{
+    let s = images::sector(image, tail as usize);
+    let p = map_sector::piece_of(s) as usize;
+    waiting[p] = tail;
+    numbers[p] = map_sector::number_of(s);
+    walk_steps(seen, good, waiting, numbers, taken, image, n, l);
+}
+
+// The sector that a walk from the tail takes for each piece, 0 for none.
+pub fn walk_from(taken: &mut [u32], image: &[u8], n: u32, l: u32, tail: u32)
+    requires { ⌜ geometryFits n l ≡ true ⌝ }
+    requires { ⌜ length (now image) ≡ sectorBytes * n ⌝ }
+    requires { ⌜ 1 ≤ tail ⌝ }
+    requires { ⌜ signedAt n l (sectorAt (now image)) tail ≡ true ⌝ }
+    requires { ⌜ now taken ≡ replicate (piecesFor l) 0 ⌝ }
+    ensures { λ _. ⌜ now (taken .exit) ≡ listFrom (walkFrom (piecesFor l) (imageView n l (sectorAt (now (image .entry)))) tail) 0 (piecesFor l) ⌝ }
+{
+    let mut seen = [0u8; 8192];
+    let mut good = [0u8; 8192];
+    let mut waiting = [0u32; 256];
+    let mut numbers = [0u32; 256];
+    let pieces = Geometry::pieces_for(l) as usize;
+    walk_waiting(
+        &mut seen,
+        &mut good,
+        &mut waiting[..pieces],
+        &mut numbers[..pieces],
+        taken,
+        image,
+        n,
+        l,
+        tail,
+    );
+}

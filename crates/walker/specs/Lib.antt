@@ -1,2 +1,0 @@
--- The walk as the code goes about it.
-pub mod Walking

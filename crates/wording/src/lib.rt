@@ -1,0 +1,2 @@
+// The words of the answers that the desk's program gives.
+pub mod say;

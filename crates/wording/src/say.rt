@@ -1,0 +1,228 @@
+// Answers on standard output.
+use answer::Answer;
+use libc::STDOUT_FILENO;
+use paper::data;
+use paper::data::Trouble;
+use paper::request::Call;
+use paper::words;
+use state::State;
+
+pub fn say(text: &[u8]) {
+    io::write_all(STDOUT_FILENO, text);
+}
+
+pub fn say_number(n: u32) {
+    io::print_decimal(STDOUT_FILENO, n as u64);
+}
+
+// A label, and a number after it.
+pub fn say_count(label: &[u8], n: u32) {
+    say(label);
+    say_number(n);
+}
+
+fn say_hex(b: u8) {
+    io::print_hex(STDOUT_FILENO, b as u64, 2);
+}
+
+fn say_all_hex(text: &[u8]) {
+    say(b"x");
+    let mut i = 0;
+    while i < text.len() {
+        say_hex(text[i]);
+        i += 1;
+    }
+}
+
+// The length of a block without its trailing zeros.
+fn shown_length(block: &[u8]) -> usize {
+    let mut end = block.len();
+    while end > 0 {
+        if block[end - 1] != 0 {
+            return end;
+        }
+        end -= 1;
+    }
+    0
+}
+
+// A block without its trailing zeros: as text where it is plain, otherwise in hexadecimal.
+pub fn say_block(block: &[u8]) {
+    let text = words::part(block, 0, shown_length(block));
+    if text.len() == 0 {
+        say(b"zeros");
+        return;
+    }
+    if data::all_plain(text) {
+        say(b"\"");
+        say(text);
+        say(b"\"");
+        return;
+    }
+    say_all_hex(text);
+}
+
+// The words for what a call is turned back with.
+fn refusal_words(number: u32) {
+    match number {
+        1 => say(b"size"),
+        2 => say(b"buffer length"),
+        3 => say(b"blocks or head"),
+        4 => say(b"phase"),
+        5 => say(b"tables"),
+        6 => say(b"no room"),
+        7 => say(b"numbers used up"),
+        8 => say(b"no log"),
+        9 => say(b"damaged log"),
+        _ => say(b"power"),
+    }
+}
+
+pub fn say_refusal(answer: Answer) {
+    let number = answer.number();
+    say_count(b": refused ", number);
+    say(b", ");
+    refusal_words(number);
+    if number == 10 {
+        say_count(b"; stores ", answer.stores());
+    }
+    say(b"\n");
+}
+
+fn say_way(answer: Answer) {
+    if answer.way() == 1 {
+        say(b"; walk");
+    } else {
+        say(b"; scan");
+    }
+    say_count(b"; sectors read ", answer.sectors_read());
+}
+
+fn say_tail(state: State) {
+    say_count(b"; tail ", state.tail);
+    say_count(b"; number ", state.number);
+}
+
+pub fn say_name(call: Call) {
+    match call {
+        Call::Format => say(b"format"),
+        Call::Write => say(b"write"),
+        Call::Drop => say(b"drop"),
+        Call::Read => say(b"read"),
+        Call::Park => say(b"park"),
+        Call::Recover => say(b"recover"),
+        Call::Show => say(b"show"),
+        _ => say(b"sectors"),
+    }
+}
+
+// The rest of the line of an accepted call.
+fn say_acceptance(call: Call, answer: Answer, state: State) {
+    say(b": accepted");
+    match call {
+        Call::Park => say_count(b"; stores ", answer.stores()),
+        Call::Recover => {
+            say_way(answer);
+            say_count(b"; stores ", answer.stores());
+            say_tail(state);
+        }
+        _ => {
+            say_count(b"; stores ", answer.stores());
+            say_tail(state);
+        }
+    }
+    say(b"\n");
+}
+
+// The answer of a call that may store.
+pub fn say_answer(call: Call, answer: Answer, state: State) {
+    say_name(call);
+    if answer.number() == 0 {
+        say_acceptance(call, answer, state);
+        return;
+    }
+    say_refusal(answer);
+}
+
+fn say_data_trouble(trouble: Trouble) {
+    match trouble {
+        Trouble::Block => say(b"expected BLOCK=DATA, the block a number up to 4294967295"),
+        Trouble::Data => say(b"expected data: text in quotes, or x and hexadecimal digits"),
+        Trouble::Quote => say(b"expected a quote that closes the text"),
+        Trouble::Text => say(b"expected bytes 32 to 126 in the text"),
+        Trouble::Hex => say(b"expected an even number of hexadecimal digits after x"),
+        Trouble::Long => say(b"expected data of at most 512 bytes"),
+        Trouble::Space => say(b"expected a space after the closing quote"),
+        Trouble::Many => say(b"expected at most 128 blocks in a line"),
+        _ => say(b"expected a block after the head"),
+    }
+}
+
+fn say_call_trouble(trouble: Trouble) {
+    match trouble {
+        Trouble::Call => say(b"expected format, write, drop, read, park, recover, show or sectors"),
+        Trouble::Volume => say(b"expected a format that is accepted first: there is no volume"),
+        Trouble::Sectors => say(b"expected a volume of at most 4096 sectors: no more are held"),
+        Trouble::Number => say(b"expected a number up to 4294967295"),
+        Trouble::FewNumbers => say(b"expected another number"),
+        Trouble::Plug => say(b"expected stores= and a number up to 4294967295"),
+        Trouble::PlugHere => say(b"expected no stores=, since this call makes none"),
+        Trouble::PlugTwice => say(b"expected stores= once"),
+        Trouble::More => say(b"expected the end of the line"),
+        _ => say_data_trouble(trouble),
+    }
+}
+
+// The form of a call's line.
+fn say_form(call: Call) {
+    match call {
+        Call::Format => say(b" (format L N [stores=K])"),
+        Call::Write => say(b" (write HEAD B=DATA [B=DATA ..] [stores=K])"),
+        Call::Drop => say(b" (drop HEAD B [B ..] [stores=K])"),
+        Call::Read => say(b" (read B)"),
+        Call::Park => say(b" (park [stores=K])"),
+        Call::Recover => say(b" (recover [stores=K])"),
+        Call::Show => say(b" (show)"),
+        Call::Sectors => say(b" (sectors)"),
+        _ => {}
+    }
+}
+
+// The start of what was found, where it is long.
+fn shortened(text: &[u8]) -> &[u8] {
+    if text.len() > 40 {
+        return words::part(text, 0, 40);
+    }
+    text
+}
+
+// Where in the line the trouble is: the word there, or the line's end.
+fn say_place(line: &[u8], at: usize) {
+    let word = words::part(line, at, words::word_end(line, at));
+    if word.len() == 0 {
+        say(b", found the end of the line");
+        return;
+    }
+    say(b", found ");
+    say(shortened(word));
+}
+
+// A line that is not understood: what was expected, and what stands there.
+pub fn say_trouble(number: u32, line: &[u8], call: Call, at: usize, trouble: Trouble) {
+    say_count(b"line ", number);
+    say(b": ");
+    say_call_trouble(trouble);
+    say_form(call);
+    say_place(line, at);
+    say(b"\n");
+}
+
+// A call that is understood and cannot be made here.
+pub fn say_obstacle(number: u32, line: &[u8], trouble: Trouble) {
+    say_count(b"line ", number);
+    say(b": ");
+    say_call_trouble(trouble);
+    say(b", found ");
+    say(shortened(line));
+    say(b"\n");
+}

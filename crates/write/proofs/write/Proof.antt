@@ -1,0 +1,96 @@
+-- Refused it hands everything back; otherwise it is the commit of the definition.
+use mathlib.Core.Path.{refl, sym, _∙_}
+use mathlib.Core.Logic.{inr}
+use native.Mathlib.Omega.{arith}
+use Rattle.write.proofs.WriteLaws.{write-refused, write-passed, write-length, write-few, write-done}
+use borrow.Author.Needs.{needs}
+use Rattle.write.proofs.write.Statement.{statement}
+use Rattle.write.proofs.write.Tie as tie
+use Rattle.block_numbers.proofs.bytes_fit.Reads as bytes-fit-reads
+use Rattle.verdict.proofs.commit_verdict.Reads as commit-verdict-reads
+
+bytes-fit-requires : tie.Need-bytes-fit-requires
+bytes-fit-requires c κs = search needs
+
+commit-verdict-requires : tie.Need-commit-verdict-requires
+commit-verdict-requires c κs = search needs
+
+enum-known-verdict : tie.Need-enum-known-verdict
+enum-known-verdict c = search needs
+
+enum-told : tie.Need-enum-told
+enum-told c = search needs
+
+cast-commit : tie.Need-cast-commit
+cast-commit c =
+    let a = c .before .before .before .before .before .before .before .before .before .before .before .before .before .before .before .before .before .before .before .before .before .args in
+    let h = write-few (a .s) (a .image .now) (a .map .now) (a .places .now) (a .numbers .now) (a .used .now) (a .head) (a .blocks .now) (a .allowance) (a .bytes .now) (c .before .before .before .before .before .before .before .before .before .before .before .before .before .bytes-fit .result) (c .before .before .before .before .before .before .before .before .before .before .before .before .before .bytes-fit .ensures) (sym (c .before .before .before .before .before .enum-told .given .1) ∙ c .before .before .before .before .before .before .before .commit-verdict .ensures) in
+    omega arith
+
+commit-requires : tie.Need-commit-requires
+commit-requires c κs =
+    let a = c .before .before .before .before .before .before .before .before .before .before .before .before .before .before .before .before .before .before .before .before .before .args in
+    (write-passed (a .s) (a .image .now) (a .map .now) (a .places .now) (a .numbers .now) (a .used .now) (a .head) (a .blocks .now) (a .allowance) (a .bytes .now) (c .before .before .before .before .before .before .before .before .before .before .before .before .before .bytes-fit .result) (c .before .before .before .before .before .before .before .before .before .before .before .before .before .bytes-fit .ensures) (sym (c .before .before .before .before .before .enum-told .given .1) ∙ c .before .before .before .before .before .before .before .commit-verdict .ensures), (inr refl, write-length (a .s) (a .image .now) (a .map .now) (a .places .now) (a .numbers .now) (a .used .now) (a .head) (a .blocks .now) (a .allowance) (a .bytes .now) (c .before .before .before .before .before .before .before .before .before .before .before .before .before .bytes-fit .result) (c .before .before .before .before .before .before .before .before .before .before .before .before .before .bytes-fit .ensures) (sym (c .before .before .before .before .before .enum-told .given .1) ∙ c .before .before .before .before .before .before .before .commit-verdict .ensures)))
+
+same-length : tie.Need-same-length
+same-length c = search needs
+
+same-length-2 : tie.Need-same-length-2
+same-length-2 c = search needs
+
+same-length-3 : tie.Need-same-length-3
+same-length-3 c = search needs
+
+same-length-4 : tie.Need-same-length-4
+same-length-4 c = search needs
+
+same-length-5 : tie.Need-same-length-5
+same-length-5 c = search needs
+
+returns : tie.Need-returns
+returns c =
+    let a = c .before .before .before .before .before .before .before .before .before .before .before .before .before .before .before .before .before .args in
+    write-refused (a .s) (a .image .now) (a .map .now) (a .places .now) (a .numbers .now) (a .used .now) (a .head) (a .blocks .now) (a .allowance) (a .bytes .now) (c .before .before .before .before .before .before .before .before .before .bytes-fit .result) (c .before .before .before .before .before .before .before .before .before .bytes-fit .ensures) _ (sym (c .before .verdict .given .1) ∙ c .before .before .before .commit-verdict .ensures)
+
+same-length-6 : tie.Need-same-length-6
+same-length-6 c = search needs
+
+same-length-7 : tie.Need-same-length-7
+same-length-7 c = search needs
+
+same-length-8 : tie.Need-same-length-8
+same-length-8 c = search needs
+
+same-length-9 : tie.Need-same-length-9
+same-length-9 c = search needs
+
+same-length-10 : tie.Need-same-length-10
+same-length-10 c = search needs
+
+returns-2 : tie.Need-returns-2
+returns-2 c =
+    let a = c .before .before .before .before .before .before .before .before .before .before .before .before .before .before .before .before .before .before .before .before .before .before .before .before .before .before .before .before .before .before .before .before .args in
+    write-done (a .s) (a .image .now) (a .map .now) (a .places .now) (a .numbers .now) (a .used .now) (a .head) (a .blocks .now) (a .allowance) (a .bytes .now) (c .before .before .before .before .before .before .before .before .before .before .before .before .before .before .before .before .before .before .before .before .before .before .before .before .bytes-fit .result) (c .before .before .before .before .before .before .before .before .before .before .before .before .before .before .before .before .before .before .before .before .before .before .before .before .bytes-fit .ensures) _ (sym (c .before .before .before .before .before .before .before .before .before .before .before .before .before .before .before .before .enum-told .given .1) ∙ c .before .before .before .before .before .before .before .before .before .before .before .before .before .before .before .before .before .before .commit-verdict .ensures) (c .before .before .before .before .before .before .before .before .before .before .commit .ensures)
+
+pub write-spec : {M : Type 1} → statement M
+write-spec =
+    tie.close
+    (tie.spec
+    bytes-fit-requires
+    commit-verdict-requires
+    enum-known-verdict
+    enum-told
+    cast-commit
+    commit-requires
+    same-length
+    same-length-2
+    same-length-3
+    same-length-4
+    same-length-5
+    returns
+    same-length-6
+    same-length-7
+    same-length-8
+    same-length-9
+    same-length-10
+    returns-2)

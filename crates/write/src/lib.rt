@@ -1,0 +1,109 @@
+// The write and drop calls: each is one commit.
+ghost use mathlib.Core.Path.{_≡_};
+ghost use Rattle.volume.specs.Tables.{memory};
+ghost use Rattle.volume.specs.Store.{after};
+ghost use Rattle.volume.specs.Calls.{writeOf, dropOf};
+use answer::Answer;
+use answer::Verdict;
+use state::Outcome;
+use state::State;
+
+// Writes the named blocks: their bytes one after the other, in the order of the numbers.
+pub fn write(
+    s: State,
+    image: &mut [u8],
+    map: &mut [u32],
+    places: &mut [u32],
+    numbers: &mut [u32],
+    used: &mut [u8],
+    head: u32,
+    blocks: &[u32],
+    bytes: &[u8],
+    allowance: u32,
+) -> Outcome
+    ensures { λ r. ⌜ after r (memory (now (image .exit)) (now (map .exit)) (now (places .exit)) (now (numbers .exit)) (now (used .exit))) ≡ writeOf s (memory (now (image .entry)) (now (map .entry)) (now (places .entry)) (now (numbers .entry)) (now (used .entry))) head (now (blocks .entry)) (now (bytes .entry)) allowance ⌝ }
+{
+    let count = blocks.len();
+    let fit = block_numbers::bytes_fit(bytes.len(), count);
+    let verdict = verdict::commit_verdict(
+        s,
+        image,
+        map,
+        places,
+        numbers,
+        used,
+        head,
+        blocks,
+        fit,
+        count,
+    );
+    match verdict {
+        Verdict::Refuse(refusal) => Outcome {
+            answer: Answer::Refused(refusal),
+            state: s,
+        },
+        Verdict::Pass => commit::commit(
+            s,
+            image,
+            map,
+            places,
+            numbers,
+            used,
+            head,
+            blocks,
+            bytes,
+            count as u32,
+            allowance,
+        ),
+    }
+}
+
+// Drops the named blocks: they read as zeros afterwards.
+pub fn drop(
+    s: State,
+    image: &mut [u8],
+    map: &mut [u32],
+    places: &mut [u32],
+    numbers: &mut [u32],
+    used: &mut [u8],
+    head: u32,
+    blocks: &[u32],
+    allowance: u32,
+) -> Outcome
+    ensures { λ r. ⌜ after r (memory (now (image .exit)) (now (map .exit)) (now (places .exit)) (now (numbers .exit)) (now (used .exit))) ≡ dropOf s (memory (now (image .entry)) (now (map .entry)) (now (places .entry)) (now (numbers .entry)) (now (used .entry))) head (now (blocks .entry)) allowance ⌝ }
+{
+    let verdict = verdict::commit_verdict(
+        s,
+        image,
+        map,
+        places,
+        numbers,
+        used,
+        head,
+        blocks,
+        true,
+        0,
+    );
+    match verdict {
+        Verdict::Refuse(refusal) => Outcome {
+            answer: Answer::Refused(refusal),
+            state: s,
+        },
+        Verdict::Pass => {
+            let none = [0u8; 1];
+            commit::commit(
+                s,
+                image,
+                map,
+                places,
+                numbers,
+                used,
+                head,
+                blocks,
+                &none[..0],
+                0,
+                allowance,
+            )
+        }
+    }
+}
