@@ -59,7 +59,7 @@ noRoom =
       };
     }
 
--- ... and enough after 4,294,967,039.
+-- 7 does not apply after 4,294,967,039: enough numbers are left.
 lastNumbers : Row
 lastNumbers =
     record {

@@ -178,7 +178,7 @@ refusal5 =
       };
     }
 
--- 7: too few numbers are left after 4,294,967,040 ...
+-- 7: too few numbers are left after 4,294,967,040.
 refusal7 : Row
 refusal7 =
     record {

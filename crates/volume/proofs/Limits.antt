@@ -5,7 +5,7 @@ use mathlib.Core.Path.{_≡_, refl}
 use mathlib.Core.Bool.{Bool, true, false}
 use mathlib.Core.List.{List, [], _∷_, map}
 use mathlib.Core.Option.{some}
-use lib.ListN.{length, replicate}
+use lib.ListN.{length}
 use lib.Dec.{leb}
 use Rattle.state.specs.State.{freshState}
 use Rattle.layout.specs.Bounded.{anyBelow, countBelow, best, elem, listFrom, tabled}

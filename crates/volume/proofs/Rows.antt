@@ -1,6 +1,7 @@
 -- Rows of the tables of samples: a volume is formatted, a run of calls is made on it, and the row says what is then to be
 -- seen. All of it is computed from the definitions of the calls and from nothing else.
 use Prim.Native.Nat.{ℕ, zero, suc, _*_, _/_}
+use mathlib.Core.Path.{_≡_, refl}
 use mathlib.Core.Bool.{true, false, cond}
 use mathlib.Core.List.{List, [], _∷_, map}
 use mathlib.Core.Option.{Option, none, some}
@@ -56,6 +57,18 @@ lent n l =
       image = λ _. replicate 512 0xAA;
       tables = record { entry = λ _. 7; place = λ _. 7; number = λ _. 7; isUsed = λ _. true };
     }
+
+-- It is what slices of these lengths and bytes hold.
+lent-lengths :
+    memory (replicate (512 * 12) 0xAA) (replicate 200 7) (replicate 3 7) (replicate 3 7) (replicate 2 255) .lengths ≡ lent 12 200 .lengths
+unfolding memory lent
+lent-lengths = refl
+
+lent-contents :
+    (memory (replicate (512 * 12) 0xAA) (replicate 200 7) (replicate 3 7) (replicate 3 7) (replicate 2 255) .image 11 ≡ lent 12 200 .image 11)
+    × (memory (replicate (512 * 12) 0xAA) (replicate 200 7) (replicate 3 7) (replicate 3 7) (replicate 2 255) .tables .isUsed 11 ≡ lent 12 200 .tables .isUsed 11)
+unfolding memory lent sectorAt bitAt
+lent-contents = (refl, refl)
 
 anyState : State
 anyState = record { n = 1; l = 2; tail = 3; number = 4; phase = Cut }
