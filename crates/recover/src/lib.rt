@@ -1,13 +1,53 @@
 // The recover call: the log is found again by a walk from the tail that was parked, or by a scan of all sectors.
 ghost use mathlib.Core.Path.{_≡_};
+ghost use Prim.Native.Nat.{_/_};
+ghost use lib.ListN.{length};
+ghost use Rattle.geometry.specs.Geometry.{sectorBytes};
 ghost use Rattle.answer.specs.declared.Verdict.the-variants.{Pass};
-ghost use Rattle.volume.specs.Tables.{memory};
+ghost use Rattle.volume.specs.Tables.{sectorAt, memory};
+ghost use Rattle.volume.specs.Refusals.{judged};
 ghost use Rattle.volume.specs.Store.{after};
-ghost use Rattle.volume.specs.Recover.{recoverOf};
+ghost use Rattle.volume.specs.Format.{sizeChecks};
+ghost use Rattle.volume.specs.Recover.{findingOf, recovered, imageView, recoverOf};
 use answer::Answer;
 use answer::Verdict;
+use geometry::Geometry;
 use state::Outcome;
 use state::State;
+use walk::Way;
+
+// A recovery that no refusal stops: by a walk where it answers, otherwise by a scan.
+fn find(
+    image: &mut [u8],
+    map: &mut [u32],
+    places: &mut [u32],
+    numbers: &mut [u32],
+    used: &mut [u8],
+    l: u32,
+    allowance: u32,
+) -> Outcome
+    requires { ⌜ Pass ≡ judged (sizeChecks (memory (now image) (now map) (now places) (now numbers) (now used)) l) ⌝ }
+    ensures { λ r. ⌜ after r (memory (now (image .exit)) (now (map .exit)) (now (places .exit)) (now (numbers .exit)) (now (used .exit))) ≡ recovered (length (now (image .entry)) / sectorBytes) l allowance (memory (now (image .entry)) (now (map .entry)) (now (places .entry)) (now (numbers .entry)) (now (used .entry))) (findingOf (length (now (image .entry)) / sectorBytes) l (imageView (length (now (image .entry)) / sectorBytes) l (sectorAt (now (image .entry)))) (sectorAt (now (image .entry)) 0)) ⌝ }
+{
+    let n = (image.len() / Geometry::SECTOR) as u32;
+    let way = walk::walk(image, n, l, map, places, numbers, used);
+    match way {
+        Way::Scan => recover_by_scan::by_scan(image, map, places, numbers, used, n, l, allowance),
+        Way::Log { tail, number, read } => resume::after_walk(
+            image,
+            map,
+            places,
+            numbers,
+            used,
+            n,
+            l,
+            tail,
+            number,
+            read,
+            allowance,
+        ),
+    }
+}
 
 // Finds the log in an image of l blocks. It looks at nothing in the state or the tables.
 pub fn recover(
@@ -35,6 +75,6 @@ pub fn recover(
             answer: Answer::Refused(refusal),
             state: s,
         },
-        Verdict::Pass => finding::find(image, map, places, numbers, used, l, allowance),
+        Verdict::Pass => find(image, map, places, numbers, used, l, allowance),
     }
 }

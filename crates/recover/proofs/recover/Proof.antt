@@ -1,7 +1,7 @@
 -- A refused recovery hands everything back; otherwise it is the definition's.
 use mathlib.Core.Path.{sym, _∙_}
 use Rattle.checks.proofs.SizeLaws.{by-lengths}
-use Rattle.finding.proofs.RecoverLaws.{recover-refused, recover-passed}
+use Rattle.recover.proofs.RecoverLaws.{recover-refused, recover-passed}
 use borrow.Author.Needs.{needs}
 use Rattle.recover.proofs.recover.Statement.{statement}
 use Rattle.recover.proofs.recover.Tie as tie

@@ -8,12 +8,12 @@ use Rattle.volume.specs.Recover.{imageView}
 use Rattle.walk.specs.declared.Way.{Way}
 use Rattle.walk.specs.Walking.{walkFound}
 use Rattle.checks.proofs.SizeLaws.{size-passed, size-range}
-use Rattle.finding.proofs.RecoverLaws.{walk-found, walk-failed}
+use Rattle.recover.proofs.RecoverLaws.{walk-found, walk-failed}
 use borrow.Author.Needs.{needs}
-use Rattle.finding.proofs.find.Statement.{statement}
-use Rattle.finding.proofs.find.Tie as tie
-use Rattle.finding.proofs.after_walk.Reads as after-walk-reads
-use Rattle.finding.proofs.by_scan.Reads as by-scan-reads
+use Rattle.recover.proofs.find.Statement.{statement}
+use Rattle.recover.proofs.find.Tie as tie
+use Rattle.resume.proofs.after_walk.Reads as after-walk-reads
+use Rattle.recover_by_scan.proofs.by_scan.Reads as by-scan-reads
 
 cast-n : tie.Need-cast-n
 cast-n c =

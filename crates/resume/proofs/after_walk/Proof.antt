@@ -9,10 +9,10 @@ use Rattle.volume.specs.Store.{applied}
 use Rattle.volume.specs.Recover.{parkSectorCleared, isBlank}
 use Rattle.power.specs.Power.{powered}
 use Rattle.power.proofs.Runs.{left-enough}
-use Rattle.finding.proofs.RecoverLaws.{recovery-cut, recovery-whole}
+use Rattle.resume.proofs.ResumeLaws.{recovery-cut, recovery-whole}
 use borrow.Author.Needs.{needs}
-use Rattle.finding.proofs.after_walk.Statement.{statement}
-use Rattle.finding.proofs.after_walk.Tie as tie
+use Rattle.resume.proofs.after_walk.Statement.{statement}
+use Rattle.resume.proofs.after_walk.Tie as tie
 use Rattle.clear.proofs.clear_park.Reads as clear-park-reads
 use Rattle.blocks.proofs.is_blank.Reads as is-blank-reads
 use Rattle.lent.proofs.zero_tables.Reads as zero-tables-reads

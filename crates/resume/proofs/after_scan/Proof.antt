@@ -9,10 +9,10 @@ use Rattle.volume.specs.Store.{storesBelow}
 use Rattle.volume.specs.Format.{blankStore}
 use Rattle.volume.specs.Recover.{parkSectorCleared, isBlank}
 use Rattle.power.proofs.Runs.{left-enough}
-use Rattle.finding.proofs.RecoverLaws.{recovery-cut, recovery-whole}
+use Rattle.resume.proofs.ResumeLaws.{recovery-cut, recovery-whole}
 use borrow.Author.Needs.{needs}
-use Rattle.finding.proofs.after_scan.Statement.{statement}
-use Rattle.finding.proofs.after_scan.Tie as tie
+use Rattle.resume.proofs.after_scan.Statement.{statement}
+use Rattle.resume.proofs.after_scan.Tie as tie
 use Rattle.lent.proofs.zero_tables.Reads as zero-tables-reads
 use Rattle.clear.proofs.clear_all.Reads as clear-all-reads
 

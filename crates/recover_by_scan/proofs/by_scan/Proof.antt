@@ -6,12 +6,12 @@ use Rattle.volume.specs.Recover.{imageView, scanFinding}
 use Rattle.laws.proofs.Sizes.{fits}
 use Rattle.scan.specs.declared.Found.{Found}
 use Rattle.scan.specs.Scanned.{scanFound, scanAbove}
-use Rattle.finding.proofs.RecoverLaws.{scan-found, scan-missing}
+use Rattle.recover_by_scan.proofs.ScanLaws.{scan-found, scan-missing}
 use borrow.Author.Needs.{needs}
-use Rattle.finding.proofs.by_scan.Statement.{statement}
-use Rattle.finding.proofs.by_scan.Tie as tie
+use Rattle.recover_by_scan.proofs.by_scan.Statement.{statement}
+use Rattle.recover_by_scan.proofs.by_scan.Tie as tie
 use Rattle.lent.proofs.zero_tables.Reads as zero-tables-reads
-use Rattle.finding.proofs.after_scan.Reads as after-scan-reads
+use Rattle.resume.proofs.after_scan.Reads as after-scan-reads
 
 slice-aggregate-scan : tie.Need-slice-aggregate-scan
 slice-aggregate-scan c = search needs

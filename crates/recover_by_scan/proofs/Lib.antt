@@ -1,0 +1,2 @@
+-- Laws that this crate's proof cites.
+mod ScanLaws

@@ -1,0 +1,91 @@
+// Once the log is found, by a walk or by a scan, what was not committed is cleared, and the volume runs.
+ghost use mathlib.Core.Path.{_≡_};
+ghost use mathlib.Core.Bool.{_||_};
+ghost use mathlib.Core.List.{_++_};
+ghost use Prim.Native.Nat.{_*_, _≤_};
+ghost use lib.ListN.{length};
+ghost use Rattle.geometry.specs.Geometry.{sectorBytes};
+ghost use Rattle.answer.specs.declared.Answer.the-variants.{Walked, Scanned};
+ghost use Rattle.volume.specs.Tables.{bitAt, sectorAt, memory, tablesOf};
+ghost use Rattle.volume.specs.Store.{storesBelow, after, performed};
+ghost use Rattle.volume.specs.Format.{blankStore};
+ghost use Rattle.volume.specs.Recover.{parkSectorCleared, isBlank, recoveryAction};
+use answer::Answer;
+use power::allowance::Power;
+use state::Outcome;
+use state::State;
+
+// The log was found by a walk: sector 0 is cleared, and the volume runs.
+pub fn after_walk(
+    image: &mut [u8],
+    map: &mut [u32],
+    places: &mut [u32],
+    numbers: &mut [u32],
+    used: &mut [u8],
+    n: u32,
+    l: u32,
+    tail: u32,
+    number: u32,
+    read: u32,
+    allowance: u32,
+) -> Outcome
+    requires { ⌜ sectorBytes ≤ length (now image) ⌝ }
+    ensures { λ r. ⌜ after r (memory (now (image .exit)) (now (map .exit)) (now (places .exit)) (now (numbers .exit)) (now (used .exit))) ≡ performed allowance (recoveryAction n l (record { tables = tablesOf (now (map .entry)) (now (places .entry)) (now (numbers .entry)) (now (used .entry)); tail = tail; number = number }) (Walked read) (parkSectorCleared (isBlank (sectorAt (now (image .entry)) 0)))) (memory (now (image .entry)) (now (map .entry)) (now (places .entry)) (now (numbers .entry)) (now (used .entry))) ⌝ }
+{
+    let blank = blocks::is_blank(images::sector(image, 0));
+    let power = clear::clear_park(image, blank, allowance);
+    match power {
+        Power::Failed => {
+            lent::zero_tables(map, places, numbers, used);
+            Outcome {
+                answer: Answer::PowerFailed { stores: allowance },
+                state: State::lost(n, l),
+            }
+        }
+        Power::Left(left) => Outcome {
+            answer: Answer::Walked {
+                read,
+                stores: allowance - left,
+            },
+            state: State::running(n, l, tail, number),
+        },
+    }
+}
+
+// The log was found by a scan: uncommitted sectors and sector 0 are cleared, and the volume runs.
+pub fn after_scan(
+    image: &mut [u8],
+    map: &mut [u32],
+    places: &mut [u32],
+    numbers: &mut [u32],
+    used: &mut [u8],
+    n: u32,
+    l: u32,
+    tail: u32,
+    number: u32,
+    above: &[u8],
+    allowance: u32,
+) -> Outcome
+    requires { ⌜ 1 ≤ n ⌝ }
+    requires { ⌜ length (now image) ≡ sectorBytes * n ⌝ }
+    requires { ⌜ n ≤ 8 * length (now above) ⌝ }
+    ensures { λ r. ⌜ after r (memory (now (image .exit)) (now (map .exit)) (now (places .exit)) (now (numbers .exit)) (now (used .exit))) ≡ performed allowance (recoveryAction n l (record { tables = tablesOf (now (map .entry)) (now (places .entry)) (now (numbers .entry)) (now (used .entry)); tail = tail; number = number }) (Scanned n) (storesBelow (bitAt (now (above .entry))) blankStore n ++ parkSectorCleared (isBlank (sectorAt (now (image .entry)) 0) || bitAt (now (above .entry)) 0))) (memory (now (image .entry)) (now (map .entry)) (now (places .entry)) (now (numbers .entry)) (now (used .entry))) ⌝ }
+{
+    let power = clear::clear_all(image, n, above, allowance);
+    match power {
+        Power::Failed => {
+            lent::zero_tables(map, places, numbers, used);
+            Outcome {
+                answer: Answer::PowerFailed { stores: allowance },
+                state: State::lost(n, l),
+            }
+        }
+        Power::Left(left) => Outcome {
+            answer: Answer::Scanned {
+                read: n,
+                stores: allowance - left,
+            },
+            state: State::running(n, l, tail, number),
+        },
+    }
+}
