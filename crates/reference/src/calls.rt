@@ -7,7 +7,7 @@ use reference_commit::changes;
 use reference_recovery::scanned;
 use reference_recovery::walked;
 
-fn put_state(b: &mut [u32], n: u32, l: u32, tail: u32, number: u32, phase: u32) {
+fn put_state(b: &mut [u32; board::SIZE], n: u32, l: u32, tail: u32, number: u32, phase: u32) {
     board::put(b, board::STATE_N, 0, n);
     board::put(b, board::STATE_L, 0, l);
     board::put(b, board::TAIL, 0, tail);
@@ -16,17 +16,17 @@ fn put_state(b: &mut [u32], n: u32, l: u32, tail: u32, number: u32, phase: u32) 
 }
 
 // A format or a recovery that came to no good end: N and L are known, the tables are zero.
-fn lose(b: &mut [u32], n: u32, l: u32) {
+fn lose(b: &mut [u32; board::SIZE], n: u32, l: u32) {
     board::fill(b, board::LENT, board::TABLE_WORDS, 0);
     put_state(b, n, l, 0, 0, 2);
 }
 
 // The tables made are those lent from here on.
-fn keep_made(b: &mut [u32]) {
+fn keep_made(b: &mut [u32; board::SIZE]) {
     board::copy(b, board::LENT, board::MADE, board::TABLE_WORDS);
 }
 
-fn list_sectors(b: &mut [u32], n: u32) {
+fn list_sectors(b: &mut [u32; board::SIZE], n: u32) {
     for k in 0..n {
         journal::list(b, k);
     }
@@ -40,7 +40,7 @@ fn kind(piece: u32, p: u32) -> u32 {
 }
 
 // Piece q of a format, in the sector after it and with that number; piece q - 1 lies in sector q.
-fn list_piece(b: &mut [u32], q: u32, p: u32, l: u32) {
+fn list_piece(b: &mut [u32; board::SIZE], q: u32, p: u32, l: u32) {
     let k = board::plus(q, 1);
     journal::list_map(b, k, k, q, kind(q, p), l);
     if q > 0 {
@@ -48,7 +48,7 @@ fn list_piece(b: &mut [u32], q: u32, p: u32, l: u32) {
     }
 }
 
-fn format_piece(b: &mut [u32], q: u32, p: u32, l: u32) {
+fn format_piece(b: &mut [u32; board::SIZE], q: u32, p: u32, l: u32) {
     let k = board::plus(q, 1);
     list_piece(b, q, p, l);
     journal::balance(b);
@@ -56,13 +56,13 @@ fn format_piece(b: &mut [u32], q: u32, p: u32, l: u32) {
     board::put(b, board::plus(board::MADE, board::NUMBERS), q, k);
 }
 
-fn format_pieces(b: &mut [u32], p: u32, l: u32) {
+fn format_pieces(b: &mut [u32; board::SIZE], p: u32, l: u32) {
     for q in 0..p {
         format_piece(b, q, p, l);
     }
 }
 
-fn format(b: &mut [u32]) {
+fn format(b: &mut [u32; board::SIZE]) {
     let n = board::get(b, board::IMAGE_LENGTH, 0) / 512;
     let l = board::get(b, board::BLOCK_COUNT, 0);
     let p = board::pieces(l);
@@ -78,12 +78,12 @@ fn format(b: &mut [u32]) {
     }
 }
 
-fn cut(b: &mut [u32]) {
+fn cut(b: &mut [u32; board::SIZE]) {
     board::put(b, board::PHASE, 0, 2);
 }
 
 // The tail and the number after a commit: its last member's.
-fn put_tail(b: &mut [u32]) {
+fn put_tail(b: &mut [u32; board::SIZE]) {
     let tail = board::get(b, board::LAST_PLACE, 0);
     let number = board::plus(
         board::get(b, board::NUMBER, 0),
@@ -93,7 +93,7 @@ fn put_tail(b: &mut [u32]) {
     board::put(b, board::NUMBER, 0, number);
 }
 
-fn commit(b: &mut [u32], writes: bool) {
+fn commit(b: &mut [u32; board::SIZE], writes: bool) {
     let n = board::get(b, board::STATE_N, 0);
     let l = board::get(b, board::STATE_L, 0);
     changes::plan(b, n, l, writes);
@@ -110,14 +110,14 @@ fn restored(x: u32) -> u32 {
     x - x % 256 + (255 - x % 256)
 }
 
-fn restore(b: &mut [u32], entry: u32) {
+fn restore(b: &mut [u32; board::SIZE], entry: u32) {
     if entry >= 2_147_483_648 {
         let first = board::get(b, board::OUT, 0);
         board::put(b, board::OUT, 0, restored(first));
     }
 }
 
-fn read(b: &mut [u32]) {
+fn read(b: &mut [u32; board::SIZE]) {
     let block = board::get(b, board::BLOCKS, 0);
     let entry = board::get(b, board::LENT, block);
     if entry == 0 {
@@ -128,7 +128,7 @@ fn read(b: &mut [u32]) {
     }
 }
 
-fn park(b: &mut [u32]) {
+fn park(b: &mut [u32; board::SIZE]) {
     let number = board::get(b, board::NUMBER, 0);
     let tail = board::get(b, board::TAIL, 0);
     journal::list_park(b, number, tail);
@@ -140,7 +140,7 @@ fn park(b: &mut [u32]) {
 }
 
 // The stores of a recovery that found its log.
-fn finish(b: &mut [u32], n: u32, l: u32) {
+fn finish(b: &mut [u32; board::SIZE], n: u32, l: u32) {
     let tail = board::get(b, board::FOUND_TAIL, 0);
     let number = board::get(b, board::FOUND_NUMBER, 0);
     if journal::perform(b) {
@@ -153,20 +153,20 @@ fn finish(b: &mut [u32], n: u32, l: u32) {
 }
 
 // Way and sectors read are given on acceptance only.
-fn forget_way(b: &mut [u32]) {
+fn forget_way(b: &mut [u32; board::SIZE]) {
     board::put(b, board::WAY, 0, 0);
     board::put(b, board::READS, 0, 0);
 }
 
 // The walk where it answers, otherwise the scan: 0, 8 or 9.
-fn find(b: &mut [u32], n: u32, l: u32) -> u32 {
+fn find(b: &mut [u32; board::SIZE], n: u32, l: u32) -> u32 {
     if walked::walk(b, n, l) {
         return 0;
     }
     scanned::scan(b, n, l)
 }
 
-fn recover(b: &mut [u32]) {
+fn recover(b: &mut [u32; board::SIZE]) {
     let n = board::get(b, board::IMAGE_LENGTH, 0) / 512;
     let l = board::get(b, board::BLOCK_COUNT, 0);
     let found = find(b, n, l);
@@ -178,7 +178,7 @@ fn recover(b: &mut [u32]) {
     }
 }
 
-fn carry_out(b: &mut [u32], call: u32) {
+fn carry_out(b: &mut [u32; board::SIZE], call: u32) {
     match call {
         0 => format(b),
         1 => commit(b, true),
@@ -189,7 +189,7 @@ fn carry_out(b: &mut [u32], call: u32) {
     }
 }
 
-fn refusal(b: &mut [u32], call: u32) -> u32 {
+fn refusal(b: &mut [u32; board::SIZE], call: u32) -> u32 {
     match call {
         0 => refusals::of_image(b),
         1 => refusals::of_commit(b, true),
@@ -201,7 +201,7 @@ fn refusal(b: &mut [u32], call: u32) -> u32 {
 }
 
 // Performs the call that stands on the board, and leaves its answer there.
-pub fn perform(b: &mut [u32]) {
+pub fn perform(b: &mut [u32; board::SIZE]) {
     let call = board::get(b, board::CALL, 0);
     board::fill(b, board::ANSWER, 4, 0);
     board::put(b, board::LISTED, 0, 0);

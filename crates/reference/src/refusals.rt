@@ -17,7 +17,7 @@ fn size_fits(n: u32, l: u32) -> bool {
     n as u64 >= 2 * board::pieces(l) as u64 + 2
 }
 
-fn tables_fit(b: &[u32], n: u32, l: u32) -> bool {
+fn tables_fit(b: &[u32; board::SIZE], n: u32, l: u32) -> bool {
     if board::get(b, board::MAP_LENGTH, 0) != l {
         return false;
     }
@@ -31,7 +31,7 @@ fn tables_fit(b: &[u32], n: u32, l: u32) -> bool {
 }
 
 // For format and recover: N is what the image's length says.
-pub fn of_image(b: &[u32]) -> u32 {
+pub fn of_image(b: &[u32; board::SIZE]) -> u32 {
     let length = board::get(b, board::IMAGE_LENGTH, 0);
     let n = length / 512;
     let l = board::get(b, board::BLOCK_COUNT, 0);
@@ -48,7 +48,7 @@ pub fn of_image(b: &[u32]) -> u32 {
 }
 
 // 1 and 2 for the calls that go by the state.
-fn of_state(b: &[u32], bytes: u64) -> u32 {
+fn of_state(b: &[u32; board::SIZE], bytes: u64) -> u32 {
     let n = board::get(b, board::STATE_N, 0);
     let l = board::get(b, board::STATE_L, 0);
     if !size_fits(n, l) {
@@ -67,7 +67,7 @@ fn of_state(b: &[u32], bytes: u64) -> u32 {
 }
 
 // Whether the blocks ascend and lie below l.
-fn blocks_ascend(b: &[u32], count: u32, l: u32) -> bool {
+fn blocks_ascend(b: &[u32; board::SIZE], count: u32, l: u32) -> bool {
     for i in 0..count {
         if board::get(b, board::BLOCKS, i) >= l {
             return false;
@@ -81,7 +81,7 @@ fn blocks_ascend(b: &[u32], count: u32, l: u32) -> bool {
     true
 }
 
-fn of_arguments(b: &[u32], n: u32, l: u32) -> u32 {
+fn of_arguments(b: &[u32; board::SIZE], n: u32, l: u32) -> u32 {
     let count = board::get(b, board::COUNT, 0);
     if count < 1 {
         return 3;
@@ -99,7 +99,7 @@ fn of_arguments(b: &[u32], n: u32, l: u32) -> u32 {
 }
 
 // 4 and 5 for the calls that need a running volume.
-fn of_volume(b: &mut [u32], n: u32, l: u32) -> u32 {
+fn of_volume(b: &mut [u32; board::SIZE], n: u32, l: u32) -> u32 {
     if board::get(b, board::PHASE, 0) != 0 {
         return 4;
     }
@@ -115,7 +115,7 @@ fn of_volume(b: &mut [u32], n: u32, l: u32) -> u32 {
 }
 
 // 6 and 7.
-fn of_room(b: &[u32], n: u32, l: u32, writes: bool) -> u32 {
+fn of_room(b: &[u32; board::SIZE], n: u32, l: u32, writes: bool) -> u32 {
     if writes {
         if !places::has_room(b, n, l, board::get(b, board::COUNT, 0)) {
             return 6;
@@ -128,14 +128,14 @@ fn of_room(b: &[u32], n: u32, l: u32, writes: bool) -> u32 {
 }
 
 // The bytes that go with a commit: 512 for each block of a write.
-fn bytes_needed(b: &[u32], writes: bool) -> u64 {
+fn bytes_needed(b: &[u32; board::SIZE], writes: bool) -> u64 {
     if writes {
         return board::get(b, board::COUNT, 0) as u64 * 512;
     }
     0
 }
 
-pub fn of_commit(b: &mut [u32], writes: bool) -> u32 {
+pub fn of_commit(b: &mut [u32; board::SIZE], writes: bool) -> u32 {
     let n = board::get(b, board::STATE_N, 0);
     let l = board::get(b, board::STATE_L, 0);
     let lengths = of_state(b, bytes_needed(b, writes));
@@ -153,7 +153,7 @@ pub fn of_commit(b: &mut [u32], writes: bool) -> u32 {
     of_room(b, n, l, writes)
 }
 
-pub fn of_park(b: &mut [u32]) -> u32 {
+pub fn of_park(b: &mut [u32; board::SIZE]) -> u32 {
     let n = board::get(b, board::STATE_N, 0);
     let l = board::get(b, board::STATE_L, 0);
     let lengths = of_state(b, 0);
@@ -163,7 +163,7 @@ pub fn of_park(b: &mut [u32]) -> u32 {
     of_volume(b, n, l)
 }
 
-pub fn of_read(b: &[u32]) -> u32 {
+pub fn of_read(b: &[u32; board::SIZE]) -> u32 {
     let lengths = of_state(b, 512);
     if lengths != 0 {
         return lengths;

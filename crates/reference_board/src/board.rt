@@ -108,73 +108,73 @@ pub fn bytes(sectors: u32) -> u32 {
     (sectors as u64 * 512 % 4_294_967_296) as u32
 }
 
-fn get_at(board: &[u32], at: usize) -> u32 {
-    if at < board.len() {
+fn get_at(board: &[u32; SIZE], at: usize) -> u32 {
+    if at < SIZE {
         return board[at];
     }
     0
 }
 
-fn put_at(board: &mut [u32], at: usize, x: u32) {
-    if at < board.len() {
+fn put_at(board: &mut [u32; SIZE], at: usize, x: u32) {
+    if at < SIZE {
         board[at] = x;
     }
 }
 
 // Word i of those that begin at `from`.
-pub fn get(board: &[u32], from: u32, i: u32) -> u32 {
+pub fn get(board: &[u32; SIZE], from: u32, i: u32) -> u32 {
     get_at(board, from as usize + i as usize)
 }
 
-pub fn put(board: &mut [u32], from: u32, i: u32, x: u32) {
+pub fn put(board: &mut [u32; SIZE], from: u32, i: u32, x: u32) {
     put_at(board, from as usize + i as usize, x);
 }
 
 // Word i of the k-th sector of those that begin at `from`.
-pub fn word(board: &[u32], from: u32, k: u32, i: u32) -> u32 {
+pub fn word(board: &[u32; SIZE], from: u32, k: u32, i: u32) -> u32 {
     get_at(board, from as usize + k as usize * 128 + i as usize)
 }
 
-pub fn put_word(board: &mut [u32], from: u32, k: u32, i: u32, x: u32) {
+pub fn put_word(board: &mut [u32; SIZE], from: u32, k: u32, i: u32, x: u32) {
     put_at(board, from as usize + k as usize * 128 + i as usize, x);
 }
 
-pub fn fill(board: &mut [u32], from: u32, count: u32, x: u32) {
+pub fn fill(board: &mut [u32; SIZE], from: u32, count: u32, x: u32) {
     for i in 0..count {
         put(board, from, i, x);
     }
 }
 
-fn copy_one(board: &mut [u32], to: u32, from: u32, i: u32) {
+fn copy_one(board: &mut [u32; SIZE], to: u32, from: u32, i: u32) {
     let x = get(board, from, i);
     put(board, to, i, x);
 }
 
-pub fn copy(board: &mut [u32], to: u32, from: u32, count: u32) {
+pub fn copy(board: &mut [u32; SIZE], to: u32, from: u32, count: u32) {
     for i in 0..count {
         copy_one(board, to, from, i);
     }
 }
 
-fn copy_word(board: &mut [u32], to: u32, j: u32, from: u32, k: u32, i: u32) {
+fn copy_word(board: &mut [u32; SIZE], to: u32, j: u32, from: u32, k: u32, i: u32) {
     let x = word(board, from, k, i);
     put_word(board, to, j, i, x);
 }
 
 // Copies the k-th sector from `from` to the j-th from `to`.
-pub fn copy_sector(board: &mut [u32], to: u32, j: u32, from: u32, k: u32) {
+pub fn copy_sector(board: &mut [u32; SIZE], to: u32, j: u32, from: u32, k: u32) {
     for i in 0..128u32 {
         copy_word(board, to, j, from, k, i);
     }
 }
 
-pub fn fill_sector(board: &mut [u32], from: u32, k: u32, x: u32) {
+pub fn fill_sector(board: &mut [u32; SIZE], from: u32, k: u32, x: u32) {
     for i in 0..128u32 {
         put_word(board, from, k, i, x);
     }
 }
 
-pub fn is_zero_sector(board: &[u32], from: u32, k: u32) -> bool {
+pub fn is_zero_sector(board: &[u32; SIZE], from: u32, k: u32) -> bool {
     for i in 0..128u32 {
         if word(board, from, k, i) != 0 {
             return false;
@@ -200,7 +200,7 @@ pub fn used_bytes(n: u32) -> u32 {
 }
 
 // The sum of a sector's words, with wrapping.
-pub fn sum(board: &[u32], from: u32, k: u32) -> u32 {
+pub fn sum(board: &[u32; SIZE], from: u32, k: u32) -> u32 {
     let mut s = 0u32;
     for i in 0..128u32 {
         s = plus(s, word(board, from, k, i));

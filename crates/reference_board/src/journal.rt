@@ -3,14 +3,14 @@ use crate::board;
 use crate::valid;
 
 // Lists a store of zeros at k. The words of a store that is listed last may still be put.
-pub fn list(b: &mut [u32], k: u32) {
+pub fn list(b: &mut [u32; board::SIZE], k: u32) {
     let j = board::get(b, board::LISTED, 0);
     board::put(b, board::LIST_PLACES, j, k);
     board::fill_sector(b, board::LIST, j, 0);
     board::put(b, board::LISTED, 0, board::plus(j, 1));
 }
 
-fn last(b: &[u32]) -> u32 {
+fn last(b: &[u32; board::SIZE]) -> u32 {
     let listed = board::get(b, board::LISTED, 0);
     if listed == 0 {
         return 0;
@@ -18,19 +18,19 @@ fn last(b: &[u32]) -> u32 {
     listed - 1
 }
 
-pub fn put_last(b: &mut [u32], i: u32, x: u32) {
+pub fn put_last(b: &mut [u32; board::SIZE], i: u32, x: u32) {
     let j = last(b);
     board::put_word(b, board::LIST, j, i, x);
 }
 
 // Word 1 balances the sum.
-pub fn balance(b: &mut [u32]) {
+pub fn balance(b: &mut [u32; board::SIZE]) {
     let sum = board::sum(b, board::LIST, last(b));
     put_last(b, 1, std::num::wrapping_sub_u32(0, sum));
 }
 
 // Lists a data sector: the words of the i-th block lent, the first byte complemented where they begin with the map mark.
-pub fn list_data(b: &mut [u32], k: u32, i: u32) {
+pub fn list_data(b: &mut [u32; board::SIZE], k: u32, i: u32) {
     list(b, k);
     let j = last(b);
     board::copy_sector(b, board::LIST, j, board::DATA, i);
@@ -39,12 +39,12 @@ pub fn list_data(b: &mut [u32], k: u32, i: u32) {
     }
 }
 
-pub fn begins_with_mark(b: &[u32], i: u32) -> bool {
+pub fn begins_with_mark(b: &[u32; board::SIZE], i: u32) -> bool {
     board::word(b, board::DATA, i, 0) == valid::MAP_MARK
 }
 
 // Lists a map sector that has no branches and no entries yet.
-pub fn list_map(b: &mut [u32], k: u32, number: u32, piece: u32, kind: u32, l: u32) {
+pub fn list_map(b: &mut [u32; board::SIZE], k: u32, number: u32, piece: u32, kind: u32, l: u32) {
     list(b, k);
     put_last(b, 0, valid::MAP_MARK);
     put_last(b, 2, number);
@@ -53,14 +53,14 @@ pub fn list_map(b: &mut [u32], k: u32, number: u32, piece: u32, kind: u32, l: u3
     put_last(b, 7, l);
 }
 
-pub fn list_branch(b: &mut [u32], x: u32) {
+pub fn list_branch(b: &mut [u32; board::SIZE], x: u32) {
     let j = last(b);
     let count = board::word(b, board::LIST, j, 6);
     put_last(b, 6, board::plus(count, 1));
     put_last(b, board::plus(8, count), x);
 }
 
-fn put_made_entry(b: &mut [u32], piece: u32, i: u32) {
+fn put_made_entry(b: &mut [u32; board::SIZE], piece: u32, i: u32) {
     if i < 96 {
         if piece < 256 {
             let entry = board::get(b, board::MADE, piece * 96 + i);
@@ -70,13 +70,13 @@ fn put_made_entry(b: &mut [u32], piece: u32, i: u32) {
 }
 
 // The entries of a piece in the map that is made. (Past L the map is zero.)
-pub fn list_entries(b: &mut [u32], piece: u32) {
+pub fn list_entries(b: &mut [u32; board::SIZE], piece: u32) {
     for i in 0..96u32 {
         put_made_entry(b, piece, i);
     }
 }
 
-pub fn list_park(b: &mut [u32], number: u32, tail: u32) {
+pub fn list_park(b: &mut [u32; board::SIZE], number: u32, tail: u32) {
     list(b, 0);
     put_last(b, 0, valid::PARK_MARK);
     put_last(b, 2, number);
@@ -84,21 +84,21 @@ pub fn list_park(b: &mut [u32], number: u32, tail: u32) {
     balance(b);
 }
 
-fn make(b: &mut [u32], j: u32, allowed: u32) {
+fn make(b: &mut [u32; board::SIZE], j: u32, allowed: u32) {
     if j < allowed {
         let k = board::get(b, board::LIST_PLACES, j);
         board::copy_sector(b, board::IMAGE, k, board::LIST, j);
     }
 }
 
-fn make_all(b: &mut [u32], listed: u32, allowed: u32) {
+fn make_all(b: &mut [u32; board::SIZE], listed: u32, allowed: u32) {
     for j in 0..listed {
         make(b, j, allowed);
     }
 }
 
 // Makes the stores listed, in order, as many as are allowed, and says whether those were all.
-pub fn perform(b: &mut [u32]) -> bool {
+pub fn perform(b: &mut [u32; board::SIZE]) -> bool {
     let listed = board::get(b, board::LISTED, 0);
     let allowed = board::get(b, board::ALLOWED, 0);
     make_all(b, listed, allowed);

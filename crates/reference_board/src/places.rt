@@ -11,12 +11,12 @@ fn turn(from: u32, k: u32) -> u64 {
     k as u64 + 4_294_967_296
 }
 
-fn is_free(b: &[u32], k: u32) -> bool {
+fn is_free(b: &[u32; board::SIZE], k: u32) -> bool {
     board::get(b, board::plus(board::MADE, board::USED), k) == 0
 }
 
 // The free sector to which the search comes first: of all free ones that whose turn is first. 0 where none is free.
-fn nearest(b: &[u32], from: u32, n: u32) -> u32 {
+fn nearest(b: &[u32; board::SIZE], from: u32, n: u32) -> u32 {
     let mut best = 0u32;
     for k in 1..n {
         if is_free(b, k) {
@@ -37,7 +37,7 @@ fn nearer(best: u32, k: u32, from: u32) -> u32 {
 }
 
 // Takes the next free sector. It stays taken to the end of the commit, and nothing is freed before that.
-pub fn take(b: &mut [u32], n: u32) -> u32 {
+pub fn take(b: &mut [u32; board::SIZE], n: u32) -> u32 {
     let from = board::get(b, board::NEXT, 0);
     let k = nearest(b, from, n);
     board::put(b, board::plus(board::MADE, board::USED), k, 1);
@@ -55,6 +55,6 @@ fn after(k: u32, n: u32) -> u32 {
 }
 
 // Whether a commit has the room that it needs: so many blocks, and P.
-pub fn has_room(b: &[u32], n: u32, l: u32, count: u32) -> bool {
+pub fn has_room(b: &[u32; board::SIZE], n: u32, l: u32, count: u32) -> bool {
     consistent::free_count(b, board::LENT, n) as u64 >= count as u64 + board::pieces(l) as u64
 }

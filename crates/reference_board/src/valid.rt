@@ -21,7 +21,7 @@ fn branch_fits(x: u32, counts: bool, n: u32) -> bool {
     x == 0
 }
 
-fn branches_fit(b: &[u32], k: u32, n: u32) -> bool {
+fn branches_fit(b: &[u32; board::SIZE], k: u32, n: u32) -> bool {
     let count = board::word(b, board::IMAGE, k, 6);
     for i in 0..24u32 {
         if !branch_fits(board::word(b, board::IMAGE, k, 8 + i), i < count, n) {
@@ -36,7 +36,7 @@ fn is_past(piece: u32, i: u32, l: u32) -> bool {
     piece as u64 * 96 + i as u64 >= l as u64
 }
 
-fn entries_fit(b: &[u32], k: u32, l: u32) -> bool {
+fn entries_fit(b: &[u32; board::SIZE], k: u32, l: u32) -> bool {
     let piece = board::word(b, board::IMAGE, k, 4);
     for i in 0..96u32 {
         if is_past(piece, i, l) {
@@ -49,7 +49,7 @@ fn entries_fit(b: &[u32], k: u32, l: u32) -> bool {
 }
 
 // Words 3 to 7: zero, the piece, the kind, the count of branches, L.
-fn fields_fit(b: &[u32], k: u32, l: u32) -> bool {
+fn fields_fit(b: &[u32; board::SIZE], k: u32, l: u32) -> bool {
     if board::word(b, board::IMAGE, k, 3) != 0 {
         return false;
     }
@@ -65,7 +65,7 @@ fn fields_fit(b: &[u32], k: u32, l: u32) -> bool {
     board::word(b, board::IMAGE, k, 7) == l
 }
 
-pub fn is_valid(b: &[u32], k: u32, n: u32, l: u32) -> bool {
+pub fn is_valid(b: &[u32; board::SIZE], k: u32, n: u32, l: u32) -> bool {
     if board::word(b, board::IMAGE, k, 0) != MAP_MARK {
         return false;
     }
@@ -84,15 +84,15 @@ pub fn is_valid(b: &[u32], k: u32, n: u32, l: u32) -> bool {
     entries_fit(b, k, l)
 }
 
-pub fn number_of(b: &[u32], k: u32) -> u32 {
+pub fn number_of(b: &[u32; board::SIZE], k: u32) -> u32 {
     board::word(b, board::IMAGE, k, 2)
 }
 
-pub fn piece_of(b: &[u32], k: u32) -> u32 {
+pub fn piece_of(b: &[u32; board::SIZE], k: u32) -> u32 {
     board::word(b, board::IMAGE, k, 4)
 }
 
-pub fn is_closing(b: &[u32], k: u32, n: u32, l: u32) -> bool {
+pub fn is_closing(b: &[u32; board::SIZE], k: u32, n: u32, l: u32) -> bool {
     if board::word(b, board::IMAGE, k, 5) != 1 {
         return false;
     }
@@ -100,7 +100,7 @@ pub fn is_closing(b: &[u32], k: u32, n: u32, l: u32) -> bool {
 }
 
 // Whether sector 0 is a park record.
-pub fn is_park(b: &[u32]) -> bool {
+pub fn is_park(b: &[u32; board::SIZE]) -> bool {
     if board::word(b, board::IMAGE, 0, 0) != PARK_MARK {
         return false;
     }

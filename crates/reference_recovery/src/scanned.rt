@@ -5,7 +5,7 @@ use reference_board::journal;
 use reference_board::valid;
 
 // The sector of the highest number on a signed closing sector; n where there is none.
-fn newest_closing(b: &[u32], n: u32, l: u32) -> u32 {
+fn newest_closing(b: &[u32; board::SIZE], n: u32, l: u32) -> u32 {
     let mut best = n;
     for k in 0..n {
         if valid::is_closing(b, k, n, l) {
@@ -15,7 +15,7 @@ fn newest_closing(b: &[u32], n: u32, l: u32) -> u32 {
     best
 }
 
-fn newer(b: &[u32], best: u32, k: u32, n: u32) -> u32 {
+fn newer(b: &[u32; board::SIZE], best: u32, k: u32, n: u32) -> u32 {
     if best == n {
         return k;
     }
@@ -26,7 +26,7 @@ fn newer(b: &[u32], best: u32, k: u32, n: u32) -> u32 {
 }
 
 // Whether a sector is signed, of piece q and numbered c at most.
-fn is_candidate(b: &[u32], k: u32, q: u32, c: u32, n: u32, l: u32) -> bool {
+fn is_candidate(b: &[u32; board::SIZE], k: u32, q: u32, c: u32, n: u32, l: u32) -> bool {
     if valid::piece_of(b, k) != q {
         return false;
     }
@@ -37,7 +37,7 @@ fn is_candidate(b: &[u32], k: u32, q: u32, c: u32, n: u32, l: u32) -> bool {
 }
 
 // The sector of piece q: its highest number up to c; n where it has none.
-fn piece_sector(b: &[u32], q: u32, c: u32, n: u32, l: u32) -> u32 {
+fn piece_sector(b: &[u32; board::SIZE], q: u32, c: u32, n: u32, l: u32) -> u32 {
     let mut best = n;
     for k in 0..n {
         if is_candidate(b, k, q, c, n, l) {
@@ -48,7 +48,7 @@ fn piece_sector(b: &[u32], q: u32, c: u32, n: u32, l: u32) -> u32 {
 }
 
 // Whether a signed sector before k has the number of k.
-fn has_equal(b: &[u32], k: u32, n: u32, l: u32) -> bool {
+fn has_equal(b: &[u32; board::SIZE], k: u32, n: u32, l: u32) -> bool {
     for j in 0..k {
         if valid::number_of(b, j) == valid::number_of(b, k) {
             if valid::is_valid(b, j, n, l) {
@@ -59,7 +59,7 @@ fn has_equal(b: &[u32], k: u32, n: u32, l: u32) -> bool {
     false
 }
 
-fn has_equal_numbers(b: &[u32], n: u32, l: u32) -> bool {
+fn has_equal_numbers(b: &[u32; board::SIZE], n: u32, l: u32) -> bool {
     for k in 0..n {
         if valid::is_valid(b, k, n, l) {
             if has_equal(b, k, n, l) {
@@ -70,7 +70,7 @@ fn has_equal_numbers(b: &[u32], n: u32, l: u32) -> bool {
     false
 }
 
-fn take_entry(b: &mut [u32], k: u32, q: u32, i: u32, l: u32) {
+fn take_entry(b: &mut [u32; board::SIZE], k: u32, q: u32, i: u32, l: u32) {
     if q < 256 {
         if i < 96 {
             let entry = board::word(b, board::IMAGE, k, 32 + i);
@@ -79,14 +79,14 @@ fn take_entry(b: &mut [u32], k: u32, q: u32, i: u32, l: u32) {
     }
 }
 
-fn put_entry(b: &mut [u32], block: u32, entry: u32, l: u32) {
+fn put_entry(b: &mut [u32; board::SIZE], block: u32, entry: u32, l: u32) {
     if block < l {
         board::put(b, board::MADE, block, entry);
     }
 }
 
 // Takes sector k as the live one of piece q.
-pub fn take(b: &mut [u32], k: u32, q: u32, l: u32) {
+pub fn take(b: &mut [u32; board::SIZE], k: u32, q: u32, l: u32) {
     let number = valid::number_of(b, k);
     board::put(b, board::plus(board::MADE, board::PLACES), q, k);
     board::put(b, board::plus(board::MADE, board::NUMBERS), q, number);
@@ -95,7 +95,7 @@ pub fn take(b: &mut [u32], k: u32, q: u32, l: u32) {
     }
 }
 
-fn take_piece(b: &mut [u32], q: u32, c: u32, n: u32, l: u32) -> bool {
+fn take_piece(b: &mut [u32; board::SIZE], q: u32, c: u32, n: u32, l: u32) -> bool {
     let k = piece_sector(b, q, c, n, l);
     if k == n {
         return false;
@@ -105,7 +105,7 @@ fn take_piece(b: &mut [u32], q: u32, c: u32, n: u32, l: u32) -> bool {
 }
 
 // Takes the sector of every piece, and says whether all have one.
-fn take_pieces(b: &mut [u32], c: u32, n: u32, l: u32) -> bool {
+fn take_pieces(b: &mut [u32; board::SIZE], c: u32, n: u32, l: u32) -> bool {
     let p = board::pieces(l);
     let mut all = true;
     for q in 0..p {
@@ -121,41 +121,41 @@ fn both(x: bool, y: bool) -> bool {
     false
 }
 
-fn is_uncommitted(b: &[u32], k: u32, c: u32, n: u32, l: u32) -> bool {
+fn is_uncommitted(b: &[u32; board::SIZE], k: u32, c: u32, n: u32, l: u32) -> bool {
     if valid::number_of(b, k) <= c {
         return false;
     }
     valid::is_valid(b, k, n, l)
 }
 
-fn list_uncommitted(b: &mut [u32], k: u32, c: u32, n: u32, l: u32) {
+fn list_uncommitted(b: &mut [u32; board::SIZE], k: u32, c: u32, n: u32, l: u32) {
     if is_uncommitted(b, k, c, n, l) {
         journal::list(b, k);
     }
 }
 
-fn list_all_uncommitted(b: &mut [u32], c: u32, n: u32, l: u32) {
+fn list_all_uncommitted(b: &mut [u32; board::SIZE], c: u32, n: u32, l: u32) {
     for k in 0..n {
         list_uncommitted(b, k, c, n, l);
     }
 }
 
 // Lists the zeroing of signed sectors numbered above c, and of sector 0 unless that is zero by then.
-fn list_zeros(b: &mut [u32], c: u32, n: u32, l: u32) {
+fn list_zeros(b: &mut [u32; board::SIZE], c: u32, n: u32, l: u32) {
     list_all_uncommitted(b, c, n, l);
     if !is_uncommitted(b, 0, c, n, l) {
         list_park_sector(b);
     }
 }
 
-pub fn list_park_sector(b: &mut [u32]) {
+pub fn list_park_sector(b: &mut [u32; board::SIZE]) {
     if !board::is_zero_sector(b, board::IMAGE, 0) {
         journal::list(b, 0);
     }
 }
 
 // What a recovery has found, by which way, and the sectors read for it.
-pub fn put_found(b: &mut [u32], tail: u32, way: u32, read: u32) {
+pub fn put_found(b: &mut [u32; board::SIZE], tail: u32, way: u32, read: u32) {
     let number = valid::number_of(b, tail);
     board::put(b, board::FOUND_TAIL, 0, tail);
     board::put(b, board::FOUND_NUMBER, 0, number);
@@ -164,7 +164,7 @@ pub fn put_found(b: &mut [u32], tail: u32, way: u32, read: u32) {
 }
 
 // Whether each piece has a sector up to c, and these give consistent tables.
-fn is_whole(b: &mut [u32], tail: u32, c: u32, n: u32, l: u32) -> bool {
+fn is_whole(b: &mut [u32; board::SIZE], tail: u32, c: u32, n: u32, l: u32) -> bool {
     board::fill(b, board::MADE, board::TABLE_WORDS, 0);
     if !take_pieces(b, c, n, l) {
         return false;
@@ -174,7 +174,7 @@ fn is_whole(b: &mut [u32], tail: u32, c: u32, n: u32, l: u32) -> bool {
 }
 
 // What a scan makes of the image: 0, with tables made and stores listed, or 8 or 9.
-pub fn scan(b: &mut [u32], n: u32, l: u32) -> u32 {
+pub fn scan(b: &mut [u32; board::SIZE], n: u32, l: u32) -> u32 {
     let tail = newest_closing(b, n, l);
     if tail == n {
         return 8;

@@ -5,7 +5,7 @@ use reference_board::consistent;
 use reference_board::valid;
 
 // Whether there is a park record whose tail is signed, closing and has its number.
-fn starts(b: &[u32], n: u32, l: u32) -> bool {
+fn starts(b: &[u32; board::SIZE], n: u32, l: u32) -> bool {
     if !valid::is_park(b) {
         return false;
     }
@@ -19,12 +19,12 @@ fn starts(b: &[u32], n: u32, l: u32) -> bool {
     valid::number_of(b, tail) == board::word(b, board::IMAGE, 0, 2)
 }
 
-fn is_done(b: &[u32], q: u32) -> bool {
+fn is_done(b: &[u32; board::SIZE], q: u32) -> bool {
     board::get(b, board::DONE, q) != 0
 }
 
 // The piece whose waiting sector is the newest; p where none waits. A sector that waits is never 0.
-fn newest_waiting(b: &[u32], p: u32) -> u32 {
+fn newest_waiting(b: &[u32; board::SIZE], p: u32) -> u32 {
     let mut best = p;
     for q in 0..p {
         best = newer(b, best, q, p);
@@ -32,7 +32,7 @@ fn newest_waiting(b: &[u32], p: u32) -> u32 {
     best
 }
 
-fn newer(b: &[u32], best: u32, q: u32, p: u32) -> u32 {
+fn newer(b: &[u32; board::SIZE], best: u32, q: u32, p: u32) -> u32 {
     if is_done(b, q) {
         return best;
     }
@@ -50,7 +50,7 @@ fn newer(b: &[u32], best: u32, q: u32, p: u32) -> u32 {
 }
 
 // Whether a target counts for the sector that holds the branch: signed, lower in number, and of a piece not done.
-fn counts(b: &[u32], target: u32, holder: u32, n: u32, l: u32) -> bool {
+fn counts(b: &[u32; board::SIZE], target: u32, holder: u32, n: u32, l: u32) -> bool {
     if !valid::is_valid(b, target, n, l) {
         return false;
     }
@@ -61,7 +61,7 @@ fn counts(b: &[u32], target: u32, holder: u32, n: u32, l: u32) -> bool {
 }
 
 // For a piece the highest waits, of equal ones the first read.
-fn wait(b: &mut [u32], target: u32) {
+fn wait(b: &mut [u32; board::SIZE], target: u32) {
     let q = valid::piece_of(b, target);
     let waiting = board::get(b, board::WAITING, q);
     if waiting == 0 {
@@ -73,7 +73,7 @@ fn wait(b: &mut [u32], target: u32) {
     }
 }
 
-fn read_branch(b: &mut [u32], holder: u32, i: u32, n: u32, l: u32) {
+fn read_branch(b: &mut [u32; board::SIZE], holder: u32, i: u32, n: u32, l: u32) {
     if i < board::word(b, board::IMAGE, holder, 6) {
         let target = board::word(b, board::IMAGE, holder, board::plus(8, i));
         if counts(b, target, holder, n, l) {
@@ -82,14 +82,14 @@ fn read_branch(b: &mut [u32], holder: u32, i: u32, n: u32, l: u32) {
     }
 }
 
-fn read_branches(b: &mut [u32], holder: u32, n: u32, l: u32) {
+fn read_branches(b: &mut [u32; board::SIZE], holder: u32, n: u32, l: u32) {
     for i in 0..24u32 {
         read_branch(b, holder, i, n, l);
     }
 }
 
 // Takes the newest waiting sector, where one waits.
-fn step(b: &mut [u32], n: u32, l: u32) {
+fn step(b: &mut [u32; board::SIZE], n: u32, l: u32) {
     let p = board::pieces(l);
     let q = newest_waiting(b, p);
     if q < p {
@@ -100,14 +100,14 @@ fn step(b: &mut [u32], n: u32, l: u32) {
     }
 }
 
-fn steps(b: &mut [u32], n: u32, l: u32) {
+fn steps(b: &mut [u32; board::SIZE], n: u32, l: u32) {
     let p = board::pieces(l);
     for turn in 0..p {
         step(b, n, l);
     }
 }
 
-fn all_done(b: &[u32], p: u32) -> bool {
+fn all_done(b: &[u32; board::SIZE], p: u32) -> bool {
     for q in 0..p {
         if !is_done(b, q) {
             return false;
@@ -117,7 +117,7 @@ fn all_done(b: &[u32], p: u32) -> bool {
 }
 
 // 2, and the branches of the live sectors.
-fn sectors_read(b: &[u32], p: u32) -> u32 {
+fn sectors_read(b: &[u32; board::SIZE], p: u32) -> u32 {
     let mut read = 2u32;
     for q in 0..p {
         let k = board::get(b, board::plus(board::MADE, board::PLACES), q);
@@ -127,7 +127,7 @@ fn sectors_read(b: &[u32], p: u32) -> u32 {
 }
 
 // Walks from the tail, and makes the tables of what it takes.
-fn walk_from(b: &mut [u32], tail: u32, n: u32, l: u32) {
+fn walk_from(b: &mut [u32; board::SIZE], tail: u32, n: u32, l: u32) {
     board::fill(b, board::MADE, board::TABLE_WORDS, 0);
     board::fill(b, board::WAITING, 64, 0);
     board::fill(b, board::DONE, 64, 0);
@@ -136,7 +136,7 @@ fn walk_from(b: &mut [u32], tail: u32, n: u32, l: u32) {
 }
 
 // Whether all pieces are done and give consistent tables.
-fn is_complete(b: &mut [u32], tail: u32, n: u32, l: u32) -> bool {
+fn is_complete(b: &mut [u32; board::SIZE], tail: u32, n: u32, l: u32) -> bool {
     if !all_done(b, board::pieces(l)) {
         return false;
     }
@@ -146,7 +146,7 @@ fn is_complete(b: &mut [u32], tail: u32, n: u32, l: u32) -> bool {
 }
 
 // Whether the walk answers. Its tables are made then, and its stores listed.
-pub fn walk(b: &mut [u32], n: u32, l: u32) -> bool {
+pub fn walk(b: &mut [u32; board::SIZE], n: u32, l: u32) -> bool {
     if !starts(b, n, l) {
         return false;
     }

@@ -1,41 +1,45 @@
 // Tries the code against the second implementation and the plain disk, on small volumes: the script on standard input, random histories with the
 // power cut at each store, damaged images and damaged memory. The numbers are the same in every run.
+mod both;
+mod cuts;
 mod damage;
+mod histories;
 mod plugs;
-mod report;
+mod script;
 
 use reference_board::board;
+use trial_choice::choice;
 
 fn try_script() {
     let mut text = [0u8; 65536];
     let length = io::read_full(0, &mut text);
     let mut b = [0u32; board::SIZE];
-    trial_script::run(&mut b, &text[..length]);
-    report::say_script(&b);
+    script::run(&mut b, &text[..length]);
+    trial_report::say_script(&b);
 }
 
 // Random histories on one volume. Every `often`-th call is cut at each of its stores.
 fn try_history(l: u32, n: u32, spread: u32, calls: u32, often: u32) {
     let mut b = [0u32; board::SIZE];
-    trial_histories::limit(&mut b, 4, 6);
-    trial_histories::run(&mut b, l, n, spread, calls, often);
-    report::say_history(&b, l, n);
+    choice::limit(&mut b, 4, 6);
+    histories::run(&mut b, l, n, spread, calls, often);
+    trial_report::say_history(&b, l, n);
 }
 
 // Drops of many pieces, so that commits fold.
 fn try_folds(l: u32, n: u32, spread: u32, calls: u32, often: u32) {
     let mut b = [0u32; board::SIZE];
-    trial_histories::limit(&mut b, 3, 49);
-    trial_histories::run(&mut b, l, n, spread, calls, often);
-    report::say_history(&b, l, n);
+    choice::limit(&mut b, 3, 49);
+    histories::run(&mut b, l, n, spread, calls, often);
+    trial_report::say_history(&b, l, n);
 }
 
 // Damage in the image, or in memory.
 fn try_damage(image: bool, l: u32, n: u32, spread: u32, calls: u32) {
     let mut b = [0u32; board::SIZE];
-    trial_histories::limit(&mut b, 3, 4);
+    choice::limit(&mut b, 3, 4);
     damage::run(&mut b, l, n, spread, calls, image);
-    report::say_damage(&b, image, l, n);
+    trial_report::say_damage(&b, image, l, n);
 }
 
 fn try_plugs() {

@@ -1,19 +1,22 @@
 // What the trial keeps on the board beside the volume.
-use crate::lend;
 use reference_board::board;
 
 // The generator's state.
 pub const SEED: u32 = 32096;
+
 // Of the volume's blocks every so-manieth is written.
 pub const SPREAD: u32 = 32097;
+
 // The most blocks in a write, and in a drop.
 pub const MOST_WRITTEN: u32 = 32098;
 
 pub const MOST_DROPPED: u32 = 32099;
+
 // The counts from here on are taken back from a copy of the board.
 pub const COUNTS: u32 = 32100;
 
 pub const CALLS: u32 = 32100;
+
 // Power cuts, and those of them in recoveries.
 pub const CUTS: u32 = 32101;
 
@@ -24,12 +27,14 @@ pub const WALKS: u32 = 32103;
 pub const FOLDS: u32 = 32104;
 
 pub const WRAPS: u32 = 32105;
+
 // Blocks held to the plain disk, and facts of a script.
 pub const BLOCKS_READ: u32 = 32106;
 
 pub const FACTS: u32 = 32107;
 
 pub const DIFFERENCES: u32 = 32108;
+
 // Of the first difference: what it was, in which call, after how many calls, and in which line of a script.
 pub const FIRST: u32 = 32109;
 
@@ -38,22 +43,29 @@ pub const FIRST_CALL: u32 = 32110;
 pub const FIRST_AT: u32 = 32111;
 
 pub const FIRST_LINE: u32 = 32124;
+
 // How often each number, 0 to 10, was answered.
 pub const ANSWERED: u32 = 32112;
+
 // Power cuts in folds.
 pub const FOLD_CUTS: u32 = 32125;
 
 pub const COUNT_WORDS: u32 = 28;
+
 // The block that is named next.
 pub const CURSOR: u32 = 32128;
+
 // Of a script: the bytes that a call is lent too many, and the line.
 pub const BYTES_MORE: u32 = 32129;
 
 pub const LINE: u32 = 32130;
+
 // The seeds of the blocks of a write.
 pub const SEEDS: u32 = 32136;
+
 // The plain disk: a seed for each block.
 pub const DISK: u32 = 32256;
+
 // What may differ, beside what the comparison of both finds (1 to 11).
 pub const PLAIN_DISK: u32 = 12;
 
@@ -63,25 +75,25 @@ pub const NOT_RECOVERED: u32 = 14;
 
 pub const SAMPLE: u32 = 15;
 
-pub fn get(b: &[u32], cell: u32) -> u32 {
+pub fn get(b: &[u32; board::SIZE], cell: u32) -> u32 {
     board::get(b, cell, 0)
 }
 
 // How often a number was answered.
-pub fn answered(b: &[u32], number: u32) -> u32 {
+pub fn answered(b: &[u32; board::SIZE], number: u32) -> u32 {
     board::get(b, ANSWERED, number)
 }
 
-pub fn set(b: &mut [u32], cell: u32, x: u32) {
+pub fn set(b: &mut [u32; board::SIZE], cell: u32, x: u32) {
     board::put(b, cell, 0, x);
 }
 
-pub fn add(b: &mut [u32], cell: u32, x: u32) {
+pub fn add(b: &mut [u32; board::SIZE], cell: u32, x: u32) {
     let sum = board::plus(get(b, cell), x);
     set(b, cell, sum);
 }
 
-fn note_first(b: &mut [u32], what: u32) {
+fn note_first(b: &mut [u32; board::SIZE], what: u32) {
     if get(b, DIFFERENCES) == 0 {
         let call = get(b, board::CALL);
         let calls = get(b, CALLS);
@@ -94,7 +106,7 @@ fn note_first(b: &mut [u32], what: u32) {
 }
 
 // Notes a difference, where there is one.
-pub fn note(b: &mut [u32], what: u32) {
+pub fn note(b: &mut [u32; board::SIZE], what: u32) {
     if what != 0 {
         note_first(b, what);
         add(b, DIFFERENCES, 1);
@@ -102,34 +114,46 @@ pub fn note(b: &mut [u32], what: u32) {
 }
 
 // Notes a difference where something does not hold.
-pub fn hold(b: &mut [u32], holds: bool, what: u32) {
+pub fn hold(b: &mut [u32; board::SIZE], holds: bool, what: u32) {
     if !holds {
         note(b, what);
     }
 }
 
-fn keep_one(c: &mut [u32], b: &[u32], from: u32, i: u32) {
+fn keep_one(c: &mut [u32; board::SIZE], b: &[u32; board::SIZE], from: u32, i: u32) {
     board::put(c, from, i, board::get(b, from, i));
 }
 
-fn keep_words(c: &mut [u32], b: &[u32], from: u32, count: u32) {
+fn keep_words(c: &mut [u32; board::SIZE], b: &[u32; board::SIZE], from: u32, count: u32) {
     for i in 0..count {
         keep_one(c, b, from, i);
     }
 }
 
+// Words of the image lent; a sector that is not whole does not count.
+pub fn image_words(b: &[u32; board::SIZE]) -> u32 {
+    board::get(b, board::IMAGE_LENGTH, 0) / 512 * 128
+}
+
 // Puts the volume, the call and the counts of one board on another, which was blank.
-pub fn keep(c: &mut [u32], b: &[u32]) {
+pub fn keep(c: &mut [u32; board::SIZE], b: &[u32; board::SIZE]) {
     keep_words(c, b, 0, board::DATA);
     keep_words(c, b, board::DATA, get(b, board::BYTES_LENGTH) / 4);
     keep_words(c, b, board::LENT, board::TABLE_WORDS);
-    keep_words(c, b, board::IMAGE, lend::image_words(b));
+    keep_words(c, b, board::IMAGE, image_words(b));
     keep_words(c, b, board::CALLER, DISK - board::CALLER);
     keep_words(c, b, DISK, get(b, board::BLOCK_COUNT));
 }
 
 // Takes the counts back, and the generator's state.
-pub fn carry(b: &mut [u32], c: &[u32]) {
+pub fn carry(b: &mut [u32; board::SIZE], c: &[u32; board::SIZE]) {
     keep_words(b, c, SEED, 1);
     keep_words(b, c, COUNTS, COUNT_WORDS);
+}
+
+// Word 1 of a sector balances its sum.
+pub fn balance(b: &mut [u32; board::SIZE], k: u32) {
+    board::put_word(b, board::IMAGE, k, 1, 0);
+    let sum = board::sum(b, board::IMAGE, k);
+    board::put_word(b, board::IMAGE, k, 1, std::num::wrapping_sub_u32(0, sum));
 }

@@ -1,4 +1,5 @@
-// The trial: the board lent to the code and compared with what it leaves, what is counted beside it, and the generator of its numbers.
+// The trial: its words on the board, the generator, what stands there before a call and what is counted after it.
 pub mod cells;
 pub mod chance;
-pub mod lend;
+pub mod counts;
+pub mod stand;

@@ -1,11 +1,9 @@
-// The script on standard input: calls with chosen arguments, and facts that hold after them. A line is a word and up to three numbers;
-// lines that are empty or begin with # are passed over.
+// The lines of a script: a word and up to three numbers; lines that are empty or begin with # are passed over.
 use paper::words;
 use paper::words::Number;
 use reference_board::board;
 use trial_board::cells;
-use trial_cuts::cuts;
-use trial_cuts::disk;
+use trial_board::stand;
 
 // Where word `count` of a line is looked for, from 0.
 fn skip(line: &[u8], count: u32) -> usize {
@@ -16,13 +14,13 @@ fn skip(line: &[u8], count: u32) -> usize {
     at
 }
 
-fn word(line: &[u8], count: u32) -> &[u8] {
+pub fn word(line: &[u8], count: u32) -> &[u8] {
     let start = words::word_start(line, skip(line, count));
     words::part(line, start, words::word_end(line, start))
 }
 
 // Word `count` as a number; 0 where it is none.
-fn number(line: &[u8], count: u32) -> u32 {
+pub fn number(line: &[u8], count: u32) -> u32 {
     let found = words::number_in(word(line, count));
     match found {
         Number::Value(value) => value,
@@ -116,13 +114,13 @@ fn table_cell(name: &[u8]) -> u32 {
     4_294_967_295
 }
 
-fn hold_fact(b: &mut [u32], holds: bool) {
+fn hold_fact(b: &mut [u32; board::SIZE], holds: bool) {
     cells::add(b, cells::FACTS, 1);
     cells::hold(b, holds, cells::SAMPLE);
 }
 
 // is NAME VALUE, or is NAME INDEX VALUE
-fn hold_is(b: &mut [u32], line: &[u8]) {
+fn hold_is(b: &mut [u32; board::SIZE], line: &[u8]) {
     let from = answer_cell(word(line, 1));
     let holds = if has_word(line, 3) {
         board::get(b, from, number(line, 2)) == number(line, 3)
@@ -133,18 +131,18 @@ fn hold_is(b: &mut [u32], line: &[u8]) {
 }
 
 // sector K WORD VALUE: a word of the image.
-fn hold_sector(b: &mut [u32], line: &[u8]) {
+fn hold_sector(b: &mut [u32; board::SIZE], line: &[u8]) {
     let x = board::word(b, board::IMAGE, number(line, 1), number(line, 2));
     hold_fact(b, x == number(line, 3));
 }
 
 // blank K: a sector of zeros.
-fn hold_blank(b: &mut [u32], line: &[u8]) {
+fn hold_blank(b: &mut [u32; board::SIZE], line: &[u8]) {
     let blank = board::is_zero_sector(b, board::IMAGE, number(line, 1));
     hold_fact(b, blank);
 }
 
-fn is_fact(b: &mut [u32], line: &[u8]) -> bool {
+fn is_fact(b: &mut [u32; board::SIZE], line: &[u8]) -> bool {
     if words::is_word(word(line, 0), b"is") {
         hold_is(b, line);
         return true;
@@ -157,15 +155,11 @@ fn is_fact(b: &mut [u32], line: &[u8]) -> bool {
         hold_blank(b, line);
         return true;
     }
-    if words::is_word(word(line, 0), b"shows") {
-        disk::compare(b, 0);
-        return true;
-    }
     false
 }
 
 // set NAME VALUE, or set NAME INDEX VALUE
-fn set(b: &mut [u32], line: &[u8]) {
+fn set(b: &mut [u32; board::SIZE], line: &[u8]) {
     let from = answer_cell(word(line, 1));
     if has_word(line, 3) {
         board::put(b, from, number(line, 2), number(line, 3));
@@ -175,7 +169,7 @@ fn set(b: &mut [u32], line: &[u8]) {
 }
 
 // put K WORD VALUE: a word of the image.
-fn put(b: &mut [u32], line: &[u8]) {
+fn put(b: &mut [u32; board::SIZE], line: &[u8]) {
     board::put_word(
         b,
         board::IMAGE,
@@ -185,15 +179,8 @@ fn put(b: &mut [u32], line: &[u8]) {
     );
 }
 
-// Word 1 of a sector balances its sum.
-pub fn balance(b: &mut [u32], k: u32) {
-    board::put_word(b, board::IMAGE, k, 1, 0);
-    let sum = board::sum(b, board::IMAGE, k);
-    board::put_word(b, board::IMAGE, k, 1, std::num::wrapping_sub_u32(0, sum));
-}
-
 // copy K J: the words of sector J into sector K.
-fn copy(b: &mut [u32], line: &[u8]) {
+fn copy(b: &mut [u32; board::SIZE], line: &[u8]) {
     board::copy_sector(
         b,
         board::IMAGE,
@@ -203,7 +190,7 @@ fn copy(b: &mut [u32], line: &[u8]) {
     );
 }
 
-fn is_change(b: &mut [u32], line: &[u8]) -> bool {
+fn is_change(b: &mut [u32; board::SIZE], line: &[u8]) -> bool {
     if words::is_word(word(line, 0), b"set") {
         set(b, line);
         return true;
@@ -213,7 +200,7 @@ fn is_change(b: &mut [u32], line: &[u8]) -> bool {
         return true;
     }
     if words::is_word(word(line, 0), b"balance") {
-        balance(b, number(line, 1));
+        cells::balance(b, number(line, 1));
         return true;
     }
     if words::is_word(word(line, 0), b"copy") {
@@ -223,27 +210,27 @@ fn is_change(b: &mut [u32], line: &[u8]) -> bool {
     false
 }
 
-fn name_more(b: &mut [u32], first: u32, step: u32, count: u32) {
+fn name_more(b: &mut [u32; board::SIZE], first: u32, step: u32, count: u32) {
     cells::set(b, cells::CURSOR, first);
     for i in 0..count {
         name_next(b, step);
     }
 }
 
-fn name_next(b: &mut [u32], step: u32) {
+fn name_next(b: &mut [u32; board::SIZE], step: u32) {
     let block = cells::get(b, cells::CURSOR);
-    disk::name_block(b, block, board::plus(block, 1001));
+    trial_disk::name_block(b, block, board::plus(block, 1001));
     cells::add(b, cells::CURSOR, step);
 }
 
 // What goes with the next call: its blocks, one (block B SEED) or several (blocks FIRST STEP COUNT), and its stores.
-fn is_argument(b: &mut [u32], line: &[u8]) -> bool {
+fn is_argument(b: &mut [u32; board::SIZE], line: &[u8]) -> bool {
     if words::is_word(word(line, 0), b"volume") {
-        cuts::stand_format(b, number(line, 1), number(line, 2));
+        stand::stand_format(b, number(line, 1), number(line, 2));
         return true;
     }
     if words::is_word(word(line, 0), b"block") {
-        disk::name_block(b, number(line, 1), number(line, 2));
+        trial_disk::name_block(b, number(line, 1), number(line, 2));
         return true;
     }
     if words::is_word(word(line, 0), b"blocks") {
@@ -262,7 +249,7 @@ fn is_argument(b: &mut [u32], line: &[u8]) -> bool {
 }
 
 // The number of a call; 6 where the word is none.
-fn call_of(name: &[u8]) -> u32 {
+pub fn call_of(name: &[u8]) -> u32 {
     if words::is_word(name, b"format") {
         return 0;
     }
@@ -285,7 +272,7 @@ fn call_of(name: &[u8]) -> u32 {
 }
 
 // The bytes that go with a call.
-fn bytes_of(b: &[u32], call: u32) -> u32 {
+fn bytes_of(b: &[u32; board::SIZE], call: u32) -> u32 {
     match call {
         1 => board::bytes(cells::get(b, board::COUNT)),
         3 => 512,
@@ -293,7 +280,7 @@ fn bytes_of(b: &[u32], call: u32) -> u32 {
     }
 }
 
-fn stand(b: &mut [u32], call: u32, argument: u32) {
+pub fn stand(b: &mut [u32; board::SIZE], call: u32, argument: u32) {
     let bytes = board::plus(bytes_of(b, call), cells::get(b, cells::BYTES_MORE));
     cells::set(b, board::CALL, call);
     cells::set(b, board::BYTES_LENGTH, bytes);
@@ -305,22 +292,10 @@ fn stand(b: &mut [u32], call: u32, argument: u32) {
 }
 
 // The next call names its blocks anew, and has enough stores.
-fn clear(b: &mut [u32]) {
+pub fn clear(b: &mut [u32; board::SIZE]) {
     cells::set(b, board::COUNT, 0);
     cells::set(b, cells::BYTES_MORE, 0);
-    cells::set(b, board::ALLOWED, cuts::ENOUGH);
-}
-
-fn is_call(b: &mut [u32], line: &[u8]) -> bool {
-    let call = call_of(word(line, 0));
-    if call > 5 {
-        return false;
-    }
-    stand(b, call, number(line, 1));
-    cuts::perform(b);
-    disk::settle_call(b);
-    clear(b);
-    true
+    cells::set(b, board::ALLOWED, stand::ENOUGH);
 }
 
 fn is_passed(line: &[u8]) -> bool {
@@ -330,43 +305,16 @@ fn is_passed(line: &[u8]) -> bool {
     words::byte_at(line, 0) == b'#'
 }
 
-fn carry_out(b: &mut [u32], line: &[u8]) -> bool {
+// Carries a line out that is neither a call nor looks at what a volume shows. Whether it was understood.
+pub fn carry_out(b: &mut [u32; board::SIZE], line: &[u8]) -> bool {
     if is_passed(line) {
         return true;
     }
     if is_fact(b, line) {
         return true;
     }
-    if is_call(b, line) {
-        return true;
-    }
     if is_argument(b, line) {
         return true;
     }
     is_change(b, line)
-}
-
-fn carry_out_line(b: &mut [u32], line: &[u8]) {
-    cells::add(b, cells::LINE, 1);
-    let understood = carry_out(b, line);
-    cells::hold(b, understood, cells::SAMPLE);
-}
-
-// The line that begins at `at`, if one does, and where the next one begins.
-fn carry_out_at(b: &mut [u32], text: &[u8], at: usize) -> usize {
-    if at >= text.len() {
-        return at;
-    }
-    let end = words::line_end(text, at);
-    carry_out_line(b, words::part(text, at, end));
-    words::after(text, end)
-}
-
-// The lines of a script. Each takes a byte at least.
-pub fn run(b: &mut [u32], text: &[u8]) {
-    let most = text.len();
-    let mut at = 0usize;
-    for i in 0..most {
-        at = carry_out_at(b, text, at);
-    }
 }

@@ -1,12 +1,11 @@
 use Prim.Native.Nat.{_-_}
 use lib.ListN.{length}
-use mathlib.Core.Path.{_≡_}
 use borrow.Author.Needs.{needs}
 use Rattle.trial_script.proofs.name_more.Statement.{statement}
 use Rattle.trial_script.proofs.name_more.Tie as tie
 
 abbrev Inv-loop : tie.InvT-loop
-Inv-loop b₀ first step count i₀ b i = length b ≡ length b₀
+Inv-loop b₀ first step count i₀ b i = Unit {0}
 
 abbrev μ-loop : tie.MeasureT-loop
 μ-loop b₀ first step count i₀ b i = count - i
@@ -29,9 +28,6 @@ loop-less c = search needs
 loop-again : tie.Need-loop-again Inv-loop μ-loop
 loop-again c = search needs
 
-same-length : tie.Need-same-length Inv-loop μ-loop
-same-length c = search needs
-
 returns : tie.Need-returns Inv-loop μ-loop
 returns c = search needs
 
@@ -47,5 +43,4 @@ name-more-spec =
     add-i
     loop-less
     loop-again
-    same-length
     returns)

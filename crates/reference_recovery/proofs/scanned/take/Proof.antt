@@ -1,12 +1,11 @@
 use Prim.Native.Nat.{_-_}
 use lib.ListN.{length}
-use mathlib.Core.Path.{_≡_}
 use borrow.Author.Needs.{needs}
 use Rattle.reference_recovery.proofs.scanned.take.Statement.{statement}
 use Rattle.reference_recovery.proofs.scanned.take.Tie as tie
 
 abbrev Inv-loop : tie.InvT-loop
-Inv-loop b₀ k q l number i₀ b i = length b ≡ length b₀
+Inv-loop b₀ k q l number i₀ b i = Unit {0}
 
 abbrev μ-loop : tie.MeasureT-loop
 μ-loop b₀ k q l number i₀ b i = 96 - i
@@ -41,9 +40,6 @@ loop-less c = search needs
 loop-again : tie.Need-loop-again Inv-loop μ-loop
 loop-again c = search needs
 
-same-length : tie.Need-same-length Inv-loop μ-loop
-same-length c = search needs
-
 returns : tie.Need-returns Inv-loop μ-loop
 returns c = search needs
 
@@ -63,5 +59,4 @@ take-spec =
     add-i
     loop-less
     loop-again
-    same-length
     returns)

@@ -1,12 +1,11 @@
 use Prim.Native.Nat.{_-_}
 use lib.ListN.{length}
-use mathlib.Core.Path.{_≡_}
 use borrow.Author.Needs.{needs}
 use Rattle.reference_recovery.proofs.scanned.take_pieces.Statement.{statement}
 use Rattle.reference_recovery.proofs.scanned.take_pieces.Tie as tie
 
 abbrev Inv-loop : tie.InvT-loop
-Inv-loop b₀ c n l p all₀ q₀ b all q = length b ≡ length b₀
+Inv-loop b₀ c n l p all₀ q₀ b all q = Unit {0}
 
 abbrev μ-loop : tie.MeasureT-loop
 μ-loop b₀ c n l p all₀ q₀ b all q = p - q
@@ -32,9 +31,6 @@ loop-less c = search needs
 loop-again : tie.Need-loop-again Inv-loop μ-loop
 loop-again c = search needs
 
-same-length : tie.Need-same-length Inv-loop μ-loop
-same-length c = search needs
-
 returns : tie.Need-returns Inv-loop μ-loop
 returns c = search needs
 
@@ -51,5 +47,4 @@ take-pieces-spec =
     add-q
     loop-less
     loop-again
-    same-length
     returns)

@@ -1,12 +1,11 @@
 use Prim.Native.Nat.{_-_}
 use lib.ListN.{length}
-use mathlib.Core.Path.{_≡_}
 use borrow.Author.Needs.{needs}
 use Rattle.reference_recovery.proofs.walked.steps.Statement.{statement}
 use Rattle.reference_recovery.proofs.walked.steps.Tie as tie
 
 abbrev Inv-loop : tie.InvT-loop
-Inv-loop b₀ n l p turn₀ b turn = length b ≡ length b₀
+Inv-loop b₀ n l p turn₀ b turn = Unit {0}
 
 abbrev μ-loop : tie.MeasureT-loop
 μ-loop b₀ n l p turn₀ b turn = p - turn
@@ -29,9 +28,6 @@ loop-less c = search needs
 loop-again : tie.Need-loop-again Inv-loop μ-loop
 loop-again c = search needs
 
-same-length : tie.Need-same-length Inv-loop μ-loop
-same-length c = search needs
-
 returns : tie.Need-returns Inv-loop μ-loop
 returns c = search needs
 
@@ -47,5 +43,4 @@ steps-spec =
     add-turn
     loop-less
     loop-again
-    same-length
     returns)

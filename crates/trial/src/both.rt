@@ -1,0 +1,109 @@
+// A call by both implementations: the code is lent what stands on the board, and what it leaves is compared.
+use reference_board::board;
+use state::Outcome;
+use trial_board::cells;
+
+// The call that stands on the board.
+fn call(
+    b: &[u32; board::SIZE],
+    image: &mut [u8],
+    map: &mut [u32],
+    places: &mut [u32],
+    numbers: &mut [u32],
+    used: &mut [u8],
+    blocks: &[u32],
+    bytes: &mut [u8],
+) -> Outcome {
+    let s = trial_lent::state_of(b);
+    let l = board::get(b, board::BLOCK_COUNT, 0);
+    let head = board::get(b, board::HEAD, 0);
+    let stores = board::get(b, board::ALLOWED, 0);
+    let block = board::get(b, board::BLOCKS, 0);
+    match board::get(b, board::CALL, 0) {
+        0 => format::format(s, image, map, places, numbers, used, l, stores),
+        1 => write::write(
+            s,
+            image,
+            map,
+            places,
+            numbers,
+            used,
+            head,
+            blocks,
+            bytes,
+            stores,
+        ),
+        2 => write::drop(s, image, map, places, numbers, used, head, blocks, stores),
+        3 => read::read(s, image, map, places, numbers, used, block, bytes),
+        4 => park::park(s, image, map, places, numbers, used, stores),
+        _ => recover::recover(s, image, map, places, numbers, used, l, stores),
+    }
+}
+
+// Lends the parts of the arrays that have the lengths on the board.
+fn lend(
+    b: &[u32; board::SIZE],
+    image: &mut [u8],
+    map: &mut [u32],
+    places: &mut [u32],
+    numbers: &mut [u32],
+    used: &mut [u8],
+    blocks: &[u32],
+    bytes: &mut [u8],
+) -> Outcome {
+    let n = trial_lent::length(b, board::IMAGE_LENGTH, image.len());
+    let l = trial_lent::length(b, board::MAP_LENGTH, map.len());
+    let p = trial_lent::length(b, board::PLACES_LENGTH, places.len());
+    let q = trial_lent::length(b, board::NUMBERS_LENGTH, numbers.len());
+    let u = trial_lent::length(b, board::USED_LENGTH, used.len());
+    let c = trial_lent::length(b, board::COUNT, blocks.len());
+    let d = trial_lent::length(b, board::BYTES_LENGTH, bytes.len());
+    call(
+        b,
+        &mut image[..n],
+        &mut map[..l],
+        &mut places[..p],
+        &mut numbers[..q],
+        &mut used[..u],
+        &blocks[..c],
+        &mut bytes[..d],
+    )
+}
+
+// Performs the call that stands on the board by both implementations, and says what differs afterwards.
+pub fn both(b: &mut [u32; board::SIZE]) -> u32 {
+    let mut image = [0u8; 65536];
+    let mut map = [0u32; 4800];
+    let mut places = [0u32; 64];
+    let mut numbers = [0u32; 64];
+    let mut used = [0u8; 32];
+    let mut blocks = [0u32; 80];
+    let mut bytes = [0u8; 40960];
+    trial_lent::load_bytes(&mut image, b, board::IMAGE, cells::image_words(b));
+    trial_lent::load_words(
+        &mut map,
+        b,
+        board::LENT,
+        board::get(b, board::MAP_LENGTH, 0),
+    );
+    trial_lent::load_words(&mut places, b, board::LENT + board::PLACES, 64);
+    trial_lent::load_words(&mut numbers, b, board::LENT + board::NUMBERS, 64);
+    trial_lent::load_used(&mut used, b, 32);
+    trial_lent::load_words(&mut blocks, b, board::BLOCKS, 80);
+    trial_lent::load_data(&mut bytes, b);
+    let done = lend(
+        b,
+        &mut image,
+        &mut map,
+        &mut places,
+        &mut numbers,
+        &mut used,
+        &blocks,
+        &mut bytes,
+    );
+    reference::calls::perform(b);
+    trial_lent::first_of(
+        trial_lent::answer_differs(done, b),
+        trial_lent::memory_differs(b, &image, &map, &places, &numbers, &used, &bytes),
+    )
+}

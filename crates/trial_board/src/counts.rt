@@ -1,0 +1,67 @@
+// What is counted of a call, once both implementations have performed it.
+use crate::cells;
+use reference_board::board;
+
+// Whether the commit that was planned last writes every piece, with fewer blocks than pieces.
+fn is_fold(b: &[u32; board::SIZE]) -> bool {
+    let p = board::pieces(cells::get(b, board::STATE_L));
+    if cells::get(b, board::MEMBERS) != p {
+        return false;
+    }
+    cells::get(b, board::COUNT) < p
+}
+
+fn count_fold(b: &mut [u32; board::SIZE], cell: u32) {
+    if is_fold(b) {
+        cells::add(b, cell, 1);
+    }
+}
+
+fn count_wrap(b: &mut [u32; board::SIZE]) {
+    if cells::get(b, board::TAIL) < cells::get(b, board::HEAD) {
+        cells::add(b, cells::WRAPS, 1);
+    }
+}
+
+fn count_accepted(b: &mut [u32; board::SIZE]) {
+    count_fold(b, cells::FOLDS);
+    count_wrap(b);
+}
+
+fn count_commit(b: &mut [u32; board::SIZE]) {
+    match cells::get(b, board::ANSWER) {
+        0 => count_accepted(b),
+        10 => count_fold(b, cells::FOLD_CUTS),
+        _ => {}
+    }
+}
+
+fn count_way(b: &mut [u32; board::SIZE]) {
+    if cells::get(b, board::WAY) == 1 {
+        cells::add(b, cells::WALKS, 1);
+    }
+}
+
+pub fn count_kind(b: &mut [u32; board::SIZE], call: u32) {
+    match call {
+        1 => count_commit(b),
+        2 => count_commit(b),
+        5 => count_way(b),
+        _ => {}
+    }
+}
+
+pub fn count_answer(b: &mut [u32; board::SIZE]) {
+    let answer = cells::get(b, board::ANSWER);
+    let count = board::get(b, cells::ANSWERED, answer);
+    board::put(b, cells::ANSWERED, answer, board::plus(count, 1));
+}
+
+// Holds a cut call to its answer: 10, and exactly the stores allowed.
+pub fn hold_cut(b: &mut [u32; board::SIZE], stores: u32) {
+    let answered = cells::get(b, board::ANSWER) == 10;
+    let made = cells::get(b, board::STORES) == stores;
+    cells::hold(b, answered, cells::CUT_ANSWER);
+    cells::hold(b, made, cells::CUT_ANSWER);
+    cells::add(b, cells::CUTS, 1);
+}

@@ -1,0 +1,3 @@
+// The trial: random calls, and random damage.
+pub mod choice;
+pub mod damage;
