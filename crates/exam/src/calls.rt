@@ -7,41 +7,25 @@ use paper::request::Request;
 use paper::words;
 use state::Outcome;
 use state::State;
+use storing_calls::Storing;
 use wording::say;
 
-// The calls that may store.
-fn store(
-    call: Call,
-    r: Request,
-    s: State,
-    image: &mut [u8],
-    map: &mut [u32],
-    places: &mut [u32],
-    numbers: &mut [u32],
-    used: &mut [u8],
-    blocks: &[u32],
-    bytes: &[u8],
-) -> Outcome {
-    let stores = r.stores;
-    let first = r.first;
-    let l = s.l;
+// A line's call among those that may store.
+fn storing(call: Call) -> Storing {
     match call {
-        Call::Format => format::format(s, image, map, places, numbers, used, first, stores),
-        Call::Write => write::write(
-            s,
-            image,
-            map,
-            places,
-            numbers,
-            used,
-            first,
-            blocks,
-            bytes,
-            stores,
-        ),
-        Call::Drop => write::drop(s, image, map, places, numbers, used, first, blocks, stores),
-        Call::Park => park::park(s, image, map, places, numbers, used, stores),
-        _ => recover::recover(s, image, map, places, numbers, used, l, stores),
+        Call::Format => Storing::Format,
+        Call::Write => Storing::Write,
+        Call::Drop => Storing::Drop,
+        Call::Park => Storing::Park,
+        _ => Storing::Recover,
+    }
+}
+
+// What a line gives its call: the L of a format, the head of a write or a drop. A recover is given the volume's L.
+fn argument(call: Call, first: u32, l: u32) -> u32 {
+    match call {
+        Call::Recover => l,
+        _ => first,
     }
 }
 
@@ -203,7 +187,19 @@ fn perform(
             }
         }
         _ => {
-            let done = store(call, r, s, image, map, places, numbers, used, blocks, bytes);
+            let done = storing_calls::perform(
+                storing(call),
+                s,
+                image,
+                map,
+                places,
+                numbers,
+                used,
+                argument(call, r.first, s.l),
+                blocks,
+                bytes,
+                r.stores,
+            );
             say_done(call, done);
             done
         }

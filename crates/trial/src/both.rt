@@ -1,7 +1,27 @@
 // A call by both implementations: the code is lent what stands on the board, and what it leaves is compared.
 use reference_board::board;
 use state::Outcome;
+use storing_calls::Storing;
 use trial_board::cells;
+
+fn storing(call: u32) -> Storing {
+    match call {
+        0 => Storing::Format,
+        1 => Storing::Write,
+        2 => Storing::Drop,
+        4 => Storing::Park,
+        _ => Storing::Recover,
+    }
+}
+
+// The head of a write or a drop, the L of a format or a recover.
+fn argument(b: &[u32; board::SIZE]) -> u32 {
+    match cells::get(b, board::CALL) {
+        1 => cells::get(b, board::HEAD),
+        2 => cells::get(b, board::HEAD),
+        _ => cells::get(b, board::BLOCK_COUNT),
+    }
+}
 
 // The call that stands on the board.
 fn call(
@@ -15,28 +35,30 @@ fn call(
     bytes: &mut [u8],
 ) -> Outcome {
     let s = trial_lent::state_of(b);
-    let l = board::get(b, board::BLOCK_COUNT, 0);
-    let head = board::get(b, board::HEAD, 0);
-    let stores = board::get(b, board::ALLOWED, 0);
-    let block = board::get(b, board::BLOCKS, 0);
-    match board::get(b, board::CALL, 0) {
-        0 => format::format(s, image, map, places, numbers, used, l, stores),
-        1 => write::write(
+    match cells::get(b, board::CALL) {
+        3 => read::read(
             s,
             image,
             map,
             places,
             numbers,
             used,
-            head,
+            cells::get(b, board::BLOCKS),
+            bytes,
+        ),
+        other => storing_calls::perform(
+            storing(other),
+            s,
+            image,
+            map,
+            places,
+            numbers,
+            used,
+            argument(b),
             blocks,
             bytes,
-            stores,
+            cells::get(b, board::ALLOWED),
         ),
-        2 => write::drop(s, image, map, places, numbers, used, head, blocks, stores),
-        3 => read::read(s, image, map, places, numbers, used, block, bytes),
-        4 => park::park(s, image, map, places, numbers, used, stores),
-        _ => recover::recover(s, image, map, places, numbers, used, l, stores),
     }
 }
 
