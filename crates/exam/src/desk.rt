@@ -19,8 +19,16 @@ pub struct Desk {
     pub at: usize,
 }
 
-// Sectors that the program holds.
+// Sectors that the program holds, and their bytes; the largest map and its pieces; the used map of so many sectors.
 const HELD: u32 = 4096;
+
+pub const IMAGE: usize = 2097152;
+
+pub const MAP: usize = 24576;
+
+pub const PIECES: usize = 256;
+
+pub const USED: usize = 512;
 
 // The number after a line's.
 fn counted(line: u32) -> u32 {
@@ -136,11 +144,11 @@ fn answer_request(
     desk: Desk,
     call: Call,
     r: Request,
-    image: &mut [u8],
-    map: &mut [u32],
-    places: &mut [u32],
-    numbers: &mut [u32],
-    used: &mut [u8],
+    image: &mut [u8; IMAGE],
+    map: &mut [u32; MAP],
+    places: &mut [u32; PIECES],
+    numbers: &mut [u32; PIECES],
+    used: &mut [u8; USED],
     blocks: &[u32],
     bytes: &[u8],
 ) -> Desk {
@@ -169,11 +177,11 @@ fn answer_call(
     desk: Desk,
     call: Call,
     line: &[u8],
-    image: &mut [u8],
-    map: &mut [u32],
-    places: &mut [u32],
-    numbers: &mut [u32],
-    used: &mut [u8],
+    image: &mut [u8; IMAGE],
+    map: &mut [u32; MAP],
+    places: &mut [u32; PIECES],
+    numbers: &mut [u32; PIECES],
+    used: &mut [u8; USED],
 ) -> Desk {
     let mut blocks = [0u32; 128];
     let mut bytes = [0u8; 65536];
@@ -199,11 +207,11 @@ fn answer_call(
 pub fn answer_line(
     desk: Desk,
     line: &[u8],
-    image: &mut [u8],
-    map: &mut [u32],
-    places: &mut [u32],
-    numbers: &mut [u32],
-    used: &mut [u8],
+    image: &mut [u8; IMAGE],
+    map: &mut [u32; MAP],
+    places: &mut [u32; PIECES],
+    numbers: &mut [u32; PIECES],
+    used: &mut [u8; USED],
 ) -> Desk {
     let call = request::call_of(line);
     match call {

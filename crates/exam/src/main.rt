@@ -10,11 +10,11 @@ use wording::say;
 fn answer_next(
     paper: &[u8],
     desk: Desk,
-    image: &mut [u8],
-    map: &mut [u32],
-    places: &mut [u32],
-    numbers: &mut [u32],
-    used: &mut [u8],
+    image: &mut [u8; desk::IMAGE],
+    map: &mut [u32; desk::MAP],
+    places: &mut [u32; desk::PIECES],
+    numbers: &mut [u32; desk::PIECES],
+    used: &mut [u8; desk::USED],
 ) -> Desk {
     let at = desk.at;
     if at >= paper.len() {
@@ -32,11 +32,11 @@ fn answer_next(
 // The lines of a paper, one after the other. Each takes a byte at least, so the bytes of the paper are turns enough.
 fn answer_lines(
     paper: &[u8],
-    image: &mut [u8],
-    map: &mut [u32],
-    places: &mut [u32],
-    numbers: &mut [u32],
-    used: &mut [u8],
+    image: &mut [u8; desk::IMAGE],
+    map: &mut [u32; desk::MAP],
+    places: &mut [u32; desk::PIECES],
+    numbers: &mut [u32; desk::PIECES],
+    used: &mut [u8; desk::USED],
 ) {
     let mut desk = Desk::opened();
     let mut left = paper.len();
@@ -47,8 +47,8 @@ fn answer_lines(
 }
 
 // The bytes of 4,096 sectors.
-fn blank_image() -> [u8; 2097152] {
-    [0; 2097152]
+fn blank_image() -> [u8; desk::IMAGE] {
+    [0; desk::IMAGE]
 }
 
 fn main() {
@@ -59,10 +59,10 @@ fn main() {
         return;
     }
     let mut image = blank_image();
-    let mut map = [0u32; 24576];
-    let mut places = [0u32; 256];
-    let mut numbers = [0u32; 256];
-    let mut used = [0u8; 512];
+    let mut map = [0u32; desk::MAP];
+    let mut places = [0u32; desk::PIECES];
+    let mut numbers = [0u32; desk::PIECES];
+    let mut used = [0u8; desk::USED];
     answer_lines(
         &input[..length],
         &mut image,

@@ -1,16 +1,9 @@
-use mathlib.Core.Path.{_≡_}
-use lib.ListN.{length}
 use borrow.Author.Needs.{needs}
 use Rattle.exam.proofs.answer_lines.Statement.{statement}
 use Rattle.exam.proofs.answer_lines.Tie as tie
 
 abbrev Inv-loop : tie.InvT-loop
-Inv-loop paper image₀ map₀ places₀ numbers₀ used₀ desk₀ left₀ image map places numbers used desk left =
-    (length image ≡ length image₀)
-    × (length map ≡ length map₀)
-    × (length places ≡ length places₀)
-    × (length numbers ≡ length numbers₀)
-    × (length used ≡ length used₀)
+Inv-loop paper image₀ map₀ places₀ numbers₀ used₀ desk₀ left₀ image map places numbers used desk left = Unit {0}
 
 abbrev μ-loop : tie.MeasureT-loop
 μ-loop paper image₀ map₀ places₀ numbers₀ used₀ desk₀ left₀ image map places numbers used desk left = left
@@ -19,7 +12,7 @@ opened-requires : tie.Need-opened-requires Inv-loop μ-loop
 opened-requires c κs = search needs
 
 loop-holds : tie.Need-loop-holds Inv-loop μ-loop
-loop-holds c = (search needs, search needs, search needs, search needs, search needs)
+loop-holds c = search needs
 
 answer-next-requires : tie.Need-answer-next-requires Inv-loop μ-loop
 answer-next-requires c κs = search needs
@@ -31,22 +24,7 @@ loop-less : tie.Need-loop-less Inv-loop μ-loop
 loop-less c = search needs
 
 loop-again : tie.Need-loop-again Inv-loop μ-loop
-loop-again c = (search needs, search needs, search needs, search needs, search needs)
-
-same-length : tie.Need-same-length Inv-loop μ-loop
-same-length c = search needs
-
-same-length-2 : tie.Need-same-length-2 Inv-loop μ-loop
-same-length-2 c = search needs
-
-same-length-3 : tie.Need-same-length-3 Inv-loop μ-loop
-same-length-3 c = search needs
-
-same-length-4 : tie.Need-same-length-4 Inv-loop μ-loop
-same-length-4 c = search needs
-
-same-length-5 : tie.Need-same-length-5 Inv-loop μ-loop
-same-length-5 c = search needs
+loop-again c = search needs
 
 returns : tie.Need-returns Inv-loop μ-loop
 returns c = search needs
@@ -63,9 +41,4 @@ answer-lines-spec =
     sub-left
     loop-less
     loop-again
-    same-length
-    same-length-2
-    same-length-3
-    same-length-4
-    same-length-5
     returns)
