@@ -1,11 +1,26 @@
--- Document 01, "Numbers a call turns back with": the number and the values that each answer stands for.
+-- Document 01, "Numbers a call turns back with": their order, and the number and the values that each answer stands for.
 use Prim.Native.Nat.{ℕ}
+use mathlib.Core.Bool.{Bool, true, false}
+use mathlib.Core.List.{List, [], _∷_, _++_}
 use Rattle.answer.specs.declared.Refusal.{Refusal}
-use Rattle.answer.specs.declared.Refusal.the-variants.{Size, BufferLength, BlockNumbers, WrongPhase, Inconsistent, NoRoom, NumbersUsedUp, NoLog, DamagedLog}
+use Rattle.answer.specs.declared.Refusal.the-variants.{Size, BufferLength, BlockNumbers, WrongPhase, Inconsistent, NoRoom, NumbersUsedUp}
+use Rattle.answer.specs.declared.Loss.{Loss}
+use Rattle.answer.specs.declared.Loss.the-variants.{NoLog, DamagedLog}
+use Rattle.answer.specs.declared.Cost.{Cost}
 use Rattle.answer.specs.declared.Answer.{Answer}
-use Rattle.answer.specs.declared.Answer.the-variants.{Accepted, Walked, Scanned, Refused, PowerFailed}
+use Rattle.answer.specs.declared.Answer.the-variants.{Accepted, Walked, Scanned, Refused, Lost, PowerFailed}
 
--- 1 to 3 and 4 are the caller's, 5 the tables', 6 to 9 the volume's.
+-- The order in which every call judges: of the refusals that apply, the first is returned. Sizes, lengths and numbers that the
+-- caller hands in come first, and then how the volume stands.
+abbrev pub given : List Refusal
+given = Size ∷ BufferLength ∷ BlockNumbers ∷ []
+
+abbrev pub standing : List Refusal
+standing = WrongPhase ∷ Inconsistent ∷ NoRoom ∷ NumbersUsedUp ∷ []
+
+abbrev pub order : List Refusal
+order = given ++ standing
+
 abbrev pub refusalNumber : Refusal → ℕ
 refusalNumber Size = 1
 refusalNumber BufferLength = 2
@@ -14,37 +29,56 @@ refusalNumber WrongPhase = 4
 refusalNumber Inconsistent = 5
 refusalNumber NoRoom = 6
 refusalNumber NumbersUsedUp = 7
-refusalNumber NoLog = 8
-refusalNumber DamagedLog = 9
 
--- 0 where the call was accepted, otherwise the refusal's number; 10 is the power.
+abbrev pub lossNumber : Loss → ℕ
+lossNumber NoLog = 8
+lossNumber DamagedLog = 9
+
+-- 0 where the call was accepted, otherwise the number it turns back with; 10 is the power.
 abbrev pub numberOf : Answer → ℕ
-numberOf (Accepted stores) = 0
-numberOf (Walked read stores) = 0
-numberOf (Scanned read stores) = 0
+numberOf (Accepted cost) = 0
+numberOf (Walked read cost) = 0
+numberOf (Scanned read cost) = 0
 numberOf (Refused r) = refusalNumber r
-numberOf (PowerFailed stores) = 10
+numberOf (Lost r) = lossNumber r
+numberOf (PowerFailed cost) = 10
 
--- The count of stores: 0 on every refusal but 10.
-abbrev pub storesOf : Answer → ℕ
-storesOf (Accepted stores) = stores
-storesOf (Walked read stores) = stores
-storesOf (Scanned read stores) = stores
-storesOf (Refused r) = 0
-storesOf (PowerFailed stores) = stores
+-- Turned back before anything was done.
+abbrev pub isRefusal : Answer → Bool
+isRefusal (Accepted cost) = false
+isRefusal (Walked read cost) = false
+isRefusal (Scanned read cost) = false
+isRefusal (Refused r) = true
+isRefusal (Lost r) = false
+isRefusal (PowerFailed cost) = false
+
+-- So many stores, and nothing beside them.
+abbrev pub storesAlone : ℕ → Cost
+storesAlone stores = record { stores = stores }
+
+-- What a call cost: nothing where it is turned back, but with 10.
+abbrev pub costOf : Answer → Cost
+costOf (Accepted cost) = cost
+costOf (Walked read cost) = cost
+costOf (Scanned read cost) = cost
+costOf (Refused r) = storesAlone 0
+costOf (Lost r) = storesAlone 0
+costOf (PowerFailed cost) = cost
 
 -- How recovery found the log: 1 by a walk, 2 by a scan, else 0.
 abbrev pub wayOf : Answer → ℕ
-wayOf (Accepted stores) = 0
-wayOf (Walked read stores) = 1
-wayOf (Scanned read stores) = 2
+wayOf (Accepted cost) = 0
+wayOf (Walked read cost) = 1
+wayOf (Scanned read cost) = 2
 wayOf (Refused r) = 0
-wayOf (PowerFailed stores) = 0
+wayOf (Lost r) = 0
+wayOf (PowerFailed cost) = 0
 
 -- The sectors that recovery read, else 0.
 abbrev pub readsOf : Answer → ℕ
-readsOf (Accepted stores) = 0
-readsOf (Walked read stores) = read
-readsOf (Scanned read stores) = read
+readsOf (Accepted cost) = 0
+readsOf (Walked read cost) = read
+readsOf (Scanned read cost) = read
 readsOf (Refused r) = 0
-readsOf (PowerFailed stores) = 0
+readsOf (Lost r) = 0
+readsOf (PowerFailed cost) = 0

@@ -1,8 +1,9 @@
 // The answers of the calls, and the numbers that document 01 gives them.
 ghost use mathlib.Core.Path.{_≡_};
-ghost use Rattle.answer.specs.Answer.{refusalNumber, numberOf, storesOf, wayOf, readsOf};
+ghost use Rattle.answer.specs.declared.Answer.the-variants.{Accepted, Walked, Scanned, PowerFailed};
+ghost use Rattle.answer.specs.Answer.{refusalNumber, lossNumber, storesAlone, isRefusal, numberOf, costOf, wayOf, readsOf};
 
-// Why a call was turned back: 1 to 9. (10, the power, is an answer of its own, since it counts stores.)
+// Why a call was turned back before it did anything: everything lent, and the state, is left as it came.
 pub enum Refusal {
     // 1: N, L or the image's length is out of range, or not the state's.
     Size,
@@ -18,10 +19,6 @@ pub enum Refusal {
     NoRoom,
     // 7: too few numbers are left.
     NumbersUsedUp,
-    // 8: no signed closing sector.
-    NoLog,
-    // 9: the log that a scan finds is damaged.
-    DamagedLog,
 }
 
 impl Refusal {
@@ -36,8 +33,25 @@ impl Refusal {
             Refusal::Inconsistent => 5,
             Refusal::NoRoom => 6,
             Refusal::NumbersUsedUp => 7,
-            Refusal::NoLog => 8,
-            Refusal::DamagedLog => 9,
+        }
+    }
+}
+
+// Why a recovery has no volume to hand out: the image is left as it came, and the tables are filled with zeros.
+pub enum Loss {
+    // 8: no signed closing sector.
+    NoLog,
+    // 9: the log that a scan finds is damaged.
+    DamagedLog,
+}
+
+impl Loss {
+    pub fn number(self) -> u32
+        ensures { λ r. ⌜ r ≡ lossNumber self ⌝ }
+    {
+        match self {
+            Loss::NoLog => 8,
+            Loss::DamagedLog => 9,
         }
     }
 }
@@ -48,40 +62,93 @@ pub enum Verdict {
     Refuse(Refusal),
 }
 
+// What a call cost.
+pub struct Cost {
+    pub stores: u32,
+}
+
 // What a call answers.
 pub enum Answer {
     // Format, write, drop, read or park did its work.
-    Accepted { stores: u32 },
+    Accepted(Cost),
     // Recovery found the log by walking from its tail, or by a scan.
-    Walked { read: u32, stores: u32 },
-    Scanned { read: u32, stores: u32 },
+    Walked { read: u32, cost: Cost },
+    Scanned { read: u32, cost: Cost },
     Refused(Refusal),
+    Lost(Loss),
     // 10: the stores that were allowed were made, and more were needed.
-    PowerFailed { stores: u32 },
+    PowerFailed(Cost),
 }
 
 impl Answer {
+    // Of calls that cost nothing but their stores.
+    pub fn accepted(stores: u32) -> Answer
+        ensures { λ r. ⌜ r ≡ Accepted (storesAlone stores) ⌝ }
+    {
+        Answer::Accepted(Cost { stores })
+    }
+
+    pub fn walked(read: u32, stores: u32) -> Answer
+        ensures { λ r. ⌜ r ≡ Walked read (storesAlone stores) ⌝ }
+    {
+        Answer::Walked {
+            read,
+            cost: Cost { stores },
+        }
+    }
+
+    pub fn scanned(read: u32, stores: u32) -> Answer
+        ensures { λ r. ⌜ r ≡ Scanned read (storesAlone stores) ⌝ }
+    {
+        Answer::Scanned {
+            read,
+            cost: Cost { stores },
+        }
+    }
+
+    pub fn power_failed(stores: u32) -> Answer
+        ensures { λ r. ⌜ r ≡ PowerFailed (storesAlone stores) ⌝ }
+    {
+        Answer::PowerFailed(Cost { stores })
+    }
+
     pub fn number(self) -> u32
         ensures { λ r. ⌜ r ≡ numberOf self ⌝ }
     {
         match self {
-            Answer::Accepted { stores: _ } => 0,
-            Answer::Walked { read: _, stores: _ } => 0,
-            Answer::Scanned { read: _, stores: _ } => 0,
+            Answer::Accepted(_) => 0,
+            Answer::Walked { read: _, cost: _ } => 0,
+            Answer::Scanned { read: _, cost: _ } => 0,
             Answer::Refused(refusal) => refusal.number(),
-            Answer::PowerFailed { stores: _ } => 10,
+            Answer::Lost(loss) => loss.number(),
+            Answer::PowerFailed(_) => 10,
         }
     }
 
-    pub fn stores(self) -> u32
-        ensures { λ r. ⌜ r ≡ storesOf self ⌝ }
+    // Turned back before anything was done: everything is left as it came.
+    pub fn is_refusal(self) -> bool
+        ensures { λ r. ⌜ r ≡ isRefusal self ⌝ }
     {
         match self {
-            Answer::Accepted { stores } => stores,
-            Answer::Walked { read: _, stores } => stores,
-            Answer::Scanned { read: _, stores } => stores,
-            Answer::Refused(_) => 0,
-            Answer::PowerFailed { stores } => stores,
+            Answer::Accepted(_) => false,
+            Answer::Walked { read: _, cost: _ } => false,
+            Answer::Scanned { read: _, cost: _ } => false,
+            Answer::Refused(_) => true,
+            Answer::Lost(_) => false,
+            Answer::PowerFailed(_) => false,
+        }
+    }
+
+    pub fn cost(self) -> Cost
+        ensures { λ r. ⌜ r ≡ costOf self ⌝ }
+    {
+        match self {
+            Answer::Accepted(cost) => cost,
+            Answer::Walked { read: _, cost } => cost,
+            Answer::Scanned { read: _, cost } => cost,
+            Answer::Refused(_) => Cost { stores: 0 },
+            Answer::Lost(_) => Cost { stores: 0 },
+            Answer::PowerFailed(cost) => cost,
         }
     }
 
@@ -89,11 +156,12 @@ impl Answer {
         ensures { λ r. ⌜ r ≡ wayOf self ⌝ }
     {
         match self {
-            Answer::Accepted { stores: _ } => 0,
-            Answer::Walked { read: _, stores: _ } => 1,
-            Answer::Scanned { read: _, stores: _ } => 2,
+            Answer::Accepted(_) => 0,
+            Answer::Walked { read: _, cost: _ } => 1,
+            Answer::Scanned { read: _, cost: _ } => 2,
             Answer::Refused(_) => 0,
-            Answer::PowerFailed { stores: _ } => 0,
+            Answer::Lost(_) => 0,
+            Answer::PowerFailed(_) => 0,
         }
     }
 
@@ -101,11 +169,12 @@ impl Answer {
         ensures { λ r. ⌜ r ≡ readsOf self ⌝ }
     {
         match self {
-            Answer::Accepted { stores: _ } => 0,
-            Answer::Walked { read, stores: _ } => read,
-            Answer::Scanned { read, stores: _ } => read,
+            Answer::Accepted(_) => 0,
+            Answer::Walked { read, cost: _ } => read,
+            Answer::Scanned { read, cost: _ } => read,
             Answer::Refused(_) => 0,
-            Answer::PowerFailed { stores: _ } => 0,
+            Answer::Lost(_) => 0,
+            Answer::PowerFailed(_) => 0,
         }
     }
 }

@@ -10,6 +10,7 @@ use native.Mathlib.Omega.{arith}
 use lib.ListN.{length}
 use lib.Dec.{eqb, ltb}
 use borrow.Author.Tests.{eq-eqb, ne-eqb, lt-ltb, le-ltb, le-leb, lt-leb, not-true, not-false}
+use Rattle.geometry.specs.declared.Geometry.{Geometry}
 use Rattle.layout.specs.Bounded.{at, all, allBelow}
 use Rattle.volume.specs.Calls.{blocksFit}
 use Rattle.laws.proofs.Bounded.{bool?, eq?, clash, and-i, allBelow-at}
@@ -43,25 +44,25 @@ module _ (blocks : List ℕ) where
       (λ (e : allBelow rises n ≡ false). sym e) (bool? (allBelow rises n))
 
 -- The four parts of refusal 3.
-module _ (n l head : ℕ) (blocks : List ℕ) where
-  pub too-few : length blocks < 1 → false ≡ blocksFit n l head blocks
+module _ (g : Geometry) (head : ℕ) (blocks : List ℕ) where
+  pub too-few : length blocks < 1 → false ≡ blocksFit g head blocks
   unfolding blocksFit
   too-few h = rw (lt-leb 1 (length blocks) h) refl
 
-  pub too-many : 1 ≤ length blocks → 64 < length blocks → false ≡ blocksFit n l head blocks
+  pub too-many : 1 ≤ length blocks → 64 < length blocks → false ≡ blocksFit g head blocks
   unfolding blocksFit
   too-many k h = rw (le-leb 1 (length blocks) k, lt-leb (length blocks) 64 h) refl
 
   module _ (low : 1 ≤ length blocks) (high : length blocks ≤ 64) (b1 : Bool) (f1 : b1 ≡ allBelow (rises blocks) (length blocks - 1)) where
-    pub not-rising : not b1 ≡ true → false ≡ blocksFit n l head blocks
+    pub not-rising : not b1 ≡ true → false ≡ blocksFit g head blocks
     unfolding blocksFit
     not-rising e = rw (le-leb 1 (length blocks) low, le-leb (length blocks) 64 high, sym f1 ∙ not-true b1 e) refl
 
-    module _ (e1 : not b1 ≡ false) (b2 : Bool) (f2 : b2 ≡ all (λ b. ltb b l) blocks) where
-      pub past-l : not b2 ≡ true → false ≡ blocksFit n l head blocks
+    module _ (e1 : not b1 ≡ false) (b2 : Bool) (f2 : b2 ≡ all (λ b. ltb b (g .l)) blocks) where
+      pub past-l : not b2 ≡ true → false ≡ blocksFit g head blocks
       unfolding blocksFit
       past-l e = rw (le-leb 1 (length blocks) low, le-leb (length blocks) 64 high, sym f1 ∙ not-false b1 e1, sym f2 ∙ not-true b2 e) refl
 
-      pub by-head : not b2 ≡ false → ltb head n ≡ blocksFit n l head blocks
+      pub by-head : not b2 ≡ false → ltb head (g .n) ≡ blocksFit g head blocks
       unfolding blocksFit
       by-head e = rw (le-leb 1 (length blocks) low, le-leb (length blocks) 64 high, sym f1 ∙ not-false b1 e1, sym f2 ∙ not-false b2 e) refl

@@ -1,6 +1,5 @@
 // Refusal 3: the block numbers that a commit names, and its head.
 ghost use mathlib.Core.Path.{_≡_};
-ghost use mathlib.Core.Bool.{_&&_};
 ghost use Prim.Native.Nat.{suc, _-_, _*_, _≤_};
 ghost use lib.ListN.{length};
 ghost use lib.Dec.{ltb, eqb};
@@ -50,8 +49,8 @@ fn all_below(blocks: &[u32], l: u32) -> bool
 }
 
 // 1 to 64 strictly ascending block numbers below l, and a head below n.
-pub fn blocks_fit(n: u32, l: u32, head: u32, blocks: &[u32]) -> bool
-    ensures { λ r. ⌜ r ≡ blocksFit n l head (now (blocks .entry)) ⌝ }
+pub fn blocks_fit(g: Geometry, head: u32, blocks: &[u32]) -> bool
+    ensures { λ r. ⌜ r ≡ blocksFit g head (now (blocks .entry)) ⌝ }
 {
     if blocks.len() < 1 {
         return false;
@@ -62,8 +61,8 @@ pub fn blocks_fit(n: u32, l: u32, head: u32, blocks: &[u32]) -> bool
     if !ascending(blocks) {
         return false;
     }
-    if !all_below(blocks, l) {
+    if !all_below(blocks, g.l) {
         return false;
     }
-    head < n
+    head < g.n
 }

@@ -4,11 +4,21 @@ ghost use mathlib.Core.Path.{_≡_};
 ghost use Prim.Native.Nat.{_<_, _^_};
 ghost use lib.ListN.{length};
 ghost use Rattle.geometry.specs.Geometry.{sectorBytes};
-ghost use Rattle.layout.specs.Bounded.{all, isZero};
+ghost use Rattle.layout.specs.Bounded.{at, all, isZero};
 ghost use Rattle.layout.specs.Entry.{sectorOf, isFlipped, complemented, needsFlip, stored, entryFor, restored};
 
 // Bit 31 of an entry.
 const FLIPPED: u32 = 2_147_483_648;
+
+// The map's entry of a block, zero past the map's end.
+pub fn entry_of(map: &[u32], block: usize) -> u32
+    ensures { λ r. ⌜ r ≡ at (now (map .entry)) block ⌝ }
+{
+    if map.len() <= block {
+        return 0;
+    }
+    map[block]
+}
 
 // Bits 0 to 30 of an entry: the block's sector.
 pub fn sector_of(entry: u32) -> u32

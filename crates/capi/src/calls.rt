@@ -6,6 +6,7 @@ ghost use Rattle.volume.specs.Calls.{writeOf, dropOf, readOf, parkOf};
 ghost use Rattle.volume.specs.Recover.{recoverOf};
 ghost use Rattle.plain.specs.Plain.{stateOf};
 ghost use Rattle.capi.specs.Handed.{handed, inNumbers, readHanded, readInNumbers};
+use geometry::Settings;
 use plain::CResult;
 use plain::CState;
 
@@ -21,10 +22,11 @@ pub extern "C" fn vlog_format(
     l: u32,
     allowance: u32,
 ) -> CResult
-    ensures { λ r. ⌜ handed r (memory (now (image .exit)) (now (map .exit)) (now (places .exit)) (now (numbers .exit)) (now (used .exit))) ≡ inNumbers c (formatOf (stateOf c) (memory (now (image .entry)) (now (map .entry)) (now (places .entry)) (now (numbers .entry)) (now (used .entry))) l allowance) ⌝ }
+    ensures { λ r. ⌜ handed r (memory (now (image .exit)) (now (map .exit)) (now (places .exit)) (now (numbers .exit)) (now (used .exit))) ≡ inNumbers c (formatOf (stateOf c) (memory (now (image .entry)) (now (map .entry)) (now (places .entry)) (now (numbers .entry)) (now (used .entry))) (record { l = l }) allowance) ⌝ }
 {
     let s = plain::state_of(c);
-    let o = format::format(s, image, map, places, numbers, used, l, allowance);
+    let settings = Settings { l };
+    let o = format::format(s, image, map, places, numbers, used, settings, allowance);
     plain::result_of(c, o)
 }
 
@@ -139,9 +141,10 @@ pub extern "C" fn vlog_recover(
     l: u32,
     allowance: u32,
 ) -> CResult
-    ensures { λ r. ⌜ handed r (memory (now (image .exit)) (now (map .exit)) (now (places .exit)) (now (numbers .exit)) (now (used .exit))) ≡ inNumbers c (recoverOf (stateOf c) (memory (now (image .entry)) (now (map .entry)) (now (places .entry)) (now (numbers .entry)) (now (used .entry))) l allowance) ⌝ }
+    ensures { λ r. ⌜ handed r (memory (now (image .exit)) (now (map .exit)) (now (places .exit)) (now (numbers .exit)) (now (used .exit))) ≡ inNumbers c (recoverOf (stateOf c) (memory (now (image .entry)) (now (map .entry)) (now (places .entry)) (now (numbers .entry)) (now (used .entry))) (record { l = l }) allowance) ⌝ }
 {
     let s = plain::state_of(c);
-    let o = recover::recover(s, image, map, places, numbers, used, l, allowance);
+    let settings = Settings { l };
+    let o = recover::recover(s, image, map, places, numbers, used, settings, allowance);
     plain::result_of(c, o)
 }

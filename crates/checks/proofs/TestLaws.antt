@@ -10,9 +10,9 @@ use Rattle.geometry.specs.Geometry.{piecesFor, usedBytes, geometryFits}
 
 -- The tests of refusals 1 and 2.
 abbrev pub StateTest : State → List ℕ → Bool → Type 0
-StateTest s im b = b ≡ (eqb (length im) (512 * s .n) && geometryFits (s .n) (s .l))
+StateTest s im b = b ≡ (eqb (length im) (512 * s .geometry .n) && geometryFits (s .geometry))
 
 abbrev pub TablesTest : State → List ℕ → List ℕ → List ℕ → List ℕ → Bool → Type 0
 TablesTest s mp pl nu us b =
     b
-    ≡ (eqb (length mp) (s .l) && eqb (length pl) (piecesFor (s .l)) && eqb (length nu) (piecesFor (s .l)) && eqb (length us) (usedBytes (s .n)))
+    ≡ (eqb (length mp) (s .geometry .l) && eqb (length pl) (piecesFor (s .geometry .l)) && eqb (length nu) (piecesFor (s .geometry .l)) && eqb (length us) (usedBytes (s .geometry .n)))

@@ -8,6 +8,8 @@ use native.Mathlib.Omega.{arith}
 use lib.ListN.{length, take}
 use lib.Dec.{eqb}
 use Rattle.state.specs.declared.State.{State}
+use Rattle.answer.specs.Answer.{storesAlone}
+use Rattle.answer.specs.declared.Answer.{Answer}
 use Rattle.answer.specs.declared.Answer.the-variants.{Accepted, PowerFailed}
 use Rattle.geometry.specs.Geometry.{piecesFor}
 use Rattle.state.specs.State.{committedState, cutState}
@@ -15,11 +17,11 @@ use Rattle.layout.specs.Bounded.{at, always, isZero, updated, updates}
 use Rattle.layout.specs.MapSector.{encoded}
 use Rattle.volume.specs.Tables.{Tables, memory, sectorAt, tablesOf, namedBy, usedBy, pieceEntries}
 use Rattle.volume.specs.Store.{Store, applied, storesBelow, after, Action, performed}
-use Rattle.volume.specs.Commit.{Change, Plan, rank, memberPlace, changedEntries, committedTables, member, dataStore, memberStore, commitStores}
+use Rattle.volume.specs.Commit.{Change, Plan, rank, memberPlace, changedEntries, committedTables, member, dataStore, memberStore, commitStores, planAction}
 use Rattle.power.specs.declared.allowance.Power.the-variants.{Left, Failed}
 use Rattle.power.specs.Power.{powered}
 use Rattle.pieces.specs.Arrays.{flagged, planOf, changeOf, blockStore}
-use Rattle.commit.specs.Commit.{planAction, changeWith}
+use Rattle.commit.specs.Commit.{changeWith}
 use Rattle.power.proofs.Performing.{memory-left, call-cut, call-whole}
 
 module _ (s : State) (allowance : ℕ) (im mp pl nu us im′ : List ℕ) (blocks bytes news taken branches written : List ℕ) (count members : ℕ)
@@ -30,7 +32,7 @@ module _ (s : State) (allowance : ℕ) (im mp pl nu us im′ : List ℕ) (blocks
   abbrev made : List Store
   made =
       storesBelow always (blockStore taken bytes) count
-      ++ storesBelow (flagged written) (memberStore s (tablesOf mp [] [] []) (planOf branches written members count taken) (changeOf blocks news count)) (piecesFor (s .l))
+      ++ storesBelow (flagged written) (memberStore s (tablesOf mp [] [] []) (planOf branches written members count taken) (changeOf blocks news count)) (piecesFor (s .geometry .l))
 
   stores-are : made ≡ action .stores
   unfolding planAction commitStores dataStore memberStore member memberPlace rank committedTables changedEntries
@@ -41,25 +43,25 @@ module _ (s : State) (allowance : ℕ) (im mp pl nu us im′ : List ℕ) (blocks
     unfolding memory
     image-is = i ∙ ap (λ (xs : List Store). applied (take allowance xs) (sectorAt im)) stores-are
 
-    pub carried-cut : (x : State) → x ≡ cutState s → Failed ≡ powered (length made) allowance
-        → after (record { answer = PowerFailed allowance; state = x }) (memory im′ mp pl nu us) ≡ performed allowance action (memory im mp pl nu us)
+    pub carried-cut : (x : Answer) (y : State) → x ≡ PowerFailed (storesAlone allowance) → y ≡ cutState s → Failed ≡ powered (length made) allowance
+        → after (record { answer = x; state = y }) (memory im′ mp pl nu us) ≡ performed allowance action (memory im mp pl nu us)
     unfolding planAction
-    carried-cut x q e =
-        ap (λ (y : State). after (record { answer = PowerFailed allowance; state = y }) (memory im′ mp pl nu us)) q
-        ∙ call-cut allowance action (memory im mp pl nu us) (memory im′ mp pl nu us) (sectorAt im′) image-is
+    carried-cut x y p q e =
+        call-cut allowance action (memory im mp pl nu us) (memory im′ mp pl nu us) (sectorAt im′) image-is x y p q
         (e ∙ ap (λ (xs : List Store). powered (length xs) allowance) stores-are)
         (memory-left im mp pl nu us im′ mp pl nu us (sectorAt im′) (tablesOf mp pl nu us) e1 refl refl refl refl refl refl)
 
-    pub carried-whole : (mp′ pl′ nu′ us′ : List ℕ) (x : State) (left size tail : ℕ) → length mp′ ≡ length mp → length pl′ ≡ length pl → length nu′ ≡ length nu
-        → length us′ ≡ length us → tail ≡ at taken (size - 1) → size ≡ count + members → 1 ≤ members → x ≡ committedState s tail (s .number + members)
+    pub carried-whole : (mp′ pl′ nu′ us′ : List ℕ) (x : Answer) (y : State) (left size tail : ℕ)
+        → length mp′ ≡ length mp → length pl′ ≡ length pl → length nu′ ≡ length nu → length us′ ≡ length us
+        → tail ≡ at taken (size - 1) → size ≡ count + members → 1 ≤ members
+        → x ≡ Accepted (storesAlone (allowance - left)) → y ≡ committedState s tail (s .number + members)
         → Left left ≡ powered (length made) allowance
         → tablesOf mp′ pl′ nu′ us′ ≡ committedTables s (tablesOf mp pl nu us) (planOf [] written 0 count taken) (changeOf blocks news count)
-        → after (record { answer = Accepted (allowance - left); state = x }) (memory im′ mp′ pl′ nu′ us′) ≡ performed allowance action (memory im mp pl nu us)
+        → after (record { answer = x; state = y }) (memory im′ mp′ pl′ nu′ us′) ≡ performed allowance action (memory im mp pl nu us)
     unfolding planAction committedTables changedEntries memberPlace rank
-    carried-whole mp′ pl′ nu′ us′ x left size tail e2 e3 e4 e5 w z m q e t =
-        ap (λ (y : State). after (record { answer = Accepted (allowance - left); state = y }) (memory im′ mp′ pl′ nu′ us′))
-        (q ∙ ap (λ (k : ℕ). committedState s k (s .number + members)) (w ∙ ap (at taken) (let y : size - 1 ≡ count + (members - 1) = omega arith in y)))
-        ∙ call-whole allowance action (memory im mp pl nu us) (memory im′ mp′ pl′ nu′ us′) (sectorAt im′) image-is left
+    carried-whole mp′ pl′ nu′ us′ x y left size tail e2 e3 e4 e5 w z m p q e t =
+        call-whole allowance action (memory im mp pl nu us) (memory im′ mp′ pl′ nu′ us′) (sectorAt im′) image-is x y left p
+        (q ∙ ap (λ (k : ℕ). committedState s k (s .number + members)) (w ∙ ap (at taken) (let h : size - 1 ≡ count + (members - 1) = omega arith in h)))
         (e ∙ ap (λ (xs : List Store). powered (length xs) allowance) stores-are)
         (memory-left im mp pl nu us im′ mp′ pl′ nu′ us′ (sectorAt im′) (action .tables) e1 e2 e3 e4 e5 refl t)
 
@@ -93,24 +95,25 @@ module _ (s : State) (t : Tables) (plan : Plan) where
       let place : ℕ → ℕ = λ p. cond (plan .written p) (memberPlace plan (rank plan p)) (t .place p) in
       let members : ℕ → Store = λ p. record {
         sector = memberPlace plan (rank plan p);
-        bytes = encoded (s .l)
+        bytes = encoded (s .geometry .l)
             (record {
               number = suc (s .number + rank plan p);
               piece = p;
               closing = eqb (suc (rank plan p)) (plan .members);
               branches = cond (isZero (rank plan p)) (plan .branches) (memberPlace plan (rank plan p - 1) ∷ []);
-              entries = pieceEntries (s .l) entry p;
+              entries = pieceEntries (s .geometry .l) entry p;
             });
       } in
       record {
-        stores = datas ++ storesBelow (plan .written) members (piecesFor (s .l));
+        stores = datas ++ storesBelow (plan .written) members (piecesFor (s .geometry .l));
+        cost = storesAlone;
         answer = Accepted;
         state = committedState s (memberPlace plan (plan .members - 1)) (s .number + plan .members);
         tables = record {
           entry = entry;
           place = place;
           number = λ p. cond (plan .written p) (suc (s .number + rank plan p)) (t .number p);
-          isUsed = usedBy (namedBy (s .l) entry place);
+          isUsed = usedBy (namedBy (s .geometry .l) entry place);
         };
         cutState = cutState s;
         cutTables = t;

@@ -1,11 +1,11 @@
 -- From the checks and the plan to what storing and settling rely on, and from the arrays to the action of the definition.
-use Prim.Native.Nat.{ℕ, zero, suc, _+_, _-_, _≤_, _<_, _^_}
+use Prim.Native.Nat.{ℕ, suc, _+_, _-_, _≤_, _<_, _^_}
 use mathlib.Core.Path.{_≡_, refl, sym, _∙_, ap, subst}
 use mathlib.Core.Logic.{_⊎_, ⊎-elim}
 use mathlib.Core.Bool.{Bool, true, false}
 use mathlib.Core.List.{List, [], _++_}
 use native.Mathlib.Omega.{arith}
-use lib.ListN.{length, getD, take, drop, replicate, length-append, length-drop, length-replicate, List·getD-append}
+use lib.ListN.{length, take, drop, replicate, length-append, length-drop, length-replicate, List·getD-append}
 use lib.Seq.{getD-append-add, getD-drop}
 use lib.Dec.{eqb}
 use borrow.Author.Tests.{eq-eqb, ne-eqb}
@@ -17,7 +17,7 @@ use Rattle.layout.specs.MapSector.{View}
 use Rattle.layout.specs.Entry.{isEmpty, sectorOf, stored, entryFor}
 use Rattle.volume.specs.Tables.{bitAt, sectorAt, tablesOf, usedBy, freeSectors}
 use Rattle.volume.specs.Placing.{base, placeOf}
-use Rattle.volume.specs.Commit.{Plan, touches, branchesFor, planned, commitAction}
+use Rattle.volume.specs.Commit.{Plan, touches, branchesFor, planned, planAction, commitAction}
 use Rattle.volume.specs.Calls.{viewOf, writeChange, dropChange}
 use Rattle.laws.proofs.Bounded.{or-r, cond-true, cond-false, tabled-at, tabled-past, anyBelow-is, count-before, count-le, length-listFrom, listFrom-at}
 use Rattle.laws.proofs.Codec.{entry-sector, entry-full}
@@ -26,37 +26,37 @@ use Rattle.laws.proofs.Placing.{base-chooses, place-below, place-low}
 use Rattle.laws.proofs.Sizes.{Fits, fits}
 use Rattle.pieces.specs.Arrays.{flagged, planOf, changeOf, Settling, Planning}
 use Rattle.plan.proofs.PlanLaws.{listing-any}
-use Rattle.commit.specs.Commit.{planAction, changeWith, changeBy}
+use Rattle.commit.specs.Commit.{changeWith, changeBy}
 use Rattle.verdict.proofs.CommitChecks.{Passed}
 use Rattle.commit.proofs.CommitLaws.{action-plan, action-change}
 
 module _ (s : State) (im mp pl nu us : List ℕ) (head : ℕ) (blocks bytes : List ℕ) (count : ℕ) (p : Passed s im mp pl nu us head blocks count)
     (how : (count ≡ 0) ⊎ (count ≡ length blocks)) where
   abbrev view : View
-  view = viewOf (s .n) (s .l) (sectorAt im)
+  view = viewOf (s .geometry) (sectorAt im)
 
   abbrev pub the-plan : Plan
   the-plan = planned base s (tablesOf [] pl nu us) view head (changeOf blocks [] count)
 
-  fit : Fits (s .n) (s .l)
-  fit = fits (s .n) (s .l) (p .range)
+  fit : Fits (s .geometry)
+  fit = fits (s .geometry) (p .range)
 
   pub few-data : count ≤ length blocks
   few-data = ⊎-elim (λ (e : count ≡ 0). omega arith) (λ (e : count ≡ length blocks). omega arith) how
 
-  written-in : (q : ℕ) → q < piecesFor (s .l) → touches blocks q ≡ true → the-plan .written q ≡ true
+  written-in : (q : ℕ) → q < piecesFor (s .geometry .l) → touches blocks q ≡ true → the-plan .written q ≡ true
   unfolding planned
-  written-in q h e = tabled-at false (piecesFor (s .l)) _ q h ∙ or-r (the-plan .fold) (touches blocks q) e
+  written-in q h e = tabled-at false (piecesFor (s .geometry .l)) _ q h ∙ or-r (the-plan .fold) (touches blocks q) e
 
-  written-past : (q : ℕ) → piecesFor (s .l) ≤ q → the-plan .written q ≡ false
+  written-past : (q : ℕ) → piecesFor (s .geometry .l) ≤ q → the-plan .written q ≡ false
   unfolding planned
-  written-past q h = tabled-past false (piecesFor (s .l)) _ q h
+  written-past q h = tabled-past false (piecesFor (s .geometry .l)) _ q h
 
-  members-are : the-plan .members ≡ countBelow (the-plan .written) (piecesFor (s .l))
+  members-are : the-plan .members ≡ countBelow (the-plan .written) (piecesFor (s .geometry .l))
   unfolding planned
   members-are = refl
 
-  places-are : the-plan .places ≡ listFrom (placeOf base (s .n) (bitAt us) head) 0 (count + the-plan .members)
+  places-are : the-plan .places ≡ listFrom (placeOf base (s .geometry .n) (bitAt us) head) 0 (count + the-plan .members)
   unfolding planned
   places-are = refl
 
@@ -71,20 +71,20 @@ module _ (s : State) (im mp pl nu us : List ℕ) (head : ℕ) (blocks bytes : Li
       let low = p .low in
       let inside = p .inside 0 (omega arith) in
       let q = pieceOf (at blocks 0) in
-      let below : q < piecesFor (s .l) = omega arith in
-      let one = count-before (the-plan .written) q (piecesFor (s .l)) below
+      let below : q < piecesFor (s .geometry .l) = omega arith in
+      let one = count-before (the-plan .written) q (piecesFor (s .geometry .l)) below
       (written-in q below (anyBelow-is (λ i. eqb (pieceOf (at blocks i)) q) (length blocks) 0 (omega arith) (eq-eqb q q refl))) in
       let e = members-are in
       omega arith
 
-  members-few : the-plan .members ≤ piecesFor (s .l)
-  members-few = let e = members-are in let h = count-le (the-plan .written) (piecesFor (s .l)) in omega arith
+  members-few : the-plan .members ≤ piecesFor (s .geometry .l)
+  members-few = let e = members-are in let h = count-le (the-plan .written) (piecesFor (s .geometry .l)) in omega arith
 
   zero-used : bitAt us 0 ≡ true
   unfolding usedBy
   zero-used =
       let least = fit .least in
-      sound (s .n) (s .l) (tablesOf mp pl nu us) (s .tail) (s .number) (p .sound-tables) .used 0 (omega arith)
+      sound (s .geometry) (tablesOf mp pl nu us) (s .tail) (s .number) (p .sound-tables) .used 0 (omega arith)
 
   module _ (first members : ℕ) (bs written taken ts : List ℕ) (g : Planning the-plan first members bs written count taken)
       (slice : ts ≡ take (count + members) taken) where
@@ -97,33 +97,33 @@ module _ (s : State) (im mp pl nu us : List ℕ) (head : ℕ) (blocks bytes : Li
     pub total-few : count + members ≤ 320
     total-few = let h = few-members in let k = few-data in let z = p .high in omega arith
 
-    ts-are : ts ≡ listFrom (placeOf base (s .n) (bitAt us) head) 0 (count + members)
+    ts-are : ts ≡ listFrom (placeOf base (s .geometry .n) (bitAt us) head) 0 (count + members)
     ts-are =
         slice ∙ g .taken-are ∙ places-are
-        ∙ ap (λ (k : ℕ). listFrom (placeOf base (s .n) (bitAt us) head) 0 (count + k)) (sym (g .members-are))
+        ∙ ap (λ (k : ℕ). listFrom (placeOf base (s .geometry .n) (bitAt us) head) 0 (count + k)) (sym (g .members-are))
 
     ts-length : length ts ≡ count + members
-    ts-length = ap length ts-are ∙ length-listFrom (placeOf base (s .n) (bitAt us) head) 0 (count + members)
+    ts-length = ap length ts-are ∙ length-listFrom (placeOf base (s .geometry .n) (bitAt us) head) 0 (count + members)
 
-    ts-at : (i : ℕ) → i < count + members → at ts i ≡ placeOf base (s .n) (bitAt us) head i
+    ts-at : (i : ℕ) → i < count + members → at ts i ≡ placeOf base (s .geometry .n) (bitAt us) head i
     ts-at i h =
-        ap (λ (xs : List ℕ). at xs i) ts-are ∙ listFrom-at (placeOf base (s .n) (bitAt us) head) 0 (count + members) i 0 h
-        ∙ ap (placeOf base (s .n) (bitAt us) head) (let e : 0 + i ≡ i = omega arith in e)
+        ap (λ (xs : List ℕ). at xs i) ts-are ∙ listFrom-at (placeOf base (s .geometry .n) (bitAt us) head) 0 (count + members) i 0 h
+        ∙ ap (placeOf base (s .geometry .n) (bitAt us) head) (let e : 0 + i ≡ i = omega arith in e)
 
-    room : count + members ≤ freeSectors (s .n) (bitAt us)
+    room : count + members ≤ freeSectors (s .geometry .n) (bitAt us)
     room = let e = g .members-are in let h = members-few in let r = p .room in omega arith
 
-    pub ts-below : (i : ℕ) → i < count + members → at ts i < s .n
+    pub ts-below : (i : ℕ) → i < count + members → at ts i < s .geometry .n
     ts-below i h =
         let least = fit .least in
-        subst (λ (x : ℕ). x < s .n) (sym (ts-at i h))
-        (place-below base base-chooses (s .n) (omega arith) (bitAt us) zero-used head (p .head-below) (count + members) room i h)
+        subst (λ (x : ℕ). x < s .geometry .n) (sym (ts-at i h))
+        (place-below base base-chooses (s .geometry .n) (omega arith) (bitAt us) zero-used head (p .head-below) (count + members) room i h)
 
     ts-low : (i : ℕ) → i < count + members → 1 ≤ at ts i
     ts-low i h =
         let least = fit .least in
         subst (λ (x : ℕ). 1 ≤ x) (sym (ts-at i h))
-        (place-low base base-chooses (s .n) (omega arith) (bitAt us) zero-used head (p .head-below) (count + members) room i h)
+        (place-low base base-chooses (s .geometry .n) (omega arith) (bitAt us) zero-used head (p .head-below) (count + members) room i h)
 
     pub ts-word : (i : ℕ) → i < count → at ts i < 2 ^ 31
     ts-word i h = let z = ts-below i (omega arith) in let n = fit .sectors in omega arith
@@ -160,12 +160,12 @@ module _ (s : State) (im mp pl nu us : List ℕ) (head : ℕ) (blocks bytes : Li
           ∙ getD-append-add (listFrom (λ i. entryFor (sectorAt bytes i) (at ts i)) 0 count) (drop count (replicate 64 0)) (i - count) 0
           ∙ getD-drop count (replicate 64 0) (i - count) 0 ∙ zeros-get 64 (count + (i - count))
 
-      pub settling : length written ≡ 256 → Settling (s .n) (s .l) (s .number) blocks news ts count written
+      pub settling : length written ≡ 256 → Settling (s .geometry) (s .number) blocks news ts count written
       settling w =
           let most = fit .most in
           let flags = g .written-are in
-          let counted : countBelow (flagged written) (piecesFor (s .l)) ≡ members
-          = ap (λ (f : ℕ → Bool). countBelow f (piecesFor (s .l))) flags ∙ sym members-are ∙ sym (g .members-are) in
+          let counted : countBelow (flagged written) (piecesFor (s .geometry .l)) ≡ members
+          = ap (λ (f : ℕ → Bool). countBelow f (piecesFor (s .geometry .l))) flags ∙ sym members-are ∙ sym (g .members-are) in
           let len = ts-length in
           let few = few-members in
           let num = p .few in
@@ -186,13 +186,13 @@ module _ (s : State) (im mp pl nu us : List ℕ) (head : ℕ) (blocks bytes : Li
             numbers = omega arith;
           }
 
-      pub members-counted : members ≡ countBelow (flagged written) (piecesFor (s .l))
-      members-counted = g .members-are ∙ members-are ∙ ap (λ (f : ℕ → Bool). countBelow f (piecesFor (s .l))) (sym (g .written-are))
+      pub members-counted : members ≡ countBelow (flagged written) (piecesFor (s .geometry .l))
+      members-counted = g .members-are ∙ members-are ∙ ap (λ (f : ℕ → Bool). countBelow f (piecesFor (s .geometry .l))) (sym (g .written-are))
 
       -- The same plan of the tables with their map, and of the change itself.
-      branches-any : branchesFor (s .l) (tablesOf [] pl nu us) view (s .number) blocks ≡ branchesFor (s .l) (tablesOf mp pl nu us) view (s .number) blocks
+      branches-any : branchesFor (s .geometry .l) (tablesOf [] pl nu us) view (s .number) blocks ≡ branchesFor (s .geometry .l) (tablesOf mp pl nu us) view (s .number) blocks
       unfolding branchesFor
-      branches-any = listing-any (piecesFor (s .l)) [] mp pl nu us us view _ (piecesFor (s .l)) (suc (s .number)) (λ _. false)
+      branches-any = listing-any (piecesFor (s .geometry .l)) [] mp pl nu us us view _ (piecesFor (s .geometry .l)) (suc (s .number)) (λ _. false)
 
       plan-any : (content : ℕ → List ℕ) (entry : ℕ → ℕ → ℕ)
           → the-plan ≡ planned base s (tablesOf mp pl nu us) view head (record { blocks = blocks; dataSectors = count; content = content; entry = entry })

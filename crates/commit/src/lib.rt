@@ -12,10 +12,10 @@ ghost use Rattle.volume.specs.Tables.{bitAt, sectorAt, memory, tablesOf, freeSe
 ghost use Rattle.volume.specs.Refusals.{judged};
 ghost use Rattle.volume.specs.Store.{after, performed};
 ghost use Rattle.volume.specs.Placing.{base};
-ghost use Rattle.volume.specs.Commit.{commitAction};
+ghost use Rattle.volume.specs.Commit.{planAction, commitAction};
 ghost use Rattle.volume.specs.Calls.{viewOf, commitChecks};
 ghost use Rattle.pieces.specs.Arrays.{flagged, planOf, Settling};
-ghost use Rattle.commit.specs.Commit.{planAction, changeWith, changeBy};
+ghost use Rattle.commit.specs.Commit.{changeWith, changeBy};
 use answer::Answer;
 use power::allowance::Power;
 use state::Outcome;
@@ -39,15 +39,15 @@ fn carry_out(
     members: u32,
     allowance: u32,
 ) -> Outcome
-    requires { ⌜ geometryFits (s .n) (s .l) ≡ true ⌝ }
-    requires { ⌜ length (now image) ≡ sectorBytes * s .n ⌝ }
-    requires { ⌜ length (now map) ≡ s .l ⌝ }
-    requires { ⌜ length (now places) ≡ piecesFor (s .l) ⌝ }
-    requires { ⌜ length (now numbers) ≡ piecesFor (s .l) ⌝ }
-    requires { ⌜ length (now used) ≡ usedBytes (s .n) ⌝ }
-    requires { ⌜ consistent (s .n) (s .l) (tablesOf (now map) (now places) (now numbers) (now used)) (s .tail) (s .number) ≡ true ⌝ }
-    requires { ⌜ Settling (s .n) (s .l) (s .number) (now blocks) (now news) (now taken) count (now written) ⌝ }
-    requires { ⌜ members ≡ countBelow (flagged (now written)) (piecesFor (s .l)) ⌝ }
+    requires { ⌜ geometryFits (s .geometry) ≡ true ⌝ }
+    requires { ⌜ length (now image) ≡ sectorBytes * s .geometry .n ⌝ }
+    requires { ⌜ length (now map) ≡ s .geometry .l ⌝ }
+    requires { ⌜ length (now places) ≡ piecesFor (s .geometry .l) ⌝ }
+    requires { ⌜ length (now numbers) ≡ piecesFor (s .geometry .l) ⌝ }
+    requires { ⌜ length (now used) ≡ usedBytes (s .geometry .n) ⌝ }
+    requires { ⌜ consistent (s .geometry) (tablesOf (now map) (now places) (now numbers) (now used)) (s .tail) (s .number) ≡ true ⌝ }
+    requires { ⌜ Settling (s .geometry) (s .number) (now blocks) (now news) (now taken) count (now written) ⌝ }
+    requires { ⌜ members ≡ countBelow (flagged (now written)) (piecesFor (s .geometry .l)) ⌝ }
     requires { ⌜ 1 ≤ members ⌝ }
     requires { ⌜ length (now branches) ≤ branchRoom ⌝ }
     requires { ⌜ length (now bytes) ≡ sectorBytes * count ⌝ }
@@ -69,7 +69,7 @@ fn carry_out(
     );
     match power {
         Power::Failed => Outcome {
-            answer: Answer::PowerFailed { stores: allowance },
+            answer: Answer::power_failed(allowance),
             state: s.cut(),
         },
         Power::Left(left) => {
@@ -87,10 +87,9 @@ fn carry_out(
             );
             let tail = taken[taken.len() - 1];
             let number = s.number + members;
+            let stores = allowance - left;
             Outcome {
-                answer: Answer::Accepted {
-                    stores: allowance - left,
-                },
+                answer: Answer::accepted(stores),
                 state: s.committed(tail, number),
             }
         }
@@ -111,10 +110,10 @@ pub fn commit(
     count: u32,
     allowance: u32,
 ) -> Outcome
-    requires { ⌜ Pass ≡ judged (commitChecks base s (memory (now image) (now map) (now places) (now numbers) (now used)) head (now blocks) true (not (ltb (freeSectors (s .n) (bitAt (now used))) (count + piecesFor (s .l))))) ⌝ }
+    requires { ⌜ Pass ≡ judged (commitChecks base s (memory (now image) (now map) (now places) (now numbers) (now used)) head (now blocks) true (not (ltb (freeSectors (s .geometry .n) (bitAt (now used))) (count + piecesFor (s .geometry .l))))) ⌝ }
     requires { ⌜ (count ≡ 0) ⊎ (count ≡ length (now blocks)) ⌝ }
     requires { ⌜ length (now bytes) ≡ sectorBytes * count ⌝ }
-    ensures { λ r. ⌜ after r (memory (now (image .exit)) (now (map .exit)) (now (places .exit)) (now (numbers .exit)) (now (used .exit))) ≡ performed allowance (commitAction base s (tablesOf (now (map .entry)) (now (places .entry)) (now (numbers .entry)) (now (used .entry))) (viewOf (s .n) (s .l) (sectorAt (now (image .entry)))) head (changeBy (now (blocks .entry)) (now (bytes .entry)) count)) (memory (now (image .entry)) (now (map .entry)) (now (places .entry)) (now (numbers .entry)) (now (used .entry))) ⌝ }
+    ensures { λ r. ⌜ after r (memory (now (image .exit)) (now (map .exit)) (now (places .exit)) (now (numbers .exit)) (now (used .exit))) ≡ performed allowance (commitAction base s (tablesOf (now (map .entry)) (now (places .entry)) (now (numbers .entry)) (now (used .entry))) (viewOf (s .geometry) (sectorAt (now (image .entry)))) head (changeBy (now (blocks .entry)) (now (bytes .entry)) count)) (memory (now (image .entry)) (now (map .entry)) (now (places .entry)) (now (numbers .entry)) (now (used .entry))) ⌝ }
 {
     let mut written = [0u8; 256];
     let mut branches = [0u32; 25];

@@ -7,13 +7,13 @@ use mathlib.Core.List.{List, _∷_}
 use native.Mathlib.Nat.{not-suc-le-zero, le-of-suc-le-suc, div-add-mod}
 use native.Mathlib.Numerals.{add-one}
 use native.Mathlib.Omega.{arith}
-use lib.ListN.{length, set, List·getD-eq-default}
+use lib.ListN.{length, set}
 use lib.Dec.{leb}
 use borrow.Author.Tests.{eq-eqb, ne-eqb, le-leb, lt-leb}
 use Rattle.geometry.specs.Geometry.{pieceOf, indexOf}
 use Rattle.layout.specs.Bounded.{at, listFrom, updated, updates}
 use Rattle.volume.specs.Tables.{pieceEntries}
-use Rattle.laws.proofs.Bounded.{lt?, eq?, listFrom-same, updated-here, updated-other, length-listFrom}
+use Rattle.laws.proofs.Bounded.{lt?, eq?, listFrom-same, updated-here, updated-other, length-listFrom, past-end}
 
 shifted : (g : ℕ → ℕ) (from k n : ℕ) → listFrom (λ i. g (from + i)) k n ≡ listFrom g (from + k) n
 unfolding listFrom
@@ -22,16 +22,13 @@ shifted g from k (suc n) =
     ap (λ (xs : List ℕ). g (from + k) ∷ xs)
     (shifted g from (suc k) n ∙ ap (λ (x : ℕ). listFrom g x n) (let e : from + suc k ≡ suc (from + k) = omega arith in e))
 
-pub past-map : (map : List ℕ) (b : ℕ) → length map ≤ b → 0 ≡ at map b
-past-map map b h = sym (List·getD-eq-default map 0 {n = b} h)
-
 pub piece-copied : (map : List ℕ) (p : ℕ) → listFrom (λ i. at map (96 * p + i)) 0 96 ≡ pieceEntries (length map) (at map) p
 unfolding pieceEntries
 piece-copied map p =
     shifted (at map) (96 * p) 0 96 ∙ ap (λ (x : ℕ). listFrom (at map) x 96) (let e : 96 * p + 0 ≡ 96 * p = omega arith in e)
     ∙ listFrom-same (at map) (λ b. cond (leb (length map) b) 0 (at map b)) (96 * p) 96 (λ k h g.
     ⊎-elim (λ (z : k < length map). rw (lt-leb (length map) k z) refl)
-    (λ (z : length map ≤ k). rw (le-leb (length map) k z) (sym (past-map map k z))) (lt? k (length map)))
+    (λ (z : length map ≤ k). rw (le-leb (length map) k z) (sym (past-end map k z))) (lt? k (length map)))
 
 set-listed : (g : ℕ → ℕ) (from n i v : ℕ) → i < n → set (listFrom g from n) i v ≡ listFrom (updated g (from + i) v) from n
 unfolding listFrom

@@ -25,28 +25,16 @@ pub fn entries_for(bytes: &[u8], places: &[u32], count: usize, entries: &mut [u3
     }
 }
 
-// Entry i of piece p, zero past the map's end.
-fn entry_of(map: &[u32], p: u32, i: usize) -> u32
-    requires { ⌜ p < 256 ⌝ }
-    requires { ⌜ i < entriesPerPiece ⌝ }
-    ensures { λ r. ⌜ r ≡ at (now (map .entry)) (entriesPerPiece * p + i) ⌝ }
-{
-    let b = 96 * (p as usize) + i;
-    if map.len() <= b {
-        return 0;
-    }
-    map[b]
-}
-
 // The entries of piece p, as the map has them.
 fn copy_piece(map: &[u32], p: u32, entries: &mut [u32])
     requires { ⌜ p < 256 ⌝ }
     requires { ⌜ length (now entries) ≡ entriesPerPiece ⌝ }
     ensures { λ _. ⌜ now (entries .exit) ≡ pieceEntries (length (now (map .entry))) (at (now (map .entry))) p ⌝ }
 {
+    let first = (Geometry::ENTRIES * p) as usize;
     let mut i = 0;
     while i < 96 {
-        let entry = entry_of(map, p, i);
+        let entry = blocks::entry_of(map, first + i);
         entries[i] = entry;
         i += 1;
     }

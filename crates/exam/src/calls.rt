@@ -21,14 +21,6 @@ fn storing(call: Call) -> Storing {
     }
 }
 
-// What a line gives its call: the L of a format, the head of a write or a drop. A recover is given the volume's L.
-fn argument(call: Call, first: u32, l: u32) -> u32 {
-    match call {
-        Call::Recover => l,
-        _ => first,
-    }
-}
-
 // Reads a block, and says it.
 fn say_read(
     s: State,
@@ -98,7 +90,7 @@ fn show_blocks(
     used: &[u8],
     aloud: bool,
 ) -> u32 {
-    let l = s.l;
+    let l = s.geometry.l;
     let mut count = 0u32;
     let mut b = 0u32;
     while b < l {
@@ -149,10 +141,11 @@ fn sector_part(image: &[u8], k: u32) -> &[u8] {
 }
 
 // The sectors of the image, a line each.
-fn show_sectors(image: &[u8], n: u32, l: u32) {
+fn show_sectors(image: &[u8], g: Geometry) {
+    let n = g.n;
     let mut k = 0u32;
     while k < n {
-        sector_line::say_sector(sector_part(image, k), k, n, l);
+        sector_line::say_sector(sector_part(image, k), k, g);
         k += 1;
     }
 }
@@ -168,6 +161,7 @@ fn perform(
     call: Call,
     r: Request,
     s: State,
+    size: Geometry,
     image: &mut [u8],
     map: &mut [u32],
     places: &mut [u32],
@@ -180,9 +174,9 @@ fn perform(
         Call::Read => say_read(s, image, map, places, numbers, used, r.first),
         Call::Show => show(s, image, map, places, numbers, used),
         Call::Sectors => {
-            show_sectors(image, s.n, s.l);
+            show_sectors(image, size);
             Outcome {
-                answer: Answer::Accepted { stores: 0 },
+                answer: Answer::accepted(0),
                 state: s,
             }
         }
@@ -195,7 +189,8 @@ fn perform(
                 places,
                 numbers,
                 used,
-                argument(call, r.first, s.l),
+                size.settings(),
+                r.first,
                 blocks,
                 bytes,
                 r.stores,
@@ -257,6 +252,7 @@ pub fn lend(
         call,
         r,
         s,
+        size,
         &mut image[..n],
         &mut map[..l],
         &mut places[..p],

@@ -1,6 +1,7 @@
 // The desk: it takes a line apart, lends the volume's parts to the call, and keeps the state.
 use crate::calls;
 use geometry::Geometry;
+use geometry::Settings;
 use paper::data::Trouble;
 use paper::request;
 use paper::request::Call;
@@ -41,7 +42,7 @@ fn counted(line: u32) -> u32 {
 impl Desk {
     pub fn opened() -> Desk {
         Desk {
-            state: State::lost(0, 0),
+            state: State::lost(Geometry { n: 0, l: 0 }),
             open: false,
             stopped: false,
             line: 0,
@@ -83,14 +84,17 @@ impl Desk {
     }
 }
 
+// The volume that a format asks for.
+fn asked(r: Request) -> Geometry {
+    let settings = Settings { l: r.first };
+    settings.volume(r.second)
+}
+
 // What stops a call whose line is understood: no volume, or one that is larger than the program holds.
 fn obstacle(desk: Desk, call: Call, r: Request) -> Trouble {
     match call {
         Call::Format => {
-            let g = Geometry {
-                n: r.second,
-                l: r.first,
-            };
+            let g = asked(r);
             if g.n > HELD {
                 if g.fits() {
                     return Trouble::Sectors;
@@ -110,14 +114,11 @@ fn obstacle(desk: Desk, call: Call, r: Request) -> Trouble {
 // The sectors and blocks to lend: those of the format, or of the volume that is there. None where they are out of range.
 fn lent(desk: Desk, call: Call, r: Request) -> Geometry {
     match call {
-        Call::Format => Geometry {
-            n: r.second,
-            l: r.first,
-        },
-        _ => Geometry {
-            n: desk.state.n,
-            l: desk.state.l,
-        },
+        Call::Format => asked(r),
+        _ => {
+            let g = desk.state.geometry;
+            g
+        }
     }
 }
 

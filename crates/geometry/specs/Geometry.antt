@@ -2,6 +2,8 @@
 use Prim.Native.Nat.{ℕ, _+_, _*_, _/_, _%_}
 use mathlib.Core.Bool.{Bool, _&&_}
 use lib.Dec.{leb}
+use Rattle.geometry.specs.declared.Geometry.{Geometry}
+use Rattle.geometry.specs.declared.Settings.{Settings}
 
 -- low ≤ x ≤ high.
 abbrev pub within : ℕ → ℕ → ℕ → Bool
@@ -40,6 +42,14 @@ indexOf block = block % entriesPerPiece
 abbrev pub usedBytes : ℕ → ℕ
 usedBytes n = (n + 7) / 8
 
+-- The volume of N sectors that these settings ask for.
+abbrev pub geometryOf : ℕ → Settings → Geometry
+geometryOf n settings = record { n = n; l = settings .l }
+
+-- What a recovery of a volume is given.
+abbrev pub settingsOf : Geometry → Settings
+settingsOf g = record { l = g .l }
+
 -- L is 1 to 24,576; N is 2P + 2 to 65,536.
-abbrev pub geometryFits : ℕ → ℕ → Bool
-geometryFits n l = within 1 mostBlocks l && within (2 * piecesFor l + 2) mostSectors n
+abbrev pub geometryFits : Geometry → Bool
+geometryFits g = within 1 mostBlocks (g .l) && within (2 * piecesFor (g .l) + 2) mostSectors (g .n)

@@ -1,10 +1,25 @@
-// The geometry of a volume: N sectors, of which the host sees L blocks through a map of P pieces.
+// What a volume is, in one value that the state keeps and every call goes by; and what a format or a recovery is given of it.
 ghost use mathlib.Core.Path.{_≡_};
-ghost use Rattle.geometry.specs.Geometry.{piecesFor, pieceOf, indexOf, usedBytes, geometryFits};
+ghost use Rattle.geometry.specs.Geometry.{piecesFor, pieceOf, indexOf, usedBytes, geometryOf, settingsOf, geometryFits};
 
+// N sectors, of which the host sees L blocks through a map of P pieces.
 pub struct Geometry {
     pub n: u32,
     pub l: u32,
+}
+
+// What a format or a recovery is given. N comes from the image.
+pub struct Settings {
+    pub l: u32,
+}
+
+impl Settings {
+    // The volume of n sectors that these settings ask for.
+    pub fn volume(self, n: u32) -> Geometry
+        ensures { λ r. ⌜ r ≡ geometryOf n self ⌝ }
+    {
+        Geometry { n, l: self.l }
+    }
 }
 
 impl Geometry {
@@ -43,6 +58,13 @@ impl Geometry {
         block % Geometry::ENTRIES
     }
 
+    // What a recovery of this volume is given.
+    pub fn settings(self) -> Settings
+        ensures { λ r. ⌜ r ≡ settingsOf self ⌝ }
+    {
+        Settings { l: self.l }
+    }
+
     // Bytes of the used map: one bit a sector.
     pub fn used_bytes(self) -> u32
         ensures { λ r. ⌜ r ≡ usedBytes (self .n) ⌝ }
@@ -53,7 +75,7 @@ impl Geometry {
 
     // L is 1 to 24,576; N is 2P + 2 to 65,536.
     pub fn fits(self) -> bool
-        ensures { λ r. ⌜ r ≡ geometryFits (self .n) (self .l) ⌝ }
+        ensures { λ r. ⌜ r ≡ geometryFits self ⌝ }
     {
         let n = self.n;
         let l = self.l;

@@ -2,33 +2,35 @@
 use Prim.Native.Nat.{ℕ, zero, suc, _+_, _*_, _-_, _/_, _≤_, _<_}
 use mathlib.Core.Path.{_≡_, refl, sym, _∙_, ap, subst}
 use mathlib.Core.Logic.{inr, ⊎-elim}
-use mathlib.Core.Bool.{Bool, true, false, cond, not, _&&_, true≢false}
-use mathlib.Core.List.{List, [], _∷_}
+use mathlib.Core.Bool.{Bool, true, false, cond, not, true≢false}
+use mathlib.Core.List.{List}
 use mathlib.Core.Option.{some}
-use native.Mathlib.Nat.{le-of-suc-le-suc, not-suc-le-zero}
+use native.Mathlib.Nat.{not-suc-le-zero}
 use native.Mathlib.Omega.{arith}
 use lib.ListN.{length, take}
-use lib.Dec.{leb, ltb, eqb}
-use borrow.Author.Tests.{ltb-true, ltb-false, lt-ltb, leb-true, eqb-true, eq-eqb}
+use lib.Dec.{ltb, eqb}
+use borrow.Author.Tests.{ltb-true, ltb-false, lt-ltb, eqb-true, eq-eqb}
+use Rattle.geometry.specs.declared.Geometry.{Geometry}
 use Rattle.state.specs.declared.State.{State}
 use Rattle.answer.specs.declared.Refusal.{Refusal}
+use Rattle.answer.specs.declared.Refusal.the-variants.{BlockNumbers, WrongPhase}
 use Rattle.answer.specs.declared.Verdict.the-variants.{Pass}
-use Rattle.geometry.specs.Geometry.{within, piecesFor}
+use Rattle.geometry.specs.Geometry.{within, piecesFor, settingsOf}
 use Rattle.state.specs.State.{freshState, isRunning, isReadable}
-use Rattle.layout.specs.Bounded.{at, all, allBelow, updated, updates}
+use Rattle.layout.specs.Bounded.{at, updated, updates}
 use Rattle.layout.specs.MapSector.{MapSector}
 use Rattle.layout.specs.Entry.{blank, isEmpty, sectorOf, restored}
 use Rattle.layout.specs.ParkRecord.{parkRecord}
 use Rattle.volume.specs.Tables.{Tables, Memory, zeroTables, sectorAt, freeSectors}
-use Rattle.volume.specs.Refusals.{judged}
+use Rattle.volume.specs.Refusals.{applies, firstOf, judged}
 use Rattle.volume.specs.Store.{After, applied, performed, refused, after}
 use Rattle.volume.specs.Format.{sectorsIn, sizeChecks}
 use Rattle.volume.specs.Placing.{Rules}
 use Rattle.volume.specs.Commit.{Change, commitAction}
-use Rattle.volume.specs.Calls.{viewOf, stateFits, blocksFit, commitChecks, commitOf, writeChange, dropChange, roomFor, writeBy, dropBy, entryReadable, readChecks, blockOf, readJudged, readOf, parkChecks, parkAction, parkOf}
+use Rattle.volume.specs.Calls.{viewOf, stateFits, commitChecks, commitOf, writeChange, dropChange, roomFor, writeBy, dropBy, entryReadable, readChecks, blockOf, readJudged, readOf, parkChecks, parkAction, parkOf}
 use Rattle.volume.specs.Recover.{Log, findingOf, imageView, recoveryAction, recovered, recoverOf}
 use Rattle.history.specs.History.{worldOf, accepted, Disk, putBlocks}
-use Rattle.laws.proofs.Bounded.{bool?, lt?, eq?, clash, and-l, and-r, or-r, or-l, not-of, updated-here, updated-other, allBelow-at, suc-cases}
+use Rattle.laws.proofs.Bounded.{bool?, lt?, eq?, clash, or-r, or-l, not-of, updated-here, updated-other}
 use Rattle.laws.proofs.Codec.{stored-unsigned, restored-stored, restored-empty, entry-sector, entry-full, entry-word}
 use Rattle.laws.proofs.Names.{block, sectorNamed, within-is}
 use Rattle.laws.proofs.Placing.{Choosing}
@@ -37,123 +39,64 @@ use Rattle.history.proofs.Invariant.{Committed, Settled, ground-moves}
 use Rattle.history.proofs.Clearing.{view-parked}
 use Rattle.history.proofs.Plan.{Given}
 use Rattle.history.proofs.Recovery.{Finds, recovers}
-use Rattle.laws.proofs.Judged.{verdict?, passes-first, passes-rest, not-false, performed-cut, performed-whole}
+use Rattle.laws.proofs.Judged.{verdict?, cleared, not-false, performed-cut, performed-whole}
+use Rattle.laws.proofs.CommitPassed.{CommitPassed, commit-passed}
 use Rattle.history.proofs.Steps.{refused-not, Standing, running, parked, cut, Sized, sized-with, Step, commit-step}
 
--- Block numbers.
-
-all-at : (test : ℕ → Bool) (xs : List ℕ) (i : ℕ) → all test xs ≡ true → i < length xs → test (at xs i) ≡ true
-unfolding all
-all-at test [] i a h = absurd (not-suc-le-zero h)
-all-at test (x ∷ xs) zero a h = and-l (test x) (all test xs) a
-all-at test (x ∷ xs) (suc i) a h = all-at test xs i (and-r (test x) (all test xs) a) (le-of-suc-le-suc h)
-
-ascends : (xs : List ℕ) → allBelow (λ i. ltb (at xs i) (at xs (suc i))) (length xs - 1) ≡ true → (i j : ℕ) → i < j → j < length xs → at xs i < at xs j
-ascends xs a i zero h b = absurd (not-suc-le-zero h)
-ascends xs a i (suc j) h b =
-    let step = ltb-true (at xs j) (at xs (suc j)) (allBelow-at (λ k. ltb (at xs k) (at xs (suc k))) (length xs - 1) a j (omega arith)) in
-    ⊎-elim (λ (z : i ≡ j). rw z step) (λ (z : i < j). let r = ascends xs a i j z (omega arith) in omega arith) (suc-cases h)
-
-record BlocksFit (n l head : ℕ) (blocks : List ℕ) : Type 0 where
-  some : 1 ≤ length blocks
-  below : (i : ℕ) → i < length blocks → at blocks i < l
-  apart : (i j : ℕ) → i < j → j < length blocks → at blocks i ≡ at blocks j → ⊥
-  inside : head < n
-
-blocks-fit : (n l head : ℕ) (blocks : List ℕ) → blocksFit n l head blocks ≡ true → BlocksFit n l head blocks
-unfolding blocksFit
-blocks-fit n l head blocks e =
-    let a1 = within 1 64 (length blocks) in
-    let a2 = allBelow (λ i. ltb (at blocks i) (at blocks (suc i))) (length blocks - 1) in
-    let a3 = all (λ b. ltb b l) blocks in
-    let a4 = ltb head n in
-    let e3 = and-l (a1 && a2 && a3) a4 e in
-    let e2 = and-l (a1 && a2) a3 e3 in
-    record {
-      some = leb-true 1 (length blocks) (and-l (leb 1 (length blocks)) (leb (length blocks) 64) (and-l a1 a2 e2));
-      below = λ i h. ltb-true (at blocks i) l (all-at (λ b. ltb b l) blocks i (and-r (a1 && a2) a3 e3) h);
-      apart = λ i j h b z. let r = ascends blocks (and-r a1 a2 e2) i j h b in omega arith;
-      inside = ltb-true head n (and-r (a1 && a2 && a3) a4 e);
-    }
-
--- What the checks of a commit say where they all pass.
-record Checked (rules : Rules) (s : State) (m : Memory) (head : ℕ) (blocks : List ℕ) (hasRoom : Bool) : Type 0 where
-  named : BlocksFit (s .n) (s .l) head blocks
-  phase : isRunning (s .phase) ≡ true
-  room : hasRoom ≡ true
-  numbers : s .number ≤ rules .greatest
-
-checked : (rules : Rules) (s : State) (m : Memory) (head : ℕ) (blocks : List ℕ) (bytesFit hasRoom : Bool)
-    → judged (commitChecks rules s m head blocks bytesFit hasRoom) ≡ Pass → Checked rules s m head blocks hasRoom
-unfolding commitChecks
-checked rules s m head blocks bytesFit hasRoom e =
-    let e2 = passes-rest _ _ e in
-    let e3 = passes-rest _ _ e2 in
-    let e4 = passes-rest _ _ e3 in
-    let e5 = passes-rest _ _ e4 in
-    let e6 = passes-rest _ _ e5 in
-    let e7 = passes-rest _ _ e6 in
-    record {
-      named = blocks-fit (s .n) (s .l) head blocks (not-false (blocksFit (s .n) (s .l) head blocks) (passes-first _ _ e3));
-      phase = not-false (isRunning (s .phase)) (passes-first _ _ e4);
-      room = not-false hasRoom (passes-first _ _ e6);
-      numbers = ltb-false (rules .greatest) (s .number) (passes-first _ _ e7);
-    }
-
 -- A refused call.
-refused-step : (n l : ℕ) (s : State) (m : Memory) (r : Refusal) (disk disk′ : Disk) → Sized n l m
-    → Standing n l (record { state = s; memory = m }) disk → Step n l m (refused r s m) disk disk′
-refused-step n l s m r disk disk′ size stands =
+refused-step : (g : Geometry) (s : State) (m : Memory) (r : Refusal) (disk disk′ : Disk) → Sized g m
+    → Standing g (record { state = s; memory = m }) disk → Step g m (refused r s m) disk disk′
+refused-step g s m r disk disk′ size stands =
     record {
       kept = λ e. clash (accepted (refused r s m)) e (refused-not r s m);
-      stands = subst (λ (b : Bool). Standing n l (record { state = s; memory = m }) (cond b disk′ disk)) (sym (refused-not r s m)) stands;
+      stands = subst (λ (b : Bool). Standing g (record { state = s; memory = m }) (cond b disk′ disk)) (sym (refused-not r s m)) stands;
       sized = size;
     }
 
-module _ (rules : Rules) (law : Choosing rules) (n l : ℕ) (fit : Fits n l) where
+module _ (rules : Rules) (law : Choosing rules) (g : Geometry) (fit : Fits g) where
   -- Write and drop, of a volume that stands in any way.
-  module _ (s : State) (m : Memory) (size : Sized n l m) (disk : Disk) (stands : Standing n l (record { state = s; memory = m }) disk)
+  module _ (s : State) (m : Memory) (size : Sized g m) (disk : Disk) (stands : Standing g (record { state = s; memory = m }) disk)
       (head : ℕ) (change : Change) (values : ℕ → List ℕ) (bytesFit hasRoom : Bool)
-      (given : (tail number : ℕ) → s ≡ freshState n l tail number → Settled n l (m .image) (m .tables) tail number disk → m .image 0 ≡ blank
-      → Checked rules (freshState n l tail number) m head (change .blocks) hasRoom
-      → Given rules (freshState n l tail number) (m .tables) (m .image) disk head change values) where
+      (given : (tail number : ℕ) → s ≡ freshState g tail number → Settled g (m .image) (m .tables) tail number disk → m .image 0 ≡ blank
+      → CommitPassed rules (freshState g tail number) m head (change .blocks) bytesFit hasRoom
+      → Given rules (freshState g tail number) (m .tables) (m .image) disk head change values) where
     abbrev changed : Disk
     changed = updates disk (at (change .blocks)) values (length (change .blocks))
 
     passed : (allowance : ℕ) → judged (commitChecks rules s m head (change .blocks) bytesFit hasRoom) ≡ Pass
-        → Standing n l (record { state = s; memory = m }) disk
-        → Step n l m (performed allowance (commitAction rules s (m .tables) (viewOf (s .n) (s .l) (m .image)) head change) m) disk changed
+        → Standing g (record { state = s; memory = m }) disk
+        → Step g m (performed allowance (commitAction rules s (m .tables) (viewOf (s .geometry) (m .image)) head change) m) disk changed
     passed allowance e (running tail number q settled unparked) =
-        let c = checked rules s m head (change .blocks) bytesFit hasRoom e in
-        let g = given tail number q settled unparked (subst (λ (x : State). Checked rules x m head (change .blocks) hasRoom) q c) in
-        subst (λ (x : State). Step n l m (performed allowance (commitAction rules x (m .tables) (viewOf (x .n) (x .l) (m .image)) head change) m) disk changed)
-        (sym q) (commit-step rules law n l fit m size tail number disk settled unparked head change values g allowance)
+        let c = commit-passed rules s m head (change .blocks) bytesFit hasRoom e in
+        let u = given tail number q settled unparked (subst (λ (x : State). CommitPassed rules x m head (change .blocks) bytesFit hasRoom) q c) in
+        subst (λ (x : State). Step g m (performed allowance (commitAction rules x (m .tables) (viewOf (x .geometry) (m .image)) head change) m) disk changed)
+        (sym q) (commit-step rules law g fit m size tail number disk settled unparked head change values u allowance)
     passed allowance e (parked tail number q settled) =
-        let c = checked rules s m head (change .blocks) bytesFit hasRoom e in
+        let c = commit-passed rules s m head (change .blocks) bytesFit hasRoom e in
         absurd (true≢false (sym (c .phase) ∙ ap (λ (x : State). isRunning (x .phase)) q))
     passed allowance e (cut q t tail number committed) =
-        let c = checked rules s m head (change .blocks) bytesFit hasRoom e in
+        let c = commit-passed rules s m head (change .blocks) bytesFit hasRoom e in
         absurd (true≢false (sym (c .phase) ∙ ap isRunning q))
 
-    commit-stands : (allowance : ℕ) → Step n l m (commitOf rules s m head change bytesFit hasRoom allowance) disk changed
+    commit-stands : (allowance : ℕ) → Step g m (commitOf rules s m head change bytesFit hasRoom allowance) disk changed
     unfolding commitOf
     commit-stands allowance =
         ⊎-elim (λ (e : judged (commitChecks rules s m head (change .blocks) bytesFit hasRoom) ≡ Pass).
         rw e (passed allowance e stands))
-        (λ v. rw (v .1) (refused-step n l s m (v .0) disk changed size stands))
+        (λ v. rw (v .1) (refused-step g s m (v .0) disk changed size stands))
         (verdict? (judged (commitChecks rules s m head (change .blocks) bytesFit hasRoom)))
 
-  module _ (s : State) (m : Memory) (size : Sized n l m) (disk : Disk) (stands : Standing n l (record { state = s; memory = m }) disk) where
-    room-fits : (blocks : List ℕ) (tail number : ℕ) → s ≡ freshState n l tail number → roomFor s m blocks ≡ true
-        → length blocks + piecesFor l ≤ freeSectors n (m .tables .isUsed)
+  module _ (s : State) (m : Memory) (size : Sized g m) (disk : Disk) (stands : Standing g (record { state = s; memory = m }) disk) where
+    room-fits : (blocks : List ℕ) (tail number : ℕ) → s ≡ freshState g tail number → roomFor s m blocks ≡ true
+        → length blocks + piecesFor (g .l) ≤ freeSectors (g .n) (m .tables .isUsed)
     unfolding roomFor
     room-fits blocks tail number q e =
-        let r = subst (λ (x : State). not (ltb (freeSectors (x .n) (m .tables .isUsed)) (length blocks + piecesFor (x .l))) ≡ true) q e in
-        ltb-false (freeSectors n (m .tables .isUsed)) (length blocks + piecesFor l)
-        (not-of (ltb (freeSectors n (m .tables .isUsed)) (length blocks + piecesFor l)) r)
+        let r = subst (λ (x : State). not (ltb (freeSectors (x .geometry .n) (m .tables .isUsed)) (length blocks + piecesFor (x .geometry .l))) ≡ true) q e in
+        ltb-false (freeSectors (g .n) (m .tables .isUsed)) (length blocks + piecesFor (g .l))
+        (not-of (ltb (freeSectors (g .n) (m .tables .isUsed)) (length blocks + piecesFor (g .l))) r)
 
     pub write-stands : (head : ℕ) (blocks bytes : List ℕ) (allowance : ℕ)
-        → Step n l m (writeBy rules s m head blocks bytes allowance) disk (putBlocks disk blocks (sectorAt bytes))
+        → Step g m (writeBy rules s m head blocks bytes allowance) disk (putBlocks disk blocks (sectorAt bytes))
     unfolding writeBy putBlocks writeChange
     write-stands head blocks bytes allowance =
         commit-stands s m size disk stands head (writeChange blocks bytes) (sectorAt bytes) (eqb (length bytes) (512 * length blocks)) (roomFor s m blocks)
@@ -167,7 +110,7 @@ module _ (rules : Rules) (law : Choosing rules) (n l : ℕ) (fit : Fits n l) whe
           blocks = c .named .below;
           apart = c .named .apart;
           few = omega arith;
-          unsigned = λ i h. stored-unsigned n l (sectorAt bytes i);
+          unsigned = λ i h. stored-unsigned g (sectorAt bytes i);
           full = λ i k h low high. entry-full (sectorAt bytes i) k low;
           sector = λ i k h low high. entry-sector (sectorAt bytes i) k high;
           word = λ i k h low high. entry-word (sectorAt bytes i) k high;
@@ -180,7 +123,7 @@ module _ (rules : Rules) (law : Choosing rules) (n l : ℕ) (fit : Fits n l) whe
         allowance
 
     pub drop-stands : (head : ℕ) (blocks : List ℕ) (allowance : ℕ)
-        → Step n l m (dropBy rules s m head blocks allowance) disk (putBlocks disk blocks (λ _. blank))
+        → Step g m (dropBy rules s m head blocks allowance) disk (putBlocks disk blocks (λ _. blank))
     unfolding dropBy putBlocks dropChange
     drop-stands head blocks allowance =
         commit-stands s m size disk stands head (dropChange blocks) (λ _. blank) true true
@@ -207,30 +150,30 @@ module _ (rules : Rules) (law : Choosing rules) (n l : ℕ) (fit : Fits n l) whe
         allowance
 
 -- A park record over a blank sector 0.
-module _ (n l : ℕ) (fit : Fits n l) (image : ℕ → List ℕ) (t : Tables) (tail number : ℕ) (disk : Disk)
-    (settled : Settled n l image t tail number disk) where
+module _ (g : Geometry) (fit : Fits g) (image : ℕ → List ℕ) (t : Tables) (tail number : ℕ) (disk : Disk)
+    (settled : Settled g image t tail number disk) where
   abbrev parkImage : ℕ → List ℕ
   parkImage = updated image 0 (parkRecord (record { number = number; tail = tail }))
 
-  was : (k : ℕ) (a : MapSector) → imageView n l parkImage k ≡ some a → imageView n l image k ≡ some a
+  was : (k : ℕ) (a : MapSector) → imageView g parkImage k ≡ some a → imageView g image k ≡ some a
   was k a e =
       ⊎-elim (λ (z : k ≡ 0).
-      absurd (view-parked n l parkImage 0 (record { number = number; tail = tail })
-      (updated-here image 0 (parkRecord (record { number = number; tail = tail }))) a (subst (λ (x : ℕ). imageView n l parkImage x ≡ some a) z e)))
+      absurd (view-parked g parkImage 0 (record { number = number; tail = tail })
+      (updated-here image 0 (parkRecord (record { number = number; tail = tail }))) a (subst (λ (x : ℕ). imageView g parkImage x ≡ some a) z e)))
       (λ (z : k ≡ 0 → ⊥).
-      view-same n l image parkImage k (sym (updated-other image 0 k (parkRecord (record { number = number; tail = tail })) z)) ∙ e)
+      view-same g image parkImage k (sym (updated-other image 0 k (parkRecord (record { number = number; tail = tail })) z)) ∙ e)
       (eq? k 0)
 
-  parked-settles : Settled n l parkImage t tail number disk
+  parked-settles : Settled g parkImage t tail number disk
   parked-settles =
       let c = settled .committed in
-      let above : (k : ℕ) (a : MapSector) → imageView n l parkImage k ≡ some a → a .number ≤ number = λ k a e. settled .none-above k a (was k a e) in
+      let above : (k : ℕ) (a : MapSector) → imageView g parkImage k ≡ some a → a .number ≤ number = λ k a e. settled .none-above k a (was k a e) in
       record {
         committed = record {
           ground = ground-moves parkImage fit
               (λ x h.
-              updated-other image 0 (sectorNamed l (t .entry) (t .place) x) (parkRecord (record { number = number; tail = tail }))
-              (λ (z : sectorNamed l (t .entry) (t .place) x ≡ 0). let low = c .ground .sound .low x h in omega arith))
+              updated-other image 0 (sectorNamed (g .l) (t .entry) (t .place) x) (parkRecord (record { number = number; tail = tail }))
+              (λ (z : sectorNamed (g .l) (t .entry) (t .place) x ≡ 0). let low = c .ground .sound .low x h in omega arith))
               (c .ground);
           apart = λ j k a b e f. c .apart j k a b (was j a e) (was k b f);
           latest = λ k a e. c .latest k a (was k a e);
@@ -241,83 +184,83 @@ module _ (n l : ℕ) (fit : Fits n l) (image : ℕ → List ℕ) (t : Tables) (t
       }
 
 -- How a world stands after a call that changes no block.
-pub record Stays (n l : ℕ) (r : After) (disk : Disk) : Type 0 where
-  pub stands : Standing n l (worldOf r) disk
-  pub sized : Sized n l (r .memory)
+pub record Stays (g : Geometry) (r : After) (disk : Disk) : Type 0 where
+  pub stands : Standing g (worldOf r) disk
+  pub sized : Sized g (r .memory)
 
-refused-stays : (n l : ℕ) (s : State) (m : Memory) (r : Refusal) (disk : Disk) → Sized n l m → Standing n l (record { state = s; memory = m }) disk
-    → Stays n l (refused r s m) disk
-refused-stays n l s m r disk size stands = record { stands = stands; sized = size }
+refused-stays : (g : Geometry) (s : State) (m : Memory) (r : Refusal) (disk : Disk) → Sized g m → Standing g (record { state = s; memory = m }) disk
+    → Stays g (refused r s m) disk
+refused-stays g s m r disk size stands = record { stands = stands; sized = size }
 
-module _ (n l : ℕ) (fit : Fits n l) (s : State) (m : Memory) (size : Sized n l m) (disk : Disk)
-    (stands : Standing n l (record { state = s; memory = m }) disk) where
+module _ (g : Geometry) (fit : Fits g) (s : State) (m : Memory) (size : Sized g m) (disk : Disk)
+    (stands : Standing g (record { state = s; memory = m }) disk) where
   park-running : (judged (parkChecks s m) ≡ Pass) → isRunning (s .phase) ≡ true
-  unfolding parkChecks
-  park-running e = not-false (isRunning (s .phase)) (passes-first _ _ (passes-rest _ _ (passes-rest _ _ e)))
+  unfolding parkChecks applies
+  park-running e = not-false (isRunning (s .phase)) (cleared WrongPhase _ e)
 
-  park-performed : (tail number allowance : ℕ) → Settled n l (m .image) (m .tables) tail number disk
-      → Stays n l (performed allowance (parkAction (freshState n l tail number) m) m) disk
+  park-performed : (tail number allowance : ℕ) → Settled g (m .image) (m .tables) tail number disk
+      → Stays g (performed allowance (parkAction (freshState g tail number) m) m) disk
   unfolding parkAction applied
   park-performed tail number zero settled =
-      subst (λ (r : After). Stays n l r disk) (sym (performed-cut 0 (parkAction (freshState n l tail number) m) m (omega arith)))
-      (record { stands = cut refl (m .tables) tail number (settled .committed); sized = sized-with n l m (m .image) (m .tables) size })
+      subst (λ (r : After). Stays g r disk) (sym (performed-cut 0 (parkAction (freshState g tail number) m) m (omega arith)))
+      (record { stands = cut refl (m .tables) tail number (settled .committed); sized = sized-with g m (m .image) (m .tables) size })
   park-performed tail number (suc allowance) settled =
-      subst (λ (r : After). Stays n l r disk) (sym (performed-whole (suc allowance) (parkAction (freshState n l tail number) m) m (omega arith)))
+      subst (λ (r : After). Stays g r disk) (sym (performed-whole (suc allowance) (parkAction (freshState g tail number) m) m (omega arith)))
       (record {
-        stands = parked tail number refl (parked-settles n l fit (m .image) (m .tables) tail number disk settled);
-        sized = sized-with n l m (parkImage n l fit (m .image) (m .tables) tail number disk settled) (m .tables) size;
+        stands = parked tail number refl (parked-settles g fit (m .image) (m .tables) tail number disk settled);
+        sized = sized-with g m (parkImage g fit (m .image) (m .tables) tail number disk settled) (m .tables) size;
       })
 
-  park-passed : (allowance : ℕ) → judged (parkChecks s m) ≡ Pass → Standing n l (record { state = s; memory = m }) disk
-      → Stays n l (performed allowance (parkAction s m) m) disk
+  park-passed : (allowance : ℕ) → judged (parkChecks s m) ≡ Pass → Standing g (record { state = s; memory = m }) disk
+      → Stays g (performed allowance (parkAction s m) m) disk
   park-passed allowance e (running tail number q settled unparked) =
-      subst (λ (x : State). Stays n l (performed allowance (parkAction x m) m) disk) (sym q) (park-performed tail number allowance settled)
+      subst (λ (x : State). Stays g (performed allowance (parkAction x m) m) disk) (sym q) (park-performed tail number allowance settled)
   park-passed allowance e (parked tail number q settled) =
       absurd (true≢false (sym (park-running e) ∙ ap (λ (x : State). isRunning (x .phase)) q))
   park-passed allowance e (cut q t tail number committed) = absurd (true≢false (sym (park-running e) ∙ ap isRunning q))
 
-  pub park-stays : (allowance : ℕ) → Stays n l (parkOf s m allowance) disk
+  pub park-stays : (allowance : ℕ) → Stays g (parkOf s m allowance) disk
   unfolding parkOf
   park-stays allowance =
       ⊎-elim (λ (e : judged (parkChecks s m) ≡ Pass). rw e (park-passed allowance e stands))
-      (λ v. rw (v .1) (refused-stays n l s m (v .0) disk size stands)) (verdict? (judged (parkChecks s m)))
+      (λ v. rw (v .1) (refused-stays g s m (v .0) disk size stands)) (verdict? (judged (parkChecks s m)))
 
   -- Some tables are committed, however the volume stands.
-  pub committed-some : Standing n l (record { state = s; memory = m }) disk
-      → (t : Tables) × (tail : ℕ) × (number : ℕ) × Committed n l (m .image) t tail number disk
+  pub committed-some : Standing g (record { state = s; memory = m }) disk
+      → (t : Tables) × (tail : ℕ) × (number : ℕ) × Committed g (m .image) t tail number disk
   committed-some (running tail number q settled unparked) = (m .tables, tail, number, settled .committed)
   committed-some (parked tail number q settled) = (m .tables, tail, number, settled .committed)
   committed-some (cut q t tail number committed) = (t, tail, number, committed)
 
-  pub sectors-is : sectorsIn m ≡ n
-  sectors-is = ap (λ (x : ℕ). x / 512) (size .image) ∙ (let q : 512 * n / 512 ≡ n = omega arith in q)
+  pub sectors-is : sectorsIn m ≡ g .n
+  sectors-is = ap (λ (x : ℕ). x / 512) (size .image) ∙ (let q : 512 * g .n / 512 ≡ g .n = omega arith in q)
 
-  recovery-performed : (t : Tables) (tail number allowance : ℕ) → Finds n l (m .image) t tail number disk
-      → Stays n l (recovered n l allowance m (findingOf n l (imageView n l (m .image)) (m .image 0))) disk
+  recovery-performed : (t : Tables) (tail number allowance : ℕ) → Finds g (m .image) t tail number disk
+      → Stays g (recovered g allowance m (findingOf g (imageView g (m .image)) (m .image 0))) disk
   unfolding recovered
   recovery-performed t tail number allowance f =
       let log : Log = record { tables = t; tail = tail; number = number } in
-      let action = recoveryAction n l log (f .answer) (f .stores) in
+      let action = recoveryAction g log (f .answer) (f .stores) in
       rw (f .finding)
       (⊎-elim (λ (h : allowance < length (f .stores)).
-      subst (λ (r : After). Stays n l r disk) (sym (performed-cut allowance action m h))
+      subst (λ (r : After). Stays g r disk) (sym (performed-cut allowance action m h))
       (record {
         stands = cut refl t tail number (f .cut allowance);
-        sized = sized-with n l m (applied (take allowance (f .stores)) (m .image)) zeroTables size;
+        sized = sized-with g m (applied (take allowance (f .stores)) (m .image)) zeroTables size;
       }))
       (λ (h : length (f .stores) ≤ allowance).
-      subst (λ (r : After). Stays n l r disk) (sym (performed-whole allowance action m h))
-      (record { stands = running tail number refl (f .whole) (f .blanks); sized = sized-with n l m (applied (f .stores) (m .image)) t size }))
+      subst (λ (r : After). Stays g r disk) (sym (performed-whole allowance action m h))
+      (record { stands = running tail number refl (f .whole) (f .blanks); sized = sized-with g m (applied (f .stores) (m .image)) t size }))
       (lt? allowance (length (f .stores))))
 
-  pub recover-stays : (allowance : ℕ) → Stays n l (recoverOf s m l allowance) disk
+  pub recover-stays : (allowance : ℕ) → Stays g (recoverOf s m (settingsOf g) allowance) disk
   unfolding recoverOf
   recover-stays allowance =
       let c = committed-some stands in
-      ⊎-elim (λ (e : judged (sizeChecks m l) ≡ Pass).
+      ⊎-elim (λ (e : judged (sizeChecks m (settingsOf g)) ≡ Pass).
       rw (e, sectors-is)
-      (recovery-performed (c .0) (c .1) (c .2) allowance (recovers n l (m .image) (c .0) (c .1) (c .2) disk fit (c .3))))
-      (λ v. rw (v .1) (refused-stays n l s m (v .0) disk size stands)) (verdict? (judged (sizeChecks m l)))
+      (recovery-performed (c .0) (c .1) (c .2) allowance (recovers g (m .image) (c .0) (c .1) (c .2) disk fit (c .3))))
+      (λ v. rw (v .1) (refused-stays g s m (v .0) disk size stands)) (verdict? (judged (sizeChecks m (settingsOf g))))
 
   -- Reads.
 
@@ -329,8 +272,8 @@ module _ (n l : ℕ) (fit : Fits n l) (s : State) (m : Memory) (size : Sized n l
       (verdict? (judged (readChecks s m b (length out))))
 
   -- A block of a volume whose tables are in hand.
-  pub block-is : (t : Tables) (tail number : ℕ) → Settled n l (m .image) t tail number disk → m .tables ≡ t
-      → (b : ℕ) → b < l → blockOf m b ≡ disk b
+  pub block-is : (t : Tables) (tail number : ℕ) → Settled g (m .image) t tail number disk → m .tables ≡ t
+      → (b : ℕ) → b < g .l → blockOf m b ≡ disk b
   unfolding blockOf
   block-is t tail number settled q b h =
       let ground = settled .committed .ground in
@@ -339,19 +282,18 @@ module _ (n l : ℕ) (fit : Fits n l) (s : State) (m : Memory) (size : Sized n l
       ap (λ (x : ℕ). restored x (m .image (sectorOf x))) (eqb-true (t .entry b) 0 z) ∙ restored-empty (m .image (sectorOf 0)) ∙ sym (ground .empty b h z))
       (λ (z : isEmpty (t .entry b) ≡ false). ground .full b h z) (bool? (isEmpty (t .entry b))))
 
-  read-passed : (b : ℕ) (out : List ℕ) → judged (readChecks s m b (length out)) ≡ Pass → (isReadable (s .phase) ≡ true) × (b < s .l)
-  unfolding readChecks
-  read-passed b out e =
-      let e3 = passes-rest _ _ (passes-rest _ _ e) in (
-        not-false (isReadable (s .phase)) (passes-first _ _ (passes-rest _ _ e3)),
-        ltb-true b (s .l) (not-false (ltb b (s .l)) (passes-first _ _ e3)),
-      )
+  read-passed : (b : ℕ) (out : List ℕ) → judged (readChecks s m b (length out)) ≡ Pass → (isReadable (s .phase) ≡ true) × (b < s .geometry .l)
+  unfolding readChecks applies
+  read-passed b out e = (
+    not-false (isReadable (s .phase)) (cleared WrongPhase _ e),
+    ltb-true b (s .geometry .l) (not-false (ltb b (s .geometry .l)) (cleared BlockNumbers _ e)),
+  )
 
-  readable-block : (b : ℕ) → (isReadable (s .phase) ≡ true) × (b < s .l) → Standing n l (record { state = s; memory = m }) disk → blockOf m b ≡ disk b
+  readable-block : (b : ℕ) → (isReadable (s .phase) ≡ true) × (b < s .geometry .l) → Standing g (record { state = s; memory = m }) disk → blockOf m b ≡ disk b
   readable-block b r (running tail number q settled unparked) =
-      block-is (m .tables) tail number settled refl b (subst (λ (x : State). b < x .l) q (r .1))
+      block-is (m .tables) tail number settled refl b (subst (λ (x : State). b < x .geometry .l) q (r .1))
   readable-block b r (parked tail number q settled) =
-      block-is (m .tables) tail number settled refl b (subst (λ (x : State). b < x .l) q (r .1))
+      block-is (m .tables) tail number settled refl b (subst (λ (x : State). b < x .geometry .l) q (r .1))
   readable-block b r (cut q t tail number committed) = absurd (true≢false (sym (r .0) ∙ ap isReadable q))
 
   -- An accepted read gives its block as the plain disk has it.
@@ -365,24 +307,24 @@ module _ (n l : ℕ) (fit : Fits n l) (s : State) (m : Memory) (size : Sized n l
       (verdict? (judged (readChecks s m b (length out))))
 
 -- A read of a running volume with its lengths right is accepted.
-module _ (n l : ℕ) (fit : Fits n l) (m : Memory) (size : Sized n l m) (tail number : ℕ) (disk : Disk)
-    (settled : Settled n l (m .image) (m .tables) tail number disk) where
-  entry-readable : (b : ℕ) → b < l → entryReadable n (m .tables .entry b) ≡ true
+module _ (g : Geometry) (fit : Fits g) (m : Memory) (size : Sized g m) (tail number : ℕ) (disk : Disk)
+    (settled : Settled g (m .image) (m .tables) tail number disk) where
+  entry-readable : (b : ℕ) → b < g .l → entryReadable (g .n) (m .tables .entry b) ≡ true
   unfolding entryReadable
   entry-readable b h =
       let sound = settled .committed .ground .sound in
       ⊎-elim (λ (z : isEmpty (m .tables .entry b) ≡ true). or-l (isEmpty (m .tables .entry b)) _ z)
       (λ (z : isEmpty (m .tables .entry b) ≡ false).
-      or-r (isEmpty (m .tables .entry b)) (within 1 (n - 1) (sectorOf (m .tables .entry b)))
-      (within-is 1 (n - 1) (sectorOf (m .tables .entry b)) (sound .low (block b) (h, z)) (sound .high (block b) (h, z))))
+      or-r (isEmpty (m .tables .entry b)) (within 1 (g .n - 1) (sectorOf (m .tables .entry b)))
+      (within-is 1 (g .n - 1) (sectorOf (m .tables .entry b)) (sound .low (block b) (h, z)) (sound .high (block b) (h, z))))
       (bool? (isEmpty (m .tables .entry b)))
 
-  state-fits : stateFits (freshState n l tail number) m ≡ true
+  state-fits : stateFits (freshState g tail number) m ≡ true
   unfolding stateFits
   state-fits =
-      rw (eq-eqb (m .lengths .image) (512 * n) (size .image), within-is 1 24576 l (fit .some) (fit .most))
-      (within-is (2 * piecesFor l + 2) 65536 n (fit .least) (fit .sectors))
+      rw (eq-eqb (m .lengths .image) (512 * g .n) (size .image), within-is 1 24576 (g .l) (fit .some) (fit .most))
+      (within-is (2 * piecesFor (g .l) + 2) 65536 (g .n) (fit .least) (fit .sectors))
 
-  pub read-passes : (b : ℕ) (out : List ℕ) → b < l → length out ≡ 512 → judged (readChecks (freshState n l tail number) m b (length out)) ≡ Pass
-  unfolding readChecks judged
-  read-passes b out h len = rw (state-fits, size .tables, eq-eqb (length out) 512 len, lt-ltb b l h, entry-readable b h) refl
+  pub read-passes : (b : ℕ) (out : List ℕ) → b < g .l → length out ≡ 512 → judged (readChecks (freshState g tail number) m b (length out)) ≡ Pass
+  unfolding readChecks judged firstOf applies
+  read-passes b out h len = rw (state-fits, size .tables, eq-eqb (length out) 512 len, lt-ltb b (g .l) h, entry-readable b h) refl

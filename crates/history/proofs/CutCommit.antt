@@ -44,12 +44,12 @@ module _ (g : Start) where
   unfolding mapOf memberStore
   map-sector p = member-place g (rank (plan g) p)
 
-  pub map-bytes : (p : ℕ) → mapOf p .bytes ≡ encoded (s .l) (memberOf g p)
+  pub map-bytes : (p : ℕ) → mapOf p .bytes ≡ encoded (s .geometry .l) (memberOf g p)
   unfolding mapOf memberStore
   map-bytes p = refl
 
   pub stores-are : commitStores s t (plan g) change
-      ≡ storesBelow always dataOf (change .dataSectors) ++ storesBelow (plan g .written) mapOf (piecesFor (s .l))
+      ≡ storesBelow always dataOf (change .dataSectors) ++ storesBelow (plan g .written) mapOf (piecesFor (s .geometry .l))
   unfolding commitStores dataOf mapOf
   stores-are = refl
 
@@ -58,7 +58,7 @@ module _ (g : Start) where
   Kind Allowed r =
       ((i : ℕ) × (i < change .dataSectors) × (r ≡ dataOf i)) ⊎ ((p : ℕ) × (plan g .written p ≡ true) × Allowed p × (r ≡ mapOf p))
 
-  pub old-number : (k : ℕ) (a : MapSector) → imageView (s .n) (s .l) image k ≡ some a → a .number ≤ s .number
+  pub old-number : (k : ℕ) (a : MapSector) → imageView (s .geometry) image k ≡ some a → a .number ≤ s .number
   old-number = given .settled .none-above
 
   -- Any run of such stores.
@@ -75,10 +75,10 @@ module _ (g : Start) where
         ))
         (kinds r a)
 
-    pub kept : (x : Name) → Named (s .l) (t .entry) (t .place) x
-        → applied ss image (sectorNamed (s .l) (t .entry) (t .place) x) ≡ image (sectorNamed (s .l) (t .entry) (t .place) x)
+    pub kept : (x : Name) → Named (s .geometry .l) (t .entry) (t .place) x
+        → applied ss image (sectorNamed (s .geometry .l) (t .entry) (t .place) x) ≡ image (sectorNamed (s .geometry .l) (t .entry) (t .place) x)
     kept x h =
-        applied-skip ss image (sectorNamed (s .l) (t .entry) (t .place) x)
+        applied-skip ss image (sectorNamed (s .geometry .l) (t .entry) (t .place) x)
         (λ r a e. let w = goes r a in named-other g x h (w .0) (w .1) (sym (w .2) ∙ e))
 
     pub blank-kept : applied ss image 0 ≡ blank
@@ -92,27 +92,27 @@ module _ (g : Start) where
         ∙ given .unparked
 
     -- A signed sector is an old one that was not touched, or an allowed member.
-    pub signed-cases : (k : ℕ) (a : MapSector) → imageView (s .n) (s .l) (applied ss image) k ≡ some a
-        → (imageView (s .n) (s .l) image k ≡ some a)
+    pub signed-cases : (k : ℕ) (a : MapSector) → imageView (s .geometry) (applied ss image) k ≡ some a
+        → (imageView (s .geometry) image k ≡ some a)
         ⊎ ((p : ℕ) × (plan g .written p ≡ true) × Allowed p × (k ≡ at (plan g .places) (change .dataSectors + rank (plan g) p)) × (a ≡ memberOf g p))
     unfolding Outcome Kind
     signed-cases k a e =
-        let below = view-below (s .n) (s .l) (applied ss image) k a e in
-        let raw : decoded (s .n) (s .l) (applied ss image k) ≡ some a = sym (view-at (s .n) (s .l) (applied ss image) k below) ∙ e in
-        ⊎-elim (λ w. inl (view-same (s .n) (s .l) image (applied ss image) k (sym (w .0)) ∙ e))
+        let below = view-below (s .geometry) (applied ss image) k a e in
+        let raw : decoded (s .geometry) (applied ss image k) ≡ some a = sym (view-at (s .geometry) (applied ss image) k below) ∙ e in
+        ⊎-elim (λ w. inl (view-same (s .geometry) image (applied ss image) k (sym (w .0)) ∙ e))
         (λ w.
         ⊎-elim (λ v.
-        let q = ap (decoded (s .n) (s .l)) (w .3 ∙ ap (λ (x : Store). x .bytes) (v .2) ∙ data-bytes (v .0)) ∙ given .unsigned (v .0) (v .1) in
+        let q = ap (decoded (s .geometry)) (w .3 ∙ ap (λ (x : Store). x .bytes) (v .2) ∙ data-bytes (v .0)) ∙ given .unsigned (v .0) (v .1) in
         let z : _≡_ {A = ℕ} 0 1 = cc in
         absurd (omega arith))
         (λ v.
-        let q = ap (decoded (s .n) (s .l)) (w .3 ∙ ap (λ (x : Store). x .bytes) (v .3) ∙ map-bytes (v .0)) ∙ member-signed g (v .0) (v .1) in
+        let q = ap (decoded (s .geometry)) (w .3 ∙ ap (λ (x : Store). x .bytes) (v .3) ∙ map-bytes (v .0)) ∙ member-signed g (v .0) (v .1) in
         inr (v .0, v .1, v .2, sym (w .2) ∙ ap (λ (x : Store). x .sector) (v .3) ∙ map-sector (v .0), cc))
         (kinds (w .0) (w .1)))
         (applied-cases ss image k)
 
-    pub apart-after : (j k : ℕ) (a b : MapSector) → imageView (s .n) (s .l) (applied ss image) j ≡ some a
-        → imageView (s .n) (s .l) (applied ss image) k ≡ some b → a .number ≡ b .number → j ≡ k
+    pub apart-after : (j k : ℕ) (a b : MapSector) → imageView (s .geometry) (applied ss image) j ≡ some a
+        → imageView (s .geometry) (applied ss image) k ≡ some b → a .number ≡ b .number → j ≡ k
     apart-after j k a b e f z =
         ⊎-elim (λ x.
         ⊎-elim (λ y. given .settled .committed .apart j k a b x y z)
@@ -141,7 +141,7 @@ module _ (g : Start) where
   cut-kinds : (k : ℕ) → k < length (commitStores s t (plan g) change) → (r : Store) → Among r (take k (commitStores s t (plan g) change)) → Kind Unclosed r
   unfolding Kind Unclosed rank
   cut-kinds k h r a =
-      let last = below-last (plan g .written) mapOf (piecesFor (s .l)) (let m = members-some g in let i = members-is g in omega arith) in
+      let last = below-last (plan g .written) mapOf (piecesFor (s .geometry .l)) (let m = members-some g in let i = members-is g in omega arith) in
       let q = last .0 in
       let list = stores-are ∙ ap (λ (xs : List Store). storesBelow always dataOf (change .dataSectors) ++ xs) (last .3)
       ∙ sym (append-assoc (storesBelow always dataOf (change .dataSectors)) (storesBelow (plan g .written) mapOf q) (mapOf q ∷ [])) in
@@ -163,7 +163,7 @@ module _ (g : Start) where
       (among-append r (storesBelow always dataOf (change .dataSectors)) (storesBelow (plan g .written) mapOf q) b)
 
   pub cut-commit : (k : ℕ) → k < length (commitStores s t (plan g) change)
-      → Committed (s .n) (s .l) (applied (take k (commitStores s t (plan g) change)) image) t (s .tail) (s .number) disk
+      → Committed (s .geometry) (applied (take k (commitStores s t (plan g) change)) image) t (s .tail) (s .number) disk
   unfolding Unclosed
   cut-commit k h =
       let ss = take k (commitStores s t (plan g) change) in

@@ -16,16 +16,19 @@ use mathlib.Core.List.{List, [], _∷_}
 use native.Mathlib.Omega.{arith}
 use lib.ListN.{length}
 use borrow.Author.Tests.{eqb-true, eq-eqb}
+use Rattle.geometry.specs.declared.Geometry.{Geometry}
+use Rattle.geometry.specs.declared.Settings.{Settings}
 use Rattle.state.specs.declared.State.{State}
+use Rattle.answer.specs.declared.Refusal.the-variants.{Size, BufferLength}
 use Rattle.answer.specs.declared.Verdict.the-variants.{Pass}
-use Rattle.geometry.specs.Geometry.{piecesFor, geometryFits}
+use Rattle.geometry.specs.Geometry.{piecesFor, settingsOf, geometryFits}
 use Rattle.state.specs.State.{freshState}
-use Rattle.answer.specs.Answer.{numberOf}
+use Rattle.answer.specs.Answer.{storesAlone, numberOf}
 use Rattle.layout.specs.Bounded.{isZero}
 use Rattle.volume.specs.Tables.{Tables, Memory}
-use Rattle.volume.specs.Refusals.{judged}
+use Rattle.volume.specs.Refusals.{applies, firstOf, judged}
 use Rattle.volume.specs.Store.{After, applied, performed, refused, memoryWith, after}
-use Rattle.volume.specs.Format.{sectorsIn, imageFits, tablesFit, sizeChecks, formatStores, formatTables, formatAction, formatOf}
+use Rattle.volume.specs.Format.{sectorsIn, volumeIn, imageFits, tablesFit, sizeChecks, formatStores, formatTables, formatAction, formatOf}
 use Rattle.volume.specs.Placing.{Rules, base}
 use Rattle.volume.specs.Calls.{readOf, readJudged}
 use Rattle.volume.specs.Recover.{Log, recoveryAction, recovered, recoverOf}
@@ -37,141 +40,141 @@ use Rattle.laws.proofs.Sizes.{Fits, fits}
 use Rattle.history.proofs.Invariant.{Committed}
 use Rattle.history.proofs.Fresh.{format-settles, blank-0}
 use Rattle.history.proofs.Recovery.{Finds, recovers}
-use Rattle.laws.proofs.Judged.{verdict?, passes-first, passes-rest, not-false, performed-cut, performed-whole}
+use Rattle.laws.proofs.Judged.{verdict?, cleared, not-false, performed-cut, performed-whole}
 use Rattle.history.proofs.Steps.{refused-not, Standing, running, Sized, sized-with}
 use Rattle.history.proofs.Calls.{write-stands, drop-stands, park-stays, committed-some, recover-stays, read-world, block-is, read-gives, read-passes}
 
 -- Where the lengths are right, neither 1 nor 2 applies to a recovery.
-size-passes : (n l : ℕ) (m : Memory) → Fits n l → Sized n l m → judged (sizeChecks m l) ≡ Pass
-unfolding sizeChecks imageFits judged
-size-passes n l m fit size =
+size-passes : (g : Geometry) (m : Memory) → Fits g → Sized g m → judged (sizeChecks m (settingsOf g)) ≡ Pass
+unfolding sizeChecks imageFits judged firstOf applies
+size-passes g m fit size =
     let whole : isZero (m .lengths .image % 512) ≡ true =
-    eq-eqb (m .lengths .image % 512) 0 (ap (λ (x : ℕ). x % 512) (size .image) ∙ (let q : 512 * n % 512 ≡ 0 = omega arith in q)) in
-    let at : sectorsIn m ≡ n = ap (λ (x : ℕ). x / 512) (size .image) ∙ (let q : 512 * n / 512 ≡ n = omega arith in q) in
-    rw (whole, at, within-is 1 24576 l (fit .some) (fit .most), within-is (2 * piecesFor l + 2) 65536 n (fit .least) (fit .sectors), size .tables) refl
+    eq-eqb (m .lengths .image % 512) 0 (ap (λ (x : ℕ). x % 512) (size .image) ∙ (let q : 512 * g .n % 512 ≡ 0 = omega arith in q)) in
+    let at : sectorsIn m ≡ g .n = ap (λ (x : ℕ). x / 512) (size .image) ∙ (let q : 512 * g .n / 512 ≡ g .n = omega arith in q) in
+    rw (whole, at, within-is 1 24576 (g .l) (fit .some) (fit .most), within-is (2 * piecesFor (g .l) + 2) 65536 (g .n) (fit .least) (fit .sectors), size .tables) refl
 
 -- (c): what any list leaves recovers.
-module _ (n l : ℕ) (fit : Fits n l) (m : Memory) (size : Sized n l m)
-    (t0 : Tables) (tail number : ℕ) (disk : Disk) (c : Committed n l (m .image) t0 tail number disk) where
-  finds : Finds n l (m .image) t0 tail number disk
-  finds = recovers n l (m .image) t0 tail number disk fit c
+module _ (g : Geometry) (fit : Fits g) (m : Memory) (size : Sized g m)
+    (t0 : Tables) (tail number : ℕ) (disk : Disk) (c : Committed g (m .image) t0 tail number disk) where
+  finds : Finds g (m .image) t0 tail number disk
+  finds = recovers g (m .image) t0 tail number disk fit c
 
   abbrev left : After
   left =
-      after (record { answer = (finds .answer) (length (finds .stores)); state = freshState n l tail number })
+      after (record { answer = (finds .answer) (storesAlone (length (finds .stores))); state = freshState g tail number })
       (memoryWith m (applied (finds .stores) (m .image)) t0)
 
-  needed : length (recoveryStores n l (m .image)) ≡ length (finds .stores)
+  needed : length (recoveryStores g (m .image)) ≡ length (finds .stores)
   unfolding storesIn
   needed = ap (λ f. length (storesIn f)) (finds .finding)
 
-  recovery-is : (s : State) (t : Tables) (allowance : ℕ) → length (recoveryStores n l (m .image)) ≤ allowance
-      → recoverOf s (memoryWith m (m .image) t) l allowance ≡ left
+  recovery-is : (s : State) (t : Tables) (allowance : ℕ) → length (recoveryStores g (m .image)) ≤ allowance
+      → recoverOf s (memoryWith m (m .image) t) (settingsOf g) allowance ≡ left
   unfolding recoverOf recovered
   recovery-is s t allowance h =
       let log : Log = record { tables = t0; tail = tail; number = number } in
-      let at : sectorsIn (memoryWith m (m .image) t) ≡ n =
-      ap (λ (x : ℕ). x / 512) (size .image) ∙ (let q : 512 * n / 512 ≡ n = omega arith in q) in
+      let at : sectorsIn (memoryWith m (m .image) t) ≡ g .n =
+      ap (λ (x : ℕ). x / 512) (size .image) ∙ (let q : 512 * g .n / 512 ≡ g .n = omega arith in q) in
       let e = needed in
-      rw (size-passes n l (memoryWith m (m .image) t) fit (sized-with n l m (m .image) t size), at, finds .finding)
-      (performed-whole allowance (recoveryAction n l log (finds .answer) (finds .stores)) (memoryWith m (m .image) t) (omega arith))
+      rw (size-passes g (memoryWith m (m .image) t) fit (sized-with g m (m .image) t size), at, finds .finding)
+      (performed-whole allowance (recoveryAction g log (finds .answer) (finds .stores)) (memoryWith m (m .image) t) (omega arith))
 
-  read-is : (b : ℕ) (out : List ℕ) → b < l → length out ≡ 512
+  read-is : (b : ℕ) (out : List ℕ) → b < g .l → length out ≡ 512
       → (numberOf (readOf (left .outcome .state) (left .memory) b out .outcome .answer) ≡ 0) × (readOf (left .outcome .state) (left .memory) b out .out ≡ disk b)
   unfolding readOf readJudged
   read-is b out h len =
       let w = finds .whole in
-      let z = sized-with n l m (applied (finds .stores) (m .image)) t0 size in
-      let p = read-passes n l fit (left .memory) z tail number disk w b out h len in
+      let z = sized-with g m (applied (finds .stores) (m .image)) t0 size in
+      let p = read-passes g fit (left .memory) z tail number disk w b out h len in
       let stands = running tail number refl w (finds .blanks) in
-      rw p (refl, block-is n l fit (freshState n l tail number) (left .memory) z disk stands t0 tail number w refl b h)
+      rw p (refl, block-is g fit (freshState g tail number) (left .memory) z disk stands t0 tail number w refl b h)
 
-  recovers-all : Recovers n l m disk
+  recovers-all : Recovers g m disk
   recovers-all =
       record {
-        accepts = λ s t allowance h. rw (recovery-is s t allowance h, finds .accepts (length (finds .stores))) refl;
+        accepts = λ s t allowance h. rw (recovery-is s t allowance h, finds .accepts (storesAlone (length (finds .stores)))) refl;
         reads = λ s t allowance h b out i len. rw (recovery-is s t allowance h) (read-is b out i len);
       }
 
-module _ (rules : Rules) (law : Choosing rules) (n l : ℕ) (fit : Fits n l) where
+module _ (rules : Rules) (law : Choosing rules) (g : Geometry) (fit : Fits g) where
   -- Every list from a volume that stands.
-  faithful : (calls : List Call) (w : World) (disk : Disk) → Sized n l (w .memory) → Standing n l w disk → Faithful rules n l calls w disk
+  faithful : (calls : List Call) (w : World) (disk : Disk) → Sized g (w .memory) → Standing g w disk → Faithful rules g calls w disk
   unfolding Faithful Kept made diskAfter
   faithful [] w disk size stands =
-      let c = committed-some n l fit (w .state) (w .memory) size disk stands stands in
-      recovers-all n l fit (w .memory) size (c .0) (c .1) (c .2) disk (c .3)
+      let c = committed-some g fit (w .state) (w .memory) size disk stands stands in
+      recovers-all g fit (w .memory) size (c .0) (c .1) (c .2) disk (c .3)
   faithful (write head blocks bytes allowance ∷ calls) w disk size stands =
-      let step = write-stands rules law n l fit (w .state) (w .memory) size disk stands head blocks bytes allowance in
+      let step = write-stands rules law g fit (w .state) (w .memory) size disk stands head blocks bytes allowance in
       (step .kept, faithful calls _ _ (step .sized) (step .stands))
   faithful (drop head blocks allowance ∷ calls) w disk size stands =
-      let step = drop-stands rules law n l fit (w .state) (w .memory) size disk stands head blocks allowance in
+      let step = drop-stands rules law g fit (w .state) (w .memory) size disk stands head blocks allowance in
       (step .kept, faithful calls _ _ (step .sized) (step .stands))
   faithful (read block out ∷ calls) w disk size stands =
-      let same = read-world n l fit (w .state) (w .memory) size disk stands block out in (
-        read-gives n l fit (w .state) (w .memory) size disk stands block out,
-        subst (λ (v : World). Faithful rules n l calls v disk) (sym same) (faithful calls w disk size stands),
+      let same = read-world g fit (w .state) (w .memory) size disk stands block out in (
+        read-gives g fit (w .state) (w .memory) size disk stands block out,
+        subst (λ (v : World). Faithful rules g calls v disk) (sym same) (faithful calls w disk size stands),
       )
   faithful (park allowance ∷ calls) w disk size stands =
-      let step = park-stays n l fit (w .state) (w .memory) size disk stands allowance in
+      let step = park-stays g fit (w .state) (w .memory) size disk stands allowance in
       (tt, faithful calls _ _ (step .sized) (step .stands))
   faithful (recover allowance ∷ calls) w disk size stands =
-      let step = recover-stays n l fit (w .state) (w .memory) size disk stands allowance in
+      let step = recover-stays g fit (w .state) (w .memory) size disk stands allowance in
       (tt, faithful calls _ _ (step .sized) (step .stands))
 
 -- An accepted format.
-module _ (s : State) (m : Memory) (l allowance : ℕ) (ok : accepted (formatOf s m l allowance) ≡ true) where
-  format-passes : judged (sizeChecks m l) ≡ Pass
+module _ (s : State) (m : Memory) (settings : Settings) (allowance : ℕ) (ok : accepted (formatOf s m settings allowance) ≡ true) where
+  format-passes : judged (sizeChecks m settings) ≡ Pass
   unfolding formatOf
   format-passes =
       ⊎-elim (λ e. e)
       (λ v. clash (accepted (refused (v .0) s m)) (rw (v .1) at ok) (refused-not (v .0) s m))
-      (verdict? (judged (sizeChecks m l)))
+      (verdict? (judged (sizeChecks m settings)))
 
-  format-fits : geometryFits (sectorsIn m) l ≡ true
-  unfolding sizeChecks imageFits
+  format-fits : geometryFits (volumeIn m settings) ≡ true
+  unfolding sizeChecks imageFits applies
   format-fits =
-      and-r (isZero (m .lengths .image % 512)) (geometryFits (sectorsIn m) l)
-      (not-false (imageFits m l) (passes-first _ _ format-passes))
+      and-r (isZero (m .lengths .image % 512)) (geometryFits (volumeIn m settings))
+      (not-false (imageFits m settings) (cleared Size _ format-passes))
 
-  format-sized : Sized (sectorsIn m) l m
-  unfolding sizeChecks imageFits
+  format-sized : Sized (volumeIn m settings) m
+  unfolding sizeChecks imageFits applies
   format-sized =
       let whole = eqb-true (m .lengths .image % 512) 0
-      (and-l (isZero (m .lengths .image % 512)) (geometryFits (sectorsIn m) l) (not-false (imageFits m l) (passes-first _ _ format-passes))) in
+      (and-l (isZero (m .lengths .image % 512)) (geometryFits (volumeIn m settings)) (not-false (imageFits m settings) (cleared Size _ format-passes))) in
       record {
         image = omega arith;
-        tables = not-false (tablesFit m (sectorsIn m) l) (passes-first _ _ (passes-rest _ _ format-passes));
+        tables = not-false (tablesFit m (volumeIn m settings)) (cleared BufferLength _ format-passes);
       }
 
-  performs : formatOf s m l allowance ≡ performed allowance (formatAction (sectorsIn m) l) m
+  performs : formatOf s m settings allowance ≡ performed allowance (formatAction (volumeIn m settings)) m
   unfolding formatOf
   performs = rw format-passes refl
 
-  enough : length (formatStores (sectorsIn m) l) ≤ allowance
+  enough : length (formatStores (volumeIn m settings)) ≤ allowance
   unfolding formatAction
   enough =
-      ⊎-elim (λ (h : allowance < length (formatStores (sectorsIn m) l)).
-      absurd (true≢false (sym (rw (performs, performed-cut allowance (formatAction (sectorsIn m) l) m h) at ok))))
-      (λ h. h) (lt? allowance (length (formatStores (sectorsIn m) l)))
+      ⊎-elim (λ (h : allowance < length (formatStores (volumeIn m settings))).
+      absurd (true≢false (sym (rw (performs, performed-cut allowance (formatAction (volumeIn m settings)) m h) at ok))))
+      (λ h. h) (lt? allowance (length (formatStores (volumeIn m settings))))
 
-  format-world : Standing (sectorsIn m) l (worldOf (formatOf s m l allowance)) zeroDisk × Sized (sectorsIn m) l (formatOf s m l allowance .memory)
+  format-world : Standing (volumeIn m settings) (worldOf (formatOf s m settings allowance)) zeroDisk × Sized (volumeIn m settings) (formatOf s m settings allowance .memory)
   unfolding formatAction
   format-world =
-      let fit = fits (sectorsIn m) l format-fits in
-      rw (performs, performed-whole allowance (formatAction (sectorsIn m) l) m enough) (
-        running (piecesFor l) (piecesFor l) refl (format-settles (sectorsIn m) l fit (m .image)) (blank-0 (sectorsIn m) l fit (m .image)),
-        sized-with (sectorsIn m) l m (applied (formatStores (sectorsIn m) l) (m .image)) (formatTables l) format-sized,
+      let fit = fits (volumeIn m settings) format-fits in
+      rw (performs, performed-whole allowance (formatAction (volumeIn m settings)) m enough) (
+        running (piecesFor (settings .l)) (piecesFor (settings .l)) refl (format-settles (volumeIn m settings) fit (m .image)) (blank-0 (volumeIn m settings) fit (m .image)),
+        sized-with (volumeIn m settings) m (applied (formatStores (volumeIn m settings)) (m .image)) (formatTables (settings .l)) format-sized,
       )
 
 -- The theorem.
-pub histories : (rules : Rules) → Choosing rules → (s : State) (m : Memory) (l allowance : ℕ) → accepted (formatOf s m l allowance) ≡ true
-    → (calls : List Call) → Faithful rules (sectorsIn m) l calls (worldOf (formatOf s m l allowance)) zeroDisk
-histories rules law s m l allowance ok calls =
-    let fit = fits (sectorsIn m) l (format-fits s m l allowance ok) in
-    let w = format-world s m l allowance ok in
-    faithful rules law (sectorsIn m) l fit calls (worldOf (formatOf s m l allowance)) zeroDisk (w .1) (w .0)
+pub histories : (rules : Rules) → Choosing rules → (s : State) (m : Memory) (settings : Settings) (allowance : ℕ) → accepted (formatOf s m settings allowance) ≡ true
+    → (calls : List Call) → Faithful rules (volumeIn m settings) calls (worldOf (formatOf s m settings allowance)) zeroDisk
+histories rules law s m settings allowance ok calls =
+    let fit = fits (volumeIn m settings) (format-fits s m settings allowance ok) in
+    let w = format-world s m settings allowance ok in
+    faithful rules law (volumeIn m settings) fit calls (worldOf (formatOf s m settings allowance)) zeroDisk (w .1) (w .0)
 
 -- The base: the search of document 01, 24 branches, and 256 numbers left.
-pub base-histories : (s : State) (m : Memory) (l allowance : ℕ) → accepted (formatOf s m l allowance) ≡ true
-    → (calls : List Call) → Faithful base (sectorsIn m) l calls (worldOf (formatOf s m l allowance)) zeroDisk
+pub base-histories : (s : State) (m : Memory) (settings : Settings) (allowance : ℕ) → accepted (formatOf s m settings allowance) ≡ true
+    → (calls : List Call) → Faithful base (volumeIn m settings) calls (worldOf (formatOf s m settings allowance)) zeroDisk
 base-histories = histories base base-chooses

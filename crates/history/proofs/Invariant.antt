@@ -5,6 +5,7 @@ use mathlib.Core.Logic.{_⊎_}
 use mathlib.Core.Bool.{true, false}
 use mathlib.Core.List.{List}
 use mathlib.Core.Option.{none, some}
+use Rattle.geometry.specs.declared.Geometry.{Geometry}
 use Rattle.geometry.specs.Geometry.{piecesFor}
 use Rattle.layout.specs.Bounded.{best}
 use Rattle.layout.specs.MapSector.{MapSector, View}
@@ -18,38 +19,38 @@ use Rattle.laws.proofs.Names.{Name, piece, block, Named, sectorNamed, Sound}
 use Rattle.laws.proofs.Sizes.{Fits, view-same, some-pieces}
 
 -- What the image says of the sectors that the tables name, and of no others.
-pub record Ground (n l : ℕ) (image : ℕ → List ℕ) (t : Tables) (tail number : ℕ) (disk : Disk) : Type 0 where
-  pub sound : Sound n l t tail number
+pub record Ground (g : Geometry) (image : ℕ → List ℕ) (t : Tables) (tail number : ℕ) (disk : Disk) : Type 0 where
+  pub sound : Sound g t tail number
   pub high : number < 2 ^ 32
-  pub words : (b : ℕ) → b < l → t .entry b < 2 ^ 32
-  pub live : (p : ℕ) → p < piecesFor l
-      → (m : MapSector) × (imageView n l image (t .place p) ≡ some m) × (m .piece ≡ p) × (m .number ≡ t .number p)
-      × (m .entries ≡ pieceEntries l (t .entry) p)
-  pub closes : (m : MapSector) → imageView n l image tail ≡ some m → m .closing ≡ true
-  pub chain : (p : ℕ) → p < piecesFor l → Reaches (imageView n l image) (t .place) (piecesFor l) tail p
-  pub empty : (b : ℕ) → b < l → isEmpty (t .entry b) ≡ true → disk b ≡ blank
-  pub full : (b : ℕ) → b < l → isEmpty (t .entry b) ≡ false → restored (t .entry b) (image (sectorOf (t .entry b))) ≡ disk b
-  pub unsigned : (b : ℕ) → b < l → isEmpty (t .entry b) ≡ false → imageView n l image (sectorOf (t .entry b)) ≡ none
+  pub words : (b : ℕ) → b < g .l → t .entry b < 2 ^ 32
+  pub live : (p : ℕ) → p < piecesFor (g .l)
+      → (m : MapSector) × (imageView g image (t .place p) ≡ some m) × (m .piece ≡ p) × (m .number ≡ t .number p)
+      × (m .entries ≡ pieceEntries (g .l) (t .entry) p)
+  pub closes : (m : MapSector) → imageView g image tail ≡ some m → m .closing ≡ true
+  pub chain : (p : ℕ) → p < piecesFor (g .l) → Reaches (imageView g image) (t .place) (piecesFor (g .l)) tail p
+  pub empty : (b : ℕ) → b < g .l → isEmpty (t .entry b) ≡ true → disk b ≡ blank
+  pub full : (b : ℕ) → b < g .l → isEmpty (t .entry b) ≡ false → restored (t .entry b) (image (sectorOf (t .entry b))) ≡ disk b
+  pub unsigned : (b : ℕ) → b < g .l → isEmpty (t .entry b) ≡ false → imageView g image (sectorOf (t .entry b)) ≡ none
   -- Past their ends the tables are zero, and the used map is exact.
-  pub places-past : (p : ℕ) → piecesFor l ≤ p → t .place p ≡ 0
-  pub numbers-past : (p : ℕ) → piecesFor l ≤ p → t .number p ≡ 0
-  pub entries-past : (b : ℕ) → l ≤ b → t .entry b ≡ 0
-  pub used-all : (k : ℕ) → t .isUsed k ≡ usedBy (namedBy l (t .entry) (t .place)) k
+  pub places-past : (p : ℕ) → piecesFor (g .l) ≤ p → t .place p ≡ 0
+  pub numbers-past : (p : ℕ) → piecesFor (g .l) ≤ p → t .number p ≡ 0
+  pub entries-past : (b : ℕ) → g .l ≤ b → t .entry b ≡ 0
+  pub used-all : (k : ℕ) → t .isUsed k ≡ usedBy (namedBy (g .l) (t .entry) (t .place)) k
 
 -- And of every sector that is signed anywhere, stale ones too.
-pub record Committed (n l : ℕ) (image : ℕ → List ℕ) (t : Tables) (tail number : ℕ) (disk : Disk) : Type 0 where
-  pub ground : Ground n l image t tail number disk
-  pub apart : (j k : ℕ) (a b : MapSector) → imageView n l image j ≡ some a → imageView n l image k ≡ some b → a .number ≡ b .number → j ≡ k
-  pub latest : (k : ℕ) (a : MapSector) → imageView n l image k ≡ some a → a .number ≤ number → a .number ≤ t .number (a .piece)
-  pub unclosed : (k : ℕ) (a : MapSector) → imageView n l image k ≡ some a → number < a .number → a .closing ≡ false
+pub record Committed (g : Geometry) (image : ℕ → List ℕ) (t : Tables) (tail number : ℕ) (disk : Disk) : Type 0 where
+  pub ground : Ground g image t tail number disk
+  pub apart : (j k : ℕ) (a b : MapSector) → imageView g image j ≡ some a → imageView g image k ≡ some b → a .number ≡ b .number → j ≡ k
+  pub latest : (k : ℕ) (a : MapSector) → imageView g image k ≡ some a → a .number ≤ number → a .number ≤ t .number (a .piece)
+  pub unclosed : (k : ℕ) (a : MapSector) → imageView g image k ≡ some a → number < a .number → a .closing ≡ false
   pub park : (image 0 ≡ blank)
       ⊎ ((image 0 ≡ parkRecord (record { number = number; tail = tail }))
-      × ((k : ℕ) (a : MapSector) → imageView n l image k ≡ some a → a .number ≤ number))
+      × ((k : ℕ) (a : MapSector) → imageView g image k ≡ some a → a .number ≤ number))
 
 -- No commit was cut since.
-pub record Settled (n l : ℕ) (image : ℕ → List ℕ) (t : Tables) (tail number : ℕ) (disk : Disk) : Type 0 where
-  pub committed : Committed n l image t tail number disk
-  pub none-above : (k : ℕ) (a : MapSector) → imageView n l image k ≡ some a → a .number ≤ number
+pub record Settled (g : Geometry) (image : ℕ → List ℕ) (t : Tables) (tail number : ℕ) (disk : Disk) : Type 0 where
+  pub committed : Committed g image t tail number disk
+  pub none-above : (k : ℕ) (a : MapSector) → imageView g image k ≡ some a → a .number ≤ number
 
 pub reaches-below : {view : View} {live : ℕ → ℕ} {pieces tail p : ℕ} → Reaches view live pieces tail p → p < pieces
 reaches-below (itself h e) = h
@@ -62,29 +63,29 @@ reaches-moves other f (through {q = q} {p = p} r e h g v lt) =
     through (reaches-moves other f r) (f q (reaches-below r) ∙ e) h g (f p h ∙ v) lt
 
 -- The ground moves along wherever the named sectors keep their bytes.
-pub ground-moves : {n l : ℕ} {image : ℕ → List ℕ} {t : Tables} {tail number : ℕ} {disk : Disk} (other : ℕ → List ℕ) → Fits n l
-    → ((x : Name) → Named l (t .entry) (t .place) x → other (sectorNamed l (t .entry) (t .place) x) ≡ image (sectorNamed l (t .entry) (t .place) x))
-    → Ground n l image t tail number disk → Ground n l other t tail number disk
-ground-moves {n} {l} {image} {t} {tail} {number} {disk} other fit f g =
-    let moved : (p : ℕ) → p < piecesFor l → imageView n l other (t .place p) ≡ imageView n l image (t .place p) =
-    λ p h. view-same n l other image (t .place p) (f (piece p) h) in
-    let newest = best-below (t .number) (piecesFor l) (some-pieces l (fit .some)) in
+pub ground-moves : {g : Geometry} {image : ℕ → List ℕ} {t : Tables} {tail number : ℕ} {disk : Disk} (other : ℕ → List ℕ) → Fits g
+    → ((x : Name) → Named (g .l) (t .entry) (t .place) x → other (sectorNamed (g .l) (t .entry) (t .place) x) ≡ image (sectorNamed (g .l) (t .entry) (t .place) x))
+    → Ground g image t tail number disk → Ground g other t tail number disk
+ground-moves {g} {image} {t} {tail} {number} {disk} other fit f u =
+    let moved : (p : ℕ) → p < piecesFor (g .l) → imageView g other (t .place p) ≡ imageView g image (t .place p) =
+    λ p h. view-same g other image (t .place p) (f (piece p) h) in
+    let newest = best-below (t .number) (piecesFor (g .l)) (some-pieces (g .l) (fit .some)) in
     record {
-      sound = g .sound;
-      high = g .high;
-      words = g .words;
-      live = λ p h. let w = g .live p h in (w .0, moved p h ∙ w .1, w .2, w .3, w .4);
+      sound = u .sound;
+      high = u .high;
+      words = u .words;
+      live = λ p h. let w = u .live p h in (w .0, moved p h ∙ w .1, w .2, w .3, w .4);
       closes = λ m e.
-          g .closes m
-          (subst (λ (k : ℕ). imageView n l image k ≡ some m) (sym (g .sound .tail-is))
-          (sym (moved (best (t .number) (piecesFor l)) newest)
-          ∙ subst (λ (k : ℕ). imageView n l other k ≡ some m) (g .sound .tail-is) e));
-      chain = λ p h. reaches-moves (imageView n l other) moved (g .chain p h);
-      empty = g .empty;
-      full = λ b h e. ap (restored (t .entry b)) (f (block b) (h, e)) ∙ g .full b h e;
-      unsigned = λ b h e. view-same n l other image (sectorOf (t .entry b)) (f (block b) (h, e)) ∙ g .unsigned b h e;
-      places-past = g .places-past;
-      numbers-past = g .numbers-past;
-      entries-past = g .entries-past;
-      used-all = g .used-all;
+          u .closes m
+          (subst (λ (k : ℕ). imageView g image k ≡ some m) (sym (u .sound .tail-is))
+          (sym (moved (best (t .number) (piecesFor (g .l))) newest)
+          ∙ subst (λ (k : ℕ). imageView g other k ≡ some m) (u .sound .tail-is) e));
+      chain = λ p h. reaches-moves (imageView g other) moved (u .chain p h);
+      empty = u .empty;
+      full = λ b h e. ap (restored (t .entry b)) (f (block b) (h, e)) ∙ u .full b h e;
+      unsigned = λ b h e. view-same g other image (sectorOf (t .entry b)) (f (block b) (h, e)) ∙ u .unsigned b h e;
+      places-past = u .places-past;
+      numbers-past = u .numbers-past;
+      entries-past = u .entries-past;
+      used-all = u .used-all;
     }

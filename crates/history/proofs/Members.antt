@@ -100,7 +100,7 @@ module _ (g : Start) where
   pub entry-dropped : (i : ℕ) → change .dataSectors ≤ i → i < length (change .blocks) → tables′ .entry (at (change .blocks) i) ≡ 0
   entry-dropped i h b = entry-named i b ∙ given .gone i (at (plan g .places) i) h b
 
-  pub entry-word′ : (b : ℕ) → b < s .l → tables′ .entry b < 2 ^ 32
+  pub entry-word′ : (b : ℕ) → b < s .geometry .l → tables′ .entry b < 2 ^ 32
   entry-word′ b h =
       ⊎-elim (λ w.
       let i = w .0 in
@@ -127,25 +127,25 @@ module _ (g : Start) where
   unfolding tables′ committedTables
   number-unwritten p e = cond-false (plan g .written p) (suc (s .number + rank (plan g) p)) (t .number p) e
 
-  pub used-exact : (k : ℕ) → tables′ .isUsed k ≡ usedBy (namedBy (s .l) (tables′ .entry) (tables′ .place)) k
+  pub used-exact : (k : ℕ) → tables′ .isUsed k ≡ usedBy (namedBy (s .geometry .l) (tables′ .entry) (tables′ .place)) k
   unfolding tables′ committedTables
   used-exact k = refl
 
   -- An unwritten piece keeps its entries.
-  pub entries-kept : (p : ℕ) → plan g .written p ≡ false → pieceEntries (s .l) (tables′ .entry) p ≡ pieceEntries (s .l) (t .entry) p
+  pub entries-kept : (p : ℕ) → plan g .written p ≡ false → pieceEntries (s .geometry .l) (tables′ .entry) p ≡ pieceEntries (s .geometry .l) (t .entry) p
   unfolding pieceEntries
   entries-kept p e =
-      listFrom-same (λ b. cond (leb (s .l) b) 0 (tables′ .entry b)) (λ b. cond (leb (s .l) b) 0 (t .entry b)) (96 * p) 96
+      listFrom-same (λ b. cond (leb (s .geometry .l) b) 0 (tables′ .entry b)) (λ b. cond (leb (s .geometry .l) b) 0 (t .entry b)) (96 * p) 96
       (λ b low high.
-      ap (cond (leb (s .l) b) 0)
+      ap (cond (leb (s .geometry .l) b) 0)
       (entry-other b (λ i h z. unwritten g p e i h (ap (λ (x : ℕ). x / 96) z ∙ (let q : b / 96 ≡ p = omega arith in q)))))
 
   -- What the first member lists.
-  pub listed-places : (k : ℕ) → elem k (listed g) ≡ true → (p : ℕ) × (p < piecesFor (s .l)) × (t .place p ≡ k)
+  pub listed-places : (k : ℕ) → elem k (listed g) ≡ true → (p : ℕ) × (p < piecesFor (s .geometry .l)) × (t .place p ≡ k)
   unfolding listed branchesFor
   listed-places k e =
-      let remaining = tabled false (piecesFor (s .l)) (λ q. not (touches (change .blocks) q)) in
-      let w = listing-places (piecesFor (s .l)) t (viewOf (s .n) (s .l) image) remaining (some-pieces (s .l) (given .fit .some)) (piecesFor (s .l)) (suc (s .number)) (λ _. false) k e in
+      let remaining = tabled false (piecesFor (s .geometry .l)) (λ q. not (touches (change .blocks) q)) in
+      let w = listing-places (piecesFor (s .geometry .l)) t (viewOf (s .geometry) image) remaining (some-pieces (s .geometry .l) (given .fit .some)) (piecesFor (s .geometry .l)) (suc (s .number)) (λ _. false) k e in
       (w .0, w .1, w .3)
 
   pub fold-is : plan g .fold ≡ ltb (rules .branchLimit) (length (listed g))
@@ -165,17 +165,17 @@ module _ (g : Start) where
       rw (branches-is, z) (omega arith))
       (bool? (plan g .fold))
 
-  first-fit : all (within 1 (s .n - 1)) (plan g .branches) ≡ true
+  first-fit : all (within 1 (s .geometry .n - 1)) (plan g .branches) ≡ true
   unfolding all
   first-fit =
       ⊎-elim (λ (z : plan g .fold ≡ true). rw (branches-is, z) refl)
       (λ (z : plan g .fold ≡ false).
       rw (branches-is, z)
-      (all-elems (within 1 (s .n - 1)) (listed g)
+      (all-elems (within 1 (s .geometry .n - 1)) (listed g)
       (λ k e.
       let w = listed-places k e in
       rw (← (w .2))
-      (within-is 1 (s .n - 1) (t .place (w .0)) (given .settled .committed .ground .sound .low (piece (w .0)) (w .1))
+      (within-is 1 (s .geometry .n - 1) (t .place (w .0)) (given .settled .committed .ground .sound .low (piece (w .0)) (w .1))
       (given .settled .committed .ground .sound .high (piece (w .0)) (w .1))))))
       (bool? (plan g .fold))
 
@@ -194,7 +194,7 @@ module _ (g : Start) where
   unfolding member
   member-closing p = refl
 
-  pub member-entries : (p : ℕ) → memberOf p .entries ≡ pieceEntries (s .l) (tables′ .entry) p
+  pub member-entries : (p : ℕ) → memberOf p .entries ≡ pieceEntries (s .geometry .l) (tables′ .entry) p
   unfolding member tables′
   member-entries p = refl
 
@@ -215,19 +215,19 @@ module _ (g : Start) where
       by zero e = rw (member-first p e) first-few
       by (suc j) e = rw (member-later p j e) (omega arith)
 
-  branches-in : (p : ℕ) → plan g .written p ≡ true → all (within 1 (s .n - 1)) (memberOf p .branches) ≡ true
+  branches-in : (p : ℕ) → plan g .written p ≡ true → all (within 1 (s .geometry .n - 1)) (memberOf p .branches) ≡ true
   unfolding all
   branches-in p w = by (rank (plan g) p) refl
     where
-      by : (j : ℕ) → rank (plan g) p ≡ j → all (within 1 (s .n - 1)) (memberOf p .branches) ≡ true
+      by : (j : ℕ) → rank (plan g) p ≡ j → all (within 1 (s .geometry .n - 1)) (memberOf p .branches) ≡ true
       by zero e = rw (member-first p e) first-fit
       by (suc j) e =
           let r = rank-below g p w in
           let low = at-low g (change .dataSectors + j) (omega arith) in
           let high = at-below g (change .dataSectors + j) (omega arith) in
-          rw (member-later p j e, within-is 1 (s .n - 1) (at (plan g .places) (change .dataSectors + j)) low (omega arith)) refl
+          rw (member-later p j e, within-is 1 (s .geometry .n - 1) (at (plan g .places) (change .dataSectors + j)) low (omega arith)) refl
 
-  pub member-fits : (p : ℕ) → plan g .written p ≡ true → WellFormed (s .n) (s .l) (memberOf p)
+  pub member-fits : (p : ℕ) → plan g .written p ≡ true → WellFormed (s .geometry) (memberOf p)
   member-fits p e =
       let r = rank-below g p e in
       let f = members-few g in
@@ -242,11 +242,11 @@ module _ (g : Start) where
         piece = rw (member-piece p) (written-below g p e);
         few = branches-few p;
         branches = branches-in p e;
-        count = rw (member-entries p) (entries-count (s .l) (tables′ .entry) p);
-        entries = rw (member-entries p) (entries-words (s .l) (tables′ .entry) p entry-word′);
-        past = rw (member-entries p, member-piece p) (entries-past-l (s .l) (tables′ .entry) p);
+        count = rw (member-entries p) (entries-count (s .geometry .l) (tables′ .entry) p);
+        entries = rw (member-entries p) (entries-words (s .geometry .l) (tables′ .entry) p entry-word′);
+        past = rw (member-entries p, member-piece p) (entries-past-l (s .geometry .l) (tables′ .entry) p);
       }
 
   -- A member that was stored is signed, and says what it was made of.
-  pub member-signed : (p : ℕ) → plan g .written p ≡ true → decoded (s .n) (s .l) (encoded (s .l) (memberOf p)) ≡ some (memberOf p)
-  member-signed p e = decoded-encoded (s .n) (s .l) (memberOf p) (member-fits p e)
+  pub member-signed : (p : ℕ) → plan g .written p ≡ true → decoded (s .geometry) (encoded (s .geometry .l) (memberOf p)) ≡ some (memberOf p)
+  member-signed p e = decoded-encoded (s .geometry) (memberOf p) (member-fits p e)

@@ -28,22 +28,22 @@ use Rattle.history.proofs.Invariant.{Settled}
 -- What a commit starts from: a running volume, a change that names blocks once, stores `dataSectors` blocks and empties the
 -- others, room, and numbers enough. `after` is what the plain disk then has in the named blocks.
 pub record Given (rules : Rules) (s : State) (t : Tables) (image : ℕ → List ℕ) (disk : Disk) (head : ℕ) (change : Change) (after : ℕ → List ℕ) : Type 0 where
-  pub fit : Fits (s .n) (s .l)
-  pub settled : Settled (s .n) (s .l) image t (s .tail) (s .number) disk
+  pub fit : Fits (s .geometry)
+  pub settled : Settled (s .geometry) image t (s .tail) (s .number) disk
   pub unparked : image 0 ≡ blank
-  pub inside : head < s .n
+  pub inside : head < s .geometry .n
   pub some : 1 ≤ length (change .blocks)
-  pub blocks : (i : ℕ) → i < length (change .blocks) → at (change .blocks) i < s .l
+  pub blocks : (i : ℕ) → i < length (change .blocks) → at (change .blocks) i < s .geometry .l
   pub apart : (i j : ℕ) → i < j → j < length (change .blocks) → at (change .blocks) i ≡ at (change .blocks) j → ⊥
   pub few : change .dataSectors ≤ length (change .blocks)
-  pub unsigned : (i : ℕ) → i < change .dataSectors → decoded (s .n) (s .l) (change .content i) ≡ none
+  pub unsigned : (i : ℕ) → i < change .dataSectors → decoded (s .geometry) (change .content i) ≡ none
   pub full : (i k : ℕ) → i < change .dataSectors → 1 ≤ k → k < 2 ^ 31 → isEmpty ((change .entry) i k) ≡ false
   pub sector : (i k : ℕ) → i < change .dataSectors → 1 ≤ k → k < 2 ^ 31 → sectorOf ((change .entry) i k) ≡ k
   pub word : (i k : ℕ) → i < change .dataSectors → 1 ≤ k → k < 2 ^ 31 → (change .entry) i k < 2 ^ 32
   pub back : (i k : ℕ) → i < change .dataSectors → 1 ≤ k → k < 2 ^ 31 → restored ((change .entry) i k) (change .content i) ≡ after i
   pub gone : (i k : ℕ) → change .dataSectors ≤ i → i < length (change .blocks) → (change .entry) i k ≡ 0
   pub emptied : (i : ℕ) → change .dataSectors ≤ i → i < length (change .blocks) → after i ≡ blank
-  pub room : change .dataSectors + piecesFor (s .l) ≤ freeSectors (s .n) (t .isUsed)
+  pub room : change .dataSectors + piecesFor (s .geometry .l) ≤ freeSectors (s .geometry .n) (t .isUsed)
   pub numbers : s .number ≤ rules .greatest
 
 -- One such commit.
@@ -63,27 +63,27 @@ module _ (g : Start) where
   open Start g using (rules, law, s, t, image, disk, head, change, after, given)
 
   unfoldable pub plan : Plan
-  plan = planned rules s t (viewOf (s .n) (s .l) image) head change
+  plan = planned rules s t (viewOf (s .geometry) image) head change
 
   unfoldable pub listed : List ℕ
-  listed = branchesFor (s .l) t (viewOf (s .n) (s .l) image) (s .number) (change .blocks)
+  listed = branchesFor (s .geometry .l) t (viewOf (s .geometry) image) (s .number) (change .blocks)
 
-  pub members-is : plan .members ≡ countBelow (plan .written) (piecesFor (s .l))
+  pub members-is : plan .members ≡ countBelow (plan .written) (piecesFor (s .geometry .l))
   unfolding plan planned
   members-is = refl
 
-  pub written-past : (q : ℕ) → piecesFor (s .l) ≤ q → plan .written q ≡ false
+  pub written-past : (q : ℕ) → piecesFor (s .geometry .l) ≤ q → plan .written q ≡ false
   unfolding plan planned
-  written-past q h = tabled-past false (piecesFor (s .l)) (λ q. plan .fold || touches (change .blocks) q) q h
+  written-past q h = tabled-past false (piecesFor (s .geometry .l)) (λ q. plan .fold || touches (change .blocks) q) q h
 
-  pub written-is : (q : ℕ) → q < piecesFor (s .l) → plan .written q ≡ (plan .fold || touches (change .blocks) q)
+  pub written-is : (q : ℕ) → q < piecesFor (s .geometry .l) → plan .written q ≡ (plan .fold || touches (change .blocks) q)
   unfolding plan planned
-  written-is q h = tabled-at false (piecesFor (s .l)) (λ q. plan .fold || touches (change .blocks) q) q h
+  written-is q h = tabled-at false (piecesFor (s .geometry .l)) (λ q. plan .fold || touches (change .blocks) q) q h
 
-  pub written-below : (q : ℕ) → plan .written q ≡ true → q < piecesFor (s .l)
+  pub written-below : (q : ℕ) → plan .written q ≡ true → q < piecesFor (s .geometry .l)
   written-below q e =
-      ⊎-elim (λ (z : q < piecesFor (s .l)). z) (λ (z : piecesFor (s .l) ≤ q). clash (plan .written q) e (written-past q z))
-      (lt? q (piecesFor (s .l)))
+      ⊎-elim (λ (z : q < piecesFor (s .geometry .l)). z) (λ (z : piecesFor (s .geometry .l) ≤ q). clash (plan .written q) e (written-past q z))
+      (lt? q (piecesFor (s .geometry .l)))
 
   -- The piece of a named block is written.
   pub touched-written : (i : ℕ) → i < length (change .blocks) → plan .written (pieceOf (at (change .blocks) i)) ≡ true
@@ -102,17 +102,17 @@ module _ (g : Start) where
   pub members-some : 0 < plan .members
   members-some =
       let b = given .blocks 0 (given .some) in
-      let x = count-before (plan .written) (pieceOf (at (change .blocks) 0)) (piecesFor (s .l)) (omega arith) (touched-written 0 (given .some)) in
+      let x = count-before (plan .written) (pieceOf (at (change .blocks) 0)) (piecesFor (s .geometry .l)) (omega arith) (touched-written 0 (given .some)) in
       let m = members-is in
       omega arith
 
-  pub members-few : plan .members ≤ piecesFor (s .l)
-  members-few = let m = members-is in let c = count-le (plan .written) (piecesFor (s .l)) in omega arith
+  pub members-few : plan .members ≤ piecesFor (s .geometry .l)
+  members-few = let m = members-is in let c = count-le (plan .written) (piecesFor (s .geometry .l)) in omega arith
 
   pub rank-below : (q : ℕ) → plan .written q ≡ true → rank plan q < plan .members
   unfolding rank
   rank-below q e =
-      let x = count-before (plan .written) q (piecesFor (s .l)) (written-below q e) e in
+      let x = count-before (plan .written) q (piecesFor (s .geometry .l)) (written-below q e) e in
       let m = members-is in
       omega arith
 
@@ -125,46 +125,46 @@ module _ (g : Start) where
       (lt? p q)
 
   -- Places.
-  enough : change .dataSectors + plan .members ≤ freeSectors (s .n) (t .isUsed)
+  enough : change .dataSectors + plan .members ≤ freeSectors (s .geometry .n) (t .isUsed)
   enough = let r = given .room in let m = members-few in omega arith
 
   used0 : t .isUsed 0 ≡ true
   unfolding usedBy
   used0 = given .settled .committed .ground .used-all 0 ∙ refl
 
-  two : 1 < s .n
+  two : 1 < s .geometry .n
   two = let f = given .fit .least in omega arith
 
-  pub place-is : (j : ℕ) → j < change .dataSectors + plan .members → at (plan .places) j ≡ placeOf rules (s .n) (t .isUsed) head j
+  pub place-is : (j : ℕ) → j < change .dataSectors + plan .members → at (plan .places) j ≡ placeOf rules (s .geometry .n) (t .isUsed) head j
   unfolding plan planned
   place-is j h =
-      listFrom-at (placeOf rules (s .n) (t .isUsed) head) 0 (change .dataSectors + plan .members) j 0 h
-      ∙ ap (placeOf rules (s .n) (t .isUsed) head) (omega arith)
+      listFrom-at (placeOf rules (s .geometry .n) (t .isUsed) head) 0 (change .dataSectors + plan .members) j 0 h
+      ∙ ap (placeOf rules (s .geometry .n) (t .isUsed) head) (omega arith)
 
-  pub at-below : (j : ℕ) → j < change .dataSectors + plan .members → at (plan .places) j < s .n
+  pub at-below : (j : ℕ) → j < change .dataSectors + plan .members → at (plan .places) j < s .geometry .n
   at-below j h =
       rw (place-is j h)
-      (place-below rules law (s .n) two (t .isUsed) used0 head (given .inside) (change .dataSectors + plan .members) enough j h)
+      (place-below rules law (s .geometry .n) two (t .isUsed) used0 head (given .inside) (change .dataSectors + plan .members) enough j h)
 
   pub at-free : (j : ℕ) → j < change .dataSectors + plan .members → t .isUsed (at (plan .places) j) ≡ false
   at-free j h =
       rw (place-is j h)
-      (place-free rules law (s .n) two (t .isUsed) used0 head (given .inside) (change .dataSectors + plan .members) enough j h)
+      (place-free rules law (s .geometry .n) two (t .isUsed) used0 head (given .inside) (change .dataSectors + plan .members) enough j h)
 
   pub at-low : (j : ℕ) → j < change .dataSectors + plan .members → 1 ≤ at (plan .places) j
   at-low j h =
       rw (place-is j h)
-      (place-low rules law (s .n) two (t .isUsed) used0 head (given .inside) (change .dataSectors + plan .members) enough j h)
+      (place-low rules law (s .geometry .n) two (t .isUsed) used0 head (given .inside) (change .dataSectors + plan .members) enough j h)
 
   pub at-once : (i j : ℕ) → i < change .dataSectors + plan .members → j < change .dataSectors + plan .members
       → at (plan .places) i ≡ at (plan .places) j → i ≡ j
   at-once i j g h e =
       let q = sym (place-is i g) ∙ e ∙ place-is j h in
       ⊎-elim (λ (y : i < j).
-      absurd (place-apart rules law (s .n) two (t .isUsed) used0 head (given .inside) (change .dataSectors + plan .members) enough i j y h q))
+      absurd (place-apart rules law (s .geometry .n) two (t .isUsed) used0 head (given .inside) (change .dataSectors + plan .members) enough i j y h q))
       (λ (y : j ≤ i).
       ⊎-elim (λ (w : j < i).
-      absurd (place-apart rules law (s .n) two (t .isUsed) used0 head (given .inside) (change .dataSectors + plan .members) enough j i w g (sym q)))
+      absurd (place-apart rules law (s .geometry .n) two (t .isUsed) used0 head (given .inside) (change .dataSectors + plan .members) enough j i w g (sym q)))
       (λ (w : i ≤ j). omega arith) (lt? j i))
       (lt? i j)
 
@@ -172,16 +172,16 @@ module _ (g : Start) where
   at-word j h = let b = at-below j h in let f = given .fit .sectors in omega arith
 
   -- A named sector is none of them.
-  pub named-used : (x : Name) → Named (s .l) (t .entry) (t .place) x → t .isUsed (sectorNamed (s .l) (t .entry) (t .place) x) ≡ true
+  pub named-used : (x : Name) → Named (s .geometry .l) (t .entry) (t .place) x → t .isUsed (sectorNamed (s .geometry .l) (t .entry) (t .place) x) ≡ true
   unfolding usedBy
   named-used x h =
-      let k = sectorNamed (s .l) (t .entry) (t .place) x in
-      given .settled .committed .ground .used-all k ∙ or-r (eqb k 0) (elem k (namedBy (s .l) (t .entry) (t .place))) (named-elem (s .l) (t .entry) (t .place) x h)
+      let k = sectorNamed (s .geometry .l) (t .entry) (t .place) x in
+      given .settled .committed .ground .used-all k ∙ or-r (eqb k 0) (elem k (namedBy (s .geometry .l) (t .entry) (t .place))) (named-elem (s .geometry .l) (t .entry) (t .place) x h)
 
-  pub named-other : (x : Name) → Named (s .l) (t .entry) (t .place) x → (j : ℕ) → j < change .dataSectors + plan .members
-      → at (plan .places) j ≡ sectorNamed (s .l) (t .entry) (t .place) x → ⊥
+  pub named-other : (x : Name) → Named (s .geometry .l) (t .entry) (t .place) x → (j : ℕ) → j < change .dataSectors + plan .members
+      → at (plan .places) j ≡ sectorNamed (s .geometry .l) (t .entry) (t .place) x → ⊥
   named-other x h j b e =
-      clash (t .isUsed (sectorNamed (s .l) (t .entry) (t .place) x)) (named-used x h)
+      clash (t .isUsed (sectorNamed (s .geometry .l) (t .entry) (t .place) x)) (named-used x h)
       (subst (λ (k : ℕ). t .isUsed k ≡ false) e (at-free j b))
 
   pub member-place : (j : ℕ) → memberPlace plan j ≡ at (plan .places) (change .dataSectors + j)

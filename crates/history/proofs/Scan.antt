@@ -9,6 +9,7 @@ use native.Mathlib.Nat.{div-add-mod}
 use native.Mathlib.Omega.{arith}
 use lib.Dec.{leb, eqb}
 use borrow.Author.Tests.{le-leb, lt-leb, leb-true, eq-eqb, ne-eqb, eqb-true, eqb-false}
+use Rattle.geometry.specs.declared.Geometry.{Geometry}
 use Rattle.answer.specs.declared.Answer.the-variants.{Scanned}
 use Rattle.geometry.specs.Geometry.{piecesFor, pieceOf, indexOf}
 use Rattle.layout.specs.Bounded.{at, best, distinct, elem, tabled, isZero, anyBelow}
@@ -81,45 +82,45 @@ piece-entry l entry b h =
     ∙ ap (λ (k : ℕ). cond (leb l k) 0 (entry k)) e
     ∙ cond-false (leb l b) 0 (entry b) (lt-leb l b h)
 
-module _ (n l : ℕ) (image : ℕ → List ℕ) (t : Tables) (tail number : ℕ) (disk : Disk) (fit : Fits n l)
-    (c : Committed n l image t tail number disk) where
-  ground : Ground n l image t tail number disk
+module _ (g : Geometry) (image : ℕ → List ℕ) (t : Tables) (tail number : ℕ) (disk : Disk) (fit : Fits g)
+    (c : Committed g image t tail number disk) where
+  ground : Ground g image t tail number disk
   ground = c .ground
 
   newest : ℕ
-  newest = best (t .number) (piecesFor l)
+  newest = best (t .number) (piecesFor (g .l))
 
-  newest-below : newest < piecesFor l
+  newest-below : newest < piecesFor (g .l)
   unfolding newest
-  newest-below = best-below (t .number) (piecesFor l) (some-pieces l (fit .some))
+  newest-below = best-below (t .number) (piecesFor (g .l)) (some-pieces (g .l) (fit .some))
 
   number-low : 1 ≤ number
   unfolding newest ground
   number-low = rw (ground .sound .number-is) (ground .sound .from1 newest newest-below)
 
   -- The tail is signed and closing, and has the number.
-  pub tail-says : (m : MapSector) × (imageView n l image tail ≡ some m) × (m .number ≡ number) × (m .closing ≡ true) × (m .piece < piecesFor l)
+  pub tail-says : (m : MapSector) × (imageView g image tail ≡ some m) × (m .number ≡ number) × (m .closing ≡ true) × (m .piece < piecesFor (g .l))
   unfolding newest ground
   tail-says =
       let w = ground .live newest newest-below in
-      let e = subst (λ (k : ℕ). imageView n l image k ≡ some (w .0)) (sym (ground .sound .tail-is)) (w .1) in
-      (w .0, e, w .3 ∙ sym (ground .sound .number-is), ground .closes (w .0) e, subst (λ (p : ℕ). p < piecesFor l) (sym (w .2)) newest-below)
+      let e = subst (λ (k : ℕ). imageView g image k ≡ some (w .0)) (sym (ground .sound .tail-is)) (w .1) in
+      (w .0, e, w .3 ∙ sym (ground .sound .number-is), ground .closes (w .0) e, subst (λ (p : ℕ). p < piecesFor (g .l)) (sym (w .2)) newest-below)
 
-  tail-below : tail < n
-  tail-below = let w = tail-says in view-below n l image tail (w .0) (w .1)
+  tail-below : tail < g .n
+  tail-below = let w = tail-says in view-below g image tail (w .0) (w .1)
 
-  pub number-most : (p : ℕ) → p < piecesFor l → t .number p ≤ number
+  pub number-most : (p : ℕ) → p < piecesFor (g .l) → t .number p ≤ number
   unfolding newest ground
-  number-most p h = rw (ground .sound .number-is) (best-most (t .number) (piecesFor l) p h)
+  number-most p h = rw (ground .sound .number-is) (best-most (t .number) (piecesFor (g .l)) p h)
 
-  pub finds-tail : newestClosing n (imageView n l image) ≡ tail
+  pub finds-tail : newestClosing (g .n) (imageView g image) ≡ tail
   unfolding newestClosing
   finds-tail =
       let w = tail-says in
-      best-unique (λ k. closingNumber (imageView n l image k)) n tail tail-below
+      best-unique (λ k. closingNumber (imageView g image k)) (g .n) tail tail-below
       (λ j h d.
-      rw (closing-is (imageView n l image tail) (w .0) (w .1) (w .3), w .2)
-      (closing-below (imageView n l image j) number number-low
+      rw (closing-is (imageView g image tail) (w .0) (w .1) (w .3), w .2)
+      (closing-below (imageView g image j) number number-low
       (λ a e q.
       ⊎-elim (λ (z : number < a .number). clash (a .closing) q (c .unclosed j a e z))
       (λ (z : a .number ≤ number).
@@ -127,24 +128,24 @@ module _ (n l : ℕ) (image : ℕ → List ℕ) (t : Tables) (tail number : ℕ)
       (λ (y : a .number ≡ number → ⊥). omega arith) (eq? (a .number) number))
       (lt? number (a .number)))))
 
-  pub finds-number : closedUpTo n (imageView n l image) ≡ number
+  pub finds-number : closedUpTo (g .n) (imageView g image) ≡ number
   unfolding closedUpTo
   finds-number =
       let w = tail-says in
-      ap (λ (k : ℕ). closingNumber (imageView n l image k)) finds-tail
-      ∙ closing-is (imageView n l image tail) (w .0) (w .1) (w .3) ∙ w .2
+      ap (λ (k : ℕ). closingNumber (imageView g image k)) finds-tail
+      ∙ closing-is (imageView g image tail) (w .0) (w .1) (w .3) ∙ w .2
 
-  pub finds-place : (p : ℕ) → p < piecesFor l → scanPlace n (imageView n l image) number p ≡ t .place p
+  pub finds-place : (p : ℕ) → p < piecesFor (g .l) → scanPlace (g .n) (imageView g image) number p ≡ t .place p
   unfolding scanPlace ground
   finds-place p h =
       let w = ground .live p h in
       let most = number-most p h in
       let low = ground .sound .from1 p h in
       let num = w .3 in
-      best-unique (λ k. pieceNumber number p (imageView n l image k)) n (t .place p) (view-below n l image (t .place p) (w .0) (w .1))
+      best-unique (λ k. pieceNumber number p (imageView g image k)) (g .n) (t .place p) (view-below g image (t .place p) (w .0) (w .1))
       (λ j b d.
-      rw (piece-is number p (imageView n l image (t .place p)) (w .0) (w .1) (w .2) (omega arith), w .3)
-      (piece-below number p (imageView n l image j) (t .number p) low
+      rw (piece-is number p (imageView g image (t .place p)) (w .0) (w .1) (w .2) (omega arith), w .3)
+      (piece-below number p (imageView g image j) (t .number p) low
       (λ a e q z.
       let x = c .latest j a e z in
       let x′ : a .number ≤ t .number p = subst (λ (r : ℕ). a .number ≤ t .number r) q x in
@@ -152,93 +153,93 @@ module _ (n l : ℕ) (image : ℕ → List ℕ) (t : Tables) (tail number : ℕ)
       (λ (y : a .number ≡ t .number p → ⊥). omega arith) (eq? (a .number) (t .number p)))))
 
   -- Tables built from the live places are the tables.
-  module _ (places : ℕ → ℕ) (right : (p : ℕ) → p < piecesFor l → places p ≡ t .place p) where
-    same-places : tabled 0 (piecesFor l) places ≡ t .place
+  module _ (places : ℕ → ℕ) (right : (p : ℕ) → p < piecesFor (g .l) → places p ≡ t .place p) where
+    same-places : tabled 0 (piecesFor (g .l)) places ≡ t .place
     unfolding ground
     same-places =
         fun-ext (λ p.
-        ⊎-elim (λ (h : p < piecesFor l). tabled-at 0 (piecesFor l) places p h ∙ right p h)
-        (λ (h : piecesFor l ≤ p). tabled-past 0 (piecesFor l) places p h ∙ sym (ground .places-past p h)) (lt? p (piecesFor l)))
+        ⊎-elim (λ (h : p < piecesFor (g .l)). tabled-at 0 (piecesFor (g .l)) places p h ∙ right p h)
+        (λ (h : piecesFor (g .l) ≤ p). tabled-past 0 (piecesFor (g .l)) places p h ∙ sym (ground .places-past p h)) (lt? p (piecesFor (g .l))))
 
-    entries-at : (b : ℕ) → b < l → entryIn (indexOf b) (imageView n l image (t .place (pieceOf b))) ≡ t .entry b
+    entries-at : (b : ℕ) → b < g .l → entryIn (indexOf b) (imageView g image (t .place (pieceOf b))) ≡ t .entry b
     unfolding ground entryIn
     entries-at b h =
         let w = ground .live (pieceOf b) (omega arith) in
-        ap (entryIn (indexOf b)) (w .1) ∙ ap (λ (es : List ℕ). at es (indexOf b)) (w .4) ∙ piece-entry l (t .entry) b h
+        ap (entryIn (indexOf b)) (w .1) ∙ ap (λ (es : List ℕ). at es (indexOf b)) (w .4) ∙ piece-entry (g .l) (t .entry) b h
 
-    same-entries : tabled 0 l (λ b. entryIn (indexOf b) (imageView n l image (tabled 0 (piecesFor l) places (pieceOf b)))) ≡ t .entry
+    same-entries : tabled 0 (g .l) (λ b. entryIn (indexOf b) (imageView g image (tabled 0 (piecesFor (g .l)) places (pieceOf b)))) ≡ t .entry
     unfolding ground
     same-entries =
         fun-ext (λ b.
-        ⊎-elim (λ (h : b < l).
-        tabled-at 0 l (λ b. entryIn (indexOf b) (imageView n l image (tabled 0 (piecesFor l) places (pieceOf b)))) b h
-        ∙ ap (λ (f : ℕ → ℕ). entryIn (indexOf b) (imageView n l image (f (pieceOf b)))) same-places ∙ entries-at b h)
-        (λ (h : l ≤ b).
-        tabled-past 0 l (λ b. entryIn (indexOf b) (imageView n l image (tabled 0 (piecesFor l) places (pieceOf b)))) b h
+        ⊎-elim (λ (h : b < g .l).
+        tabled-at 0 (g .l) (λ b. entryIn (indexOf b) (imageView g image (tabled 0 (piecesFor (g .l)) places (pieceOf b)))) b h
+        ∙ ap (λ (f : ℕ → ℕ). entryIn (indexOf b) (imageView g image (f (pieceOf b)))) same-places ∙ entries-at b h)
+        (λ (h : g .l ≤ b).
+        tabled-past 0 (g .l) (λ b. entryIn (indexOf b) (imageView g image (tabled 0 (piecesFor (g .l)) places (pieceOf b)))) b h
         ∙ sym (ground .entries-past b h))
-        (lt? b l))
+        (lt? b (g .l)))
 
-    same-numbers : tabled 0 (piecesFor l) (λ p. numberIn (imageView n l image (tabled 0 (piecesFor l) places p))) ≡ t .number
+    same-numbers : tabled 0 (piecesFor (g .l)) (λ p. numberIn (imageView g image (tabled 0 (piecesFor (g .l)) places p))) ≡ t .number
     unfolding ground
     same-numbers =
         fun-ext (λ p.
-        ⊎-elim (λ (h : p < piecesFor l).
+        ⊎-elim (λ (h : p < piecesFor (g .l)).
         let w = ground .live p h in
-        tabled-at 0 (piecesFor l) (λ p. numberIn (imageView n l image (tabled 0 (piecesFor l) places p))) p h
-        ∙ ap (λ (f : ℕ → ℕ). numberIn (imageView n l image (f p))) same-places
-        ∙ number-some (imageView n l image (t .place p)) (w .0) (w .1) ∙ w .3)
-        (λ (h : piecesFor l ≤ p).
-        tabled-past 0 (piecesFor l) (λ p. numberIn (imageView n l image (tabled 0 (piecesFor l) places p))) p h
+        tabled-at 0 (piecesFor (g .l)) (λ p. numberIn (imageView g image (tabled 0 (piecesFor (g .l)) places p))) p h
+        ∙ ap (λ (f : ℕ → ℕ). numberIn (imageView g image (f p))) same-places
+        ∙ number-some (imageView g image (t .place p)) (w .0) (w .1) ∙ w .3)
+        (λ (h : piecesFor (g .l) ≤ p).
+        tabled-past 0 (piecesFor (g .l)) (λ p. numberIn (imageView g image (tabled 0 (piecesFor (g .l)) places p))) p h
         ∙ sym (ground .numbers-past p h))
-        (lt? p (piecesFor l)))
+        (lt? p (piecesFor (g .l))))
 
-    pub same-tables : tablesFrom l (imageView n l image) places ≡ t
+    pub same-tables : tablesFrom (g .l) (imageView g image) places ≡ t
     unfolding tablesFrom ground
     same-tables =
-        let used = ap₂ (λ (e f : ℕ → ℕ). usedBy (namedBy l e f)) same-entries same-places ∙ fun-ext (λ k. sym (ground .used-all k)) in
+        let used = ap₂ (λ (e f : ℕ → ℕ). usedBy (namedBy (g .l) e f)) same-entries same-places ∙ fun-ext (λ k. sym (ground .used-all k)) in
         λ i. record { entry = same-entries i; place = same-places i; number = same-numbers i; isUsed = used i }
 
-  pub scans-log : scannedLog n l (imageView n l image) number ≡ record { tables = t; tail = tail; number = number }
+  pub scans-log : scannedLog g (imageView g image) number ≡ record { tables = t; tail = tail; number = number }
   unfolding scannedLog
   scans-log =
       λ i.
       record {
-        tables = same-tables (scanPlace n (imageView n l image) number) finds-place i;
+        tables = same-tables (scanPlace (g .n) (imageView g image) number) finds-place i;
         tail = finds-tail i;
         number = number;
       }
 
-  numbers-distinct : distinct (signedNumbers (imageView n l image) n) ≡ true
+  numbers-distinct : distinct (signedNumbers (imageView g image) (g .n)) ≡ true
   unfolding signedNumbers distinct elem
   numbers-distinct =
-      gathered-distinct (λ k. not (isZero (numberIn (imageView n l image k)))) (λ k. numberIn (imageView n l image k)) [] n refl
+      gathered-distinct (λ k. not (isZero (numberIn (imageView g image k)))) (λ k. numberIn (imageView g image k)) [] (g .n) refl
       (λ i h e. refl)
-      (λ i j h g e f q.
-      let a = number-signed (imageView n l image i) (eqb-false _ 0 (not-of (isZero (numberIn (imageView n l image i))) e)) in
-      let b = number-signed (imageView n l image j) (eqb-false _ 0 (not-of (isZero (numberIn (imageView n l image j))) f)) in
+      (λ i j h u e f q.
+      let a = number-signed (imageView g image i) (eqb-false _ 0 (not-of (isZero (numberIn (imageView g image i))) e)) in
+      let b = number-signed (imageView g image j) (eqb-false _ 0 (not-of (isZero (numberIn (imageView g image j))) f)) in
       c .apart i j (a .0) (b .0) (a .1) (b .1)
-      (sym (number-some (imageView n l image i) (a .0) (a .1)) ∙ q ∙ number-some (imageView n l image j) (b .0) (b .1)))
+      (sym (number-some (imageView g image i) (a .0) (a .1)) ∙ q ∙ number-some (imageView g image j) (b .0) (b .1)))
 
-  none-missing : anyBelow (λ p. isZero (pieceNumber number p (imageView n l image (scanPlace n (imageView n l image) number p)))) (piecesFor l) ≡ false
+  none-missing : anyBelow (λ p. isZero (pieceNumber number p (imageView g image (scanPlace (g .n) (imageView g image) number p)))) (piecesFor (g .l)) ≡ false
   unfolding ground
   none-missing =
-      anyBelow-none (λ p. isZero (pieceNumber number p (imageView n l image (scanPlace n (imageView n l image) number p)))) (piecesFor l)
+      anyBelow-none (λ p. isZero (pieceNumber number p (imageView g image (scanPlace (g .n) (imageView g image) number p)))) (piecesFor (g .l))
       (λ p h.
       let w = ground .live p h in
       let low = ground .sound .from1 p h in
       let most = number-most p h in
       let num = w .3 in
-      let e = ap (λ (k : ℕ). pieceNumber number p (imageView n l image k)) (finds-place p h)
-      ∙ piece-is number p (imageView n l image (t .place p)) (w .0) (w .1) (w .2) (omega arith) ∙ w .3 in
+      let e = ap (λ (k : ℕ). pieceNumber number p (imageView g image k)) (finds-place p h)
+      ∙ piece-is number p (imageView g image (t .place p)) (w .0) (w .1) (w .2) (omega arith) ∙ w .3 in
       rw e (ne-eqb (t .number p) 0 (λ (z : t .number p ≡ 0). omega arith)))
 
-  undamaged : scanDamaged n l (imageView n l image) number (record { tables = t; tail = tail; number = number }) ≡ false
+  undamaged : scanDamaged g (imageView g image) number (record { tables = t; tail = tail; number = number }) ≡ false
   unfolding scanDamaged ground
-  undamaged = rw (numbers-distinct, none-missing, sound-consistent n l t tail number (ground .sound)) refl
+  undamaged = rw (numbers-distinct, none-missing, sound-consistent g t tail number (ground .sound)) refl
 
   -- The scan is accepted, and what it found is the last closed commit.
-  pub scan-finds : scanFinding n l (imageView n l image) (image 0)
-      ≡ found (record { tables = t; tail = tail; number = number }) (Scanned n) (scanStores n (imageView n l image) (image 0) number)
+  pub scan-finds : scanFinding g (imageView g image) (image 0)
+      ≡ found (record { tables = t; tail = tail; number = number }) (Scanned (g .n)) (scanStores (g .n) (imageView g image) (image 0) number)
   unfolding scanFinding
   scan-finds =
       rw (finds-number, ne-eqb number 0 (λ (z : number ≡ 0). let h = number-low in omega arith), scans-log, undamaged) refl

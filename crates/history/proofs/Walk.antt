@@ -8,6 +8,7 @@ use mathlib.Core.Option.{Option, none, some}
 use native.Mathlib.Omega.{arith}
 use lib.Dec.{ltb}
 use borrow.Author.Tests.{lt-ltb, ltb-true, eq-eqb, ne-eqb, eqb-true}
+use Rattle.geometry.specs.declared.Geometry.{Geometry}
 use Rattle.geometry.specs.Geometry.{piecesFor}
 use Rattle.layout.specs.Bounded.{best, countBelow, elem, isZero, updated}
 use Rattle.layout.specs.MapSector.{MapSector, View}
@@ -21,18 +22,18 @@ use Rattle.laws.proofs.Sizes.{Fits, some-pieces}
 use Rattle.history.proofs.Invariant.{Committed, Settled, reaches-below}
 use Rattle.history.proofs.Scan.{option?, tail-says}
 
-module _ (n l : ℕ) (image : ℕ → List ℕ) (t : Tables) (tail number : ℕ) (disk : Disk) (fit : Fits n l)
-    (settled : Settled n l image t tail number disk) where
+module _ (g : Geometry) (image : ℕ → List ℕ) (t : Tables) (tail number : ℕ) (disk : Disk) (fit : Fits g)
+    (settled : Settled g image t tail number disk) where
   abbrev view : View
-  view = imageView n l image
+  view = imageView g image
 
-  abbrev c : Committed n l image t tail number disk
+  abbrev c : Committed g image t tail number disk
   c = settled .committed
 
-  place-some : (p : ℕ) → p < piecesFor l → t .place p ≡ 0 → ⊥
+  place-some : (p : ℕ) → p < piecesFor (g .l) → t .place p ≡ 0 → ⊥
   place-some p h e = let low = c .ground .sound .low (piece p) h in omega arith
 
-  live-number : (p : ℕ) → p < piecesFor l → numberIn (imageView n l image (t .place p)) ≡ t .number p
+  live-number : (p : ℕ) → p < piecesFor (g .l) → numberIn (imageView g image (t .place p)) ≡ t .number p
   unfolding numberIn
   live-number p h = let w = c .ground .live p h in ap numberIn (w .1) ∙ w .3
 
@@ -40,7 +41,7 @@ module _ (n l : ℕ) (image : ℕ → List ℕ) (t : Tables) (tail number : ℕ)
   record Good (w : Walk) : Type 0 where
     done-live : (p : ℕ) → (w .taken p ≡ 0 → ⊥) → w .taken p ≡ t .place p
     waits : (p : ℕ) → (w .waiting p ≡ 0 → ⊥)
-        → (a : MapSector) × (imageView n l image (w .waiting p) ≡ some a) × (a .piece ≡ p) × (a .number ≤ t .number p) × (w .taken p ≡ 0)
+        → (a : MapSector) × (imageView g image (w .waiting p) ≡ some a) × (a .piece ≡ p) × (a .number ≤ t .number p) × (w .taken p ≡ 0)
 
   Ready : Walk → ℕ → Type 0
   Ready w q = (w .taken q ≡ 0 → ⊥) ⊎ (w .waiting q ≡ t .place q)
@@ -51,16 +52,16 @@ module _ (n l : ℕ) (image : ℕ → List ℕ) (t : Tables) (tail number : ℕ)
   abbrev next : Walk → ℕ → MapSector → Walk
   next w target m = record { waiting = updated (w .waiting) (m .piece) target; taken = w .taken }
 
-  reads-none : (holder : ℕ) (w : Walk) (target : ℕ) → imageView n l image target ≡ none → targetWaits view holder w target (view target) ≡ w
+  reads-none : (holder : ℕ) (w : Walk) (target : ℕ) → imageView g image target ≡ none → targetWaits view holder w target (view target) ≡ w
   unfolding targetWaits
   reads-none holder w target e = ap (targetWaits view holder w target) e
 
-  reads-kept : (holder : ℕ) (w : Walk) (target : ℕ) (m : MapSector) → imageView n l image target ≡ some m → waits? w holder m ≡ false
+  reads-kept : (holder : ℕ) (w : Walk) (target : ℕ) (m : MapSector) → imageView g image target ≡ some m → waits? w holder m ≡ false
       → targetWaits view holder w target (view target) ≡ w
   unfolding targetWaits
   reads-kept holder w target m e b = ap (targetWaits view holder w target) e ∙ cond-false (waits? w holder m) (next w target m) w b
 
-  reads-new : (holder : ℕ) (w : Walk) (target : ℕ) (m : MapSector) → imageView n l image target ≡ some m → waits? w holder m ≡ true
+  reads-new : (holder : ℕ) (w : Walk) (target : ℕ) (m : MapSector) → imageView g image target ≡ some m → waits? w holder m ≡ true
       → targetWaits view holder w target (view target) ≡ next w target m
   unfolding targetWaits
   reads-new holder w target m e b = ap (targetWaits view holder w target) e ∙ cond-true (waits? w holder m) (next w target m) w b
@@ -68,14 +69,14 @@ module _ (n l : ℕ) (image : ℕ → List ℕ) (t : Tables) (tail number : ℕ)
   -- Three ways for a target that is read.
   Read : ℕ → Walk → ℕ → Type 0
   Read holder w target =
-      ((targetWaits view holder w target (view target) ≡ w) × ((m : MapSector) → imageView n l image target ≡ some m → waits? w holder m ≡ false))
-      ⊎ ((m : MapSector) × (imageView n l image target ≡ some m) × (waits? w holder m ≡ true)
+      ((targetWaits view holder w target (view target) ≡ w) × ((m : MapSector) → imageView g image target ≡ some m → waits? w holder m ≡ false))
+      ⊎ ((m : MapSector) × (imageView g image target ≡ some m) × (waits? w holder m ≡ true)
       × (targetWaits view holder w target (view target) ≡ next w target m))
 
   read? : (holder : ℕ) (w : Walk) (target : ℕ) → Read holder w target
   unfolding Read
   read? holder w target =
-      ⊎-elim (λ (e : imageView n l image target ≡ none).
+      ⊎-elim (λ (e : imageView g image target ≡ none).
       inl (reads-none holder w target e, λ m q. let z : _≡_ {A = ℕ} 0 1 = cc in absurd (omega arith)))
       (λ v.
       ⊎-elim (λ (b : waits? w holder (v .0) ≡ true). inr (v .0, v .1, b, reads-new holder w target (v .0) (v .1) b))
@@ -85,7 +86,7 @@ module _ (n l : ℕ) (image : ℕ → List ℕ) (t : Tables) (tail number : ℕ)
         λ m q. let same : m ≡ v .0 = cc in subst (λ (x : MapSector). waits? w holder x ≡ false) (sym same) b,
       ))
       (bool? (waits? w holder (v .0))))
-      (option? (imageView n l image target))
+      (option? (imageView g image target))
 
   waits-2 : (w : Walk) (holder : ℕ) (m : MapSector) → waits? w holder m ≡ true → w .taken (m .piece) ≡ 0
   waits-2 w holder m e =
@@ -99,16 +100,16 @@ module _ (n l : ℕ) (image : ℕ → List ℕ) (t : Tables) (tail number : ℕ)
       (and-r (ltb (m .number) holder && isZero (w .taken (m .piece))) (ltb (waitingNumber view w (m .piece)) (m .number)) e)
 
   -- The number of what waits.
-  waiting-is : (w : Walk) (p : ℕ) (a : MapSector) → (w .waiting p ≡ 0 → ⊥) → imageView n l image (w .waiting p) ≡ some a → waitingNumber view w p ≡ a .number
+  waiting-is : (w : Walk) (p : ℕ) (a : MapSector) → (w .waiting p ≡ 0 → ⊥) → imageView g image (w .waiting p) ≡ some a → waitingNumber view w p ≡ a .number
   unfolding numberIn
   waiting-is w p a d e = cond-false (isZero (w .waiting p)) 0 (numberIn (view (w .waiting p))) (ne-eqb (w .waiting p) 0 d) ∙ ap numberIn e
 
-  waiting-live : (w : Walk) (q : ℕ) → q < piecesFor l → w .waiting q ≡ t .place q → waitingNumber view w q ≡ t .number q
+  waiting-live : (w : Walk) (q : ℕ) → q < piecesFor (g .l) → w .waiting q ≡ t .place q → waitingNumber view w q ≡ t .number q
   waiting-live w q h e =
       let v = c .ground .live q h in
       waiting-is w q (v .0) (λ (z : w .waiting q ≡ 0). place-some q h (sym e ∙ z)) (ap view e ∙ v .1) ∙ v .3
 
-  next-good : (w : Walk) (holder target : ℕ) (m : MapSector) → Good w → imageView n l image target ≡ some m → waits? w holder m ≡ true → Good (next w target m)
+  next-good : (w : Walk) (holder target : ℕ) (m : MapSector) → Good w → imageView g image target ≡ some m → waits? w holder m ≡ true → Good (next w target m)
   next-good w holder target m good e b =
       record {
         done-live = good .done-live;
@@ -129,8 +130,8 @@ module _ (n l : ℕ) (image : ℕ → List ℕ) (t : Tables) (tail number : ℕ)
       }
 
   -- What waits with its live sector keeps it.
-  next-ready : (w : Walk) (holder target : ℕ) (m : MapSector) → imageView n l image target ≡ some m → waits? w holder m ≡ true
-      → (q : ℕ) → q < piecesFor l → Ready w q → Ready (next w target m) q
+  next-ready : (w : Walk) (holder target : ℕ) (m : MapSector) → imageView g image target ≡ some m → waits? w holder m ≡ true
+      → (q : ℕ) → q < piecesFor (g .l) → Ready w q → Ready (next w target m) q
   unfolding Ready
   next-ready w holder target m e b q h r =
       ⊎-elim inl
@@ -146,7 +147,7 @@ module _ (n l : ℕ) (image : ℕ → List ℕ) (t : Tables) (tail number : ℕ)
       r
 
   -- A live target with a lower number is ready once it is read.
-  target-ready : (holder : ℕ) (w : Walk) → Good w → (q : ℕ) → q < piecesFor l → t .number q < holder
+  target-ready : (holder : ℕ) (w : Walk) → Good w → (q : ℕ) → q < piecesFor (g .l) → t .number q < holder
       → Ready (targetWaits view holder w (t .place q) (view (t .place q))) q
   unfolding Ready Read
   target-ready holder w good q h lower =
@@ -176,7 +177,7 @@ module _ (n l : ℕ) (image : ℕ → List ℕ) (t : Tables) (tail number : ℕ)
       (ap (updated (w .waiting) (r .0 .piece) (t .place q)) (sym at) ∙ updated-here (w .waiting) (r .0 .piece) (t .place q))))
       (read? holder w (t .place q))
     where
-      already : (q : ℕ) → q < piecesFor l → t .number q ≤ waitingNumber view w q → w .waiting q ≡ t .place q
+      already : (q : ℕ) → q < piecesFor (g .l) → t .number q ≤ waitingNumber view w q → w .waiting q ≡ t .place q
       already q h y =
           let low = c .ground .sound .from1 q h in
           ⊎-elim (λ (z : w .waiting q ≡ 0).
@@ -195,8 +196,8 @@ module _ (n l : ℕ) (image : ℕ → List ℕ) (t : Tables) (tail number : ℕ)
   record Goes (holder : ℕ) (xs : List ℕ) (w r : Walk) : Type 0 where
     good : Good r
     taken : r .taken ≡ w .taken
-    kept : (q : ℕ) → q < piecesFor l → Ready w q → Ready r q
-    reads : (q : ℕ) → q < piecesFor l → elem (t .place q) xs ≡ true → t .number q < holder → Ready r q
+    kept : (q : ℕ) → q < piecesFor (g .l) → Ready w q → Ready r q
+    reads : (q : ℕ) → q < piecesFor (g .l) → elem (t .place q) xs ≡ true → t .number q < holder → Ready r q
 
   one-read : (holder target : ℕ) (w : Walk) → Good w → Goes holder (target ∷ []) w (targetWaits view holder w target (view target))
   unfolding Read elem
@@ -245,16 +246,16 @@ module _ (n l : ℕ) (image : ℕ → List ℕ) (t : Tables) (tail number : ℕ)
   -- Between steps.
   record Between (w : Walk) : Type 0 where
     good : Good w
-    links : (p : ℕ) → p < piecesFor l → (w .taken p ≡ 0 → ⊥) → (q : ℕ) → q < piecesFor l
+    links : (p : ℕ) → p < piecesFor (g .l) → (w .taken p ≡ 0 → ⊥) → (q : ℕ) → q < piecesFor (g .l)
         → elem (t .place q) (branchesIn (view (t .place p))) ≡ true → t .number q < t .number p → Ready w q
-    starts : (p : ℕ) → p < piecesFor l → t .place p ≡ tail → Ready w p
+    starts : (p : ℕ) → p < piecesFor (g .l) → t .place p ≡ tail → Ready w p
 
   undone : Walk → ℕ → Bool
   undone w p = isZero (w .taken p)
 
   -- The newest live sector that is not done is ready, since whatever leads to it is newer.
-  newest-ready : (w : Walk) → Between w → (top : ℕ) → ((p : ℕ) → p < piecesFor l → w .taken p ≡ 0 → t .number p ≤ t .number top)
-      → Reaches view (t .place) (piecesFor l) tail top → Ready w top
+  newest-ready : (w : Walk) → Between w → (top : ℕ) → ((p : ℕ) → p < piecesFor (g .l) → w .taken p ≡ 0 → t .number p ≤ t .number top)
+      → Reaches view (t .place) (piecesFor (g .l)) tail top → Ready w top
   unfolding branchesIn
   newest-ready w b top most (itself h e) = b .starts top h e
   newest-ready w b top most (through {q = q} {a = a} {b = m} r e h f v lt) =
@@ -270,22 +271,22 @@ module _ (n l : ℕ) (image : ℕ → List ℕ) (t : Tables) (tail number : ℕ)
   step-key : Walk → ℕ → ℕ
   step-key w p = cond (isZero (w .taken p)) (t .number p) 0
 
-  module _ (w : Walk) (b : Between w) (p0 : ℕ) (h0 : p0 < piecesFor l) (u0 : w .taken p0 ≡ 0) where
+  module _ (w : Walk) (b : Between w) (p0 : ℕ) (h0 : p0 < piecesFor (g .l)) (u0 : w .taken p0 ≡ 0) where
     top : ℕ
-    top = best (step-key w) (piecesFor l)
+    top = best (step-key w) (piecesFor (g .l))
 
     key-undone : (p : ℕ) → w .taken p ≡ 0 → step-key w p ≡ t .number p
     unfolding step-key
     key-undone p e = cond-true (isZero (w .taken p)) (t .number p) 0 (eq-eqb (w .taken p) 0 e)
 
-    top-below : top < piecesFor l
+    top-below : top < piecesFor (g .l)
     unfolding top
-    top-below = best-below (step-key w) (piecesFor l) (omega arith)
+    top-below = best-below (step-key w) (piecesFor (g .l)) (omega arith)
 
     top-undone : w .taken top ≡ 0
     unfolding top step-key
     top-undone =
-        let most = best-most (step-key w) (piecesFor l) p0 h0 in
+        let most = best-most (step-key w) (piecesFor (g .l)) p0 h0 in
         let key = key-undone p0 u0 in
         let low = c .ground .sound .from1 p0 h0 in
         ⊎-elim (λ (z : w .taken top ≡ 0). z)
@@ -294,10 +295,10 @@ module _ (n l : ℕ) (image : ℕ → List ℕ) (t : Tables) (tail number : ℕ)
         absurd (omega arith))
         (eq? (w .taken top) 0)
 
-    top-most : (p : ℕ) → p < piecesFor l → w .taken p ≡ 0 → t .number p ≤ t .number top
+    top-most : (p : ℕ) → p < piecesFor (g .l) → w .taken p ≡ 0 → t .number p ≤ t .number top
     unfolding top
     top-most p h e =
-        let most = best-most (step-key w) (piecesFor l) p h in
+        let most = best-most (step-key w) (piecesFor (g .l)) p h in
         let a = key-undone p e in
         let d = key-undone top top-undone in
         omega arith
@@ -311,9 +312,9 @@ module _ (n l : ℕ) (image : ℕ → List ℕ) (t : Tables) (tail number : ℕ)
     top-number : waitingNumber view w top ≡ t .number top
     top-number = waiting-live w top top-below top-waits
 
-    chooses : best (waitingNumber view w) (piecesFor l) ≡ top
+    chooses : best (waitingNumber view w) (piecesFor (g .l)) ≡ top
     chooses =
-        best-unique (waitingNumber view w) (piecesFor l) top top-below
+        best-unique (waitingNumber view w) (piecesFor (g .l)) top top-below
         (λ r h d.
         let low = c .ground .sound .from1 top top-below in
         let num = top-number in
@@ -335,7 +336,7 @@ module _ (n l : ℕ) (image : ℕ → List ℕ) (t : Tables) (tail number : ℕ)
     stepped : Walk
     stepped = targetsRead view (t .number top) done (branchesIn (view (t .place top)))
 
-    step-is : walkStep (piecesFor l) view w ≡ stepped
+    step-is : walkStep (piecesFor (g .l)) view w ≡ stepped
     unfolding walkStep stepped done
     step-is =
         let some : isZero (waitingNumber view w top) ≡ false =
@@ -399,11 +400,11 @@ module _ (n l : ℕ) (image : ℕ → List ℕ) (t : Tables) (tail number : ℕ)
           starts = λ p h e. goes .kept p h (done-ready p (b .starts p h e));
         }
 
-    fewer : countBelow (undone stepped) (piecesFor l) < countBelow (undone w) (piecesFor l)
+    fewer : countBelow (undone stepped) (piecesFor (g .l)) < countBelow (undone w) (piecesFor (g .l))
     unfolding undone done
     fewer =
         let same : (p : ℕ) → stepped .taken p ≡ updated (w .taken) top (t .place top) p = λ p. ap (λ (f : ℕ → ℕ). f p) (goes .taken) in
-        count-less (λ p. isZero (stepped .taken p)) (λ p. isZero (w .taken p)) (piecesFor l) top
+        count-less (λ p. isZero (stepped .taken p)) (λ p. isZero (w .taken p)) (piecesFor (g .l)) top
         (λ p h e.
         ⊎-elim (λ (z : p ≡ top). eq-eqb (w .taken p) 0 (ap (w .taken) z ∙ top-undone))
         (λ (z : p ≡ top → ⊥). ap isZero (sym (updated-other (w .taken) top p (t .place top) z) ∙ sym (same p)) ∙ e) (eq? p top))
@@ -416,16 +417,16 @@ module _ (n l : ℕ) (image : ℕ → List ℕ) (t : Tables) (tail number : ℕ)
   undone-is w p e = eqb-true (w .taken p) 0 e
 
   -- Where all are done, a step does nothing.
-  all-done-step : (w : Walk) → Between w → countBelow (undone w) (piecesFor l) ≡ 0 → walkStep (piecesFor l) view w ≡ w
+  all-done-step : (w : Walk) → Between w → countBelow (undone w) (piecesFor (g .l)) ≡ 0 → walkStep (piecesFor (g .l)) view w ≡ w
   unfolding walkStep undone
   all-done-step w b e =
-      let p = best (waitingNumber view w) (piecesFor l) in
-      let h = best-below (waitingNumber view w) (piecesFor l) (some-pieces l (fit .some)) in
+      let p = best (waitingNumber view w) (piecesFor (g .l)) in
+      let h = best-below (waitingNumber view w) (piecesFor (g .l)) (some-pieces (g .l) (fit .some)) in
       let nothing : w .waiting p ≡ 0 =
       ⊎-elim (λ (z : w .waiting p ≡ 0). z)
       (λ (z : w .waiting p ≡ 0 → ⊥).
       let v = b .good .waits p z in
-      let x = count-before (λ q. isZero (w .taken q)) p (piecesFor l) h (eq-eqb (w .taken p) 0 (v .4)) in
+      let x = count-before (λ q. isZero (w .taken q)) p (piecesFor (g .l)) h (eq-eqb (w .taken p) 0 (v .4)) in
       absurd (omega arith))
       (eq? (w .waiting p) 0) in
       let zero-key : waitingNumber view w p ≡ 0 =
@@ -436,7 +437,7 @@ module _ (n l : ℕ) (image : ℕ → List ℕ) (t : Tables) (tail number : ℕ)
   walk-start = record { waiting = updated (λ _. 0) (pieceIn (view tail)) tail; taken = λ _. 0 }
 
   -- The tail's piece is the one whose live sector it is.
-  tail-piece : (p : ℕ) → p < piecesFor l → t .place p ≡ tail → pieceIn (view tail) ≡ p
+  tail-piece : (p : ℕ) → p < piecesFor (g .l) → t .place p ≡ tail → pieceIn (view tail) ≡ p
   unfolding pieceIn
   tail-piece p h e =
       let v = c .ground .live p h in
@@ -445,7 +446,7 @@ module _ (n l : ℕ) (image : ℕ → List ℕ) (t : Tables) (tail number : ℕ)
   start-between : Between walk-start
   unfolding walk-start pieceIn Ready
   start-between =
-      let m = tail-says n l image t tail number disk fit c in
+      let m = tail-says g image t tail number disk fit c in
       let at : pieceIn (view tail) ≡ m .0 .piece = ap pieceIn (m .1) in
       record {
         good = record {
@@ -469,37 +470,37 @@ module _ (n l : ℕ) (image : ℕ → List ℕ) (t : Tables) (tail number : ℕ)
             inr (ap (updated (λ _. 0) (pieceIn (view tail)) tail) (sym q) ∙ updated-here (λ _. 0) (pieceIn (view tail)) tail ∙ sym e);
       }
 
-  walked : (k : ℕ) → Between (walkedFor (piecesFor l) view walk-start k)
-      × (countBelow (undone (walkedFor (piecesFor l) view walk-start k)) (piecesFor l) ≤ piecesFor l - k)
+  walked : (k : ℕ) → Between (walkedFor (piecesFor (g .l)) view walk-start k)
+      × (countBelow (undone (walkedFor (piecesFor (g .l)) view walk-start k)) (piecesFor (g .l)) ≤ piecesFor (g .l) - k)
   unfolding walkedFor
-  walked zero = (start-between, let x = count-le (undone walk-start) (piecesFor l) in omega arith)
+  walked zero = (start-between, let x = count-le (undone walk-start) (piecesFor (g .l)) in omega arith)
   walked (suc k) =
-      let w = walkedFor (piecesFor l) view walk-start k in
+      let w = walkedFor (piecesFor (g .l)) view walk-start k in
       let before = walked k in
       let bound = before .1 in
-      ⊎-elim (λ (z : 0 < countBelow (undone w) (piecesFor l)).
-      let v = count-some (undone w) (piecesFor l) z in
+      ⊎-elim (λ (z : 0 < countBelow (undone w) (piecesFor (g .l))).
+      let v = count-some (undone w) (piecesFor (g .l)) z in
       let u = undone-is w (v .0) (v .2) in
       let s = step-is w (before .0) (v .0) (v .1) u in
       let f = fewer w (before .0) (v .0) (v .1) u in (
         subst Between (sym s) (step-between w (before .0) (v .0) (v .1) u),
-        subst (λ (x : Walk). countBelow (undone x) (piecesFor l) ≤ piecesFor l - suc k) (sym s) (omega arith),
+        subst (λ (x : Walk). countBelow (undone x) (piecesFor (g .l)) ≤ piecesFor (g .l) - suc k) (sym s) (omega arith),
       ))
-      (λ (z : countBelow (undone w) (piecesFor l) ≤ 0).
+      (λ (z : countBelow (undone w) (piecesFor (g .l)) ≤ 0).
       let s = all-done-step w (before .0) (omega arith) in (
         subst Between (sym s) (before .0),
-        subst (λ (x : Walk). countBelow (undone x) (piecesFor l) ≤ piecesFor l - suc k) (sym s) (omega arith),
+        subst (λ (x : Walk). countBelow (undone x) (piecesFor (g .l)) ≤ piecesFor (g .l) - suc k) (sym s) (omega arith),
       ))
-      (lt? 0 (countBelow (undone w) (piecesFor l)))
+      (lt? 0 (countBelow (undone w) (piecesFor (g .l))))
 
   -- The walk takes the live sector of every piece.
-  pub walk-places : (p : ℕ) → p < piecesFor l → walkFrom (piecesFor l) view tail p ≡ t .place p
+  pub walk-places : (p : ℕ) → p < piecesFor (g .l) → walkFrom (piecesFor (g .l)) view tail p ≡ t .place p
   unfolding walkFrom walk-start undone
   walk-places p h =
-      let w = walkedFor (piecesFor l) view walk-start (piecesFor l) in
-      let r = walked (piecesFor l) in
+      let w = walkedFor (piecesFor (g .l)) view walk-start (piecesFor (g .l)) in
+      let r = walked (piecesFor (g .l)) in
       let bound = r .1 in
       r .0 .good .done-live p
       (λ (z : w .taken p ≡ 0).
-      let x = count-before (undone w) p (piecesFor l) h (eq-eqb (w .taken p) 0 z) in
+      let x = count-before (undone w) p (piecesFor (g .l)) h (eq-eqb (w .taken p) 0 z) in
       omega arith)

@@ -28,7 +28,8 @@ use Rattle.history.proofs.Invariant.{Ground, Settled}
 use Rattle.history.proofs.Scan.{number-most}
 use Rattle.history.proofs.Listing.{Linked, direct, via, linked-below, linked-remaining, listing-covers}
 use Rattle.history.proofs.Plan.{Start, plan, listed, members-is, members-some, members-few, written-is, written-past, written-below, rank-below, rank-once, at-below, at-free, at-low, at-once, at-word, named-used, member-place}
-use Rattle.history.proofs.Members.{tables′, named?, entry-named, entry-other, entry-stored, entry-dropped, entry-word′, place-written, place-unwritten, number-written, number-unwritten, used-exact, entries-kept, branches-is, memberOf, member-number, member-piece, member-closing, member-entries, member-first, member-later, member-signed}
+use Rattle.history.proofs.Members.{tables′, named?, entry-named, entry-other, entry-stored, entry-dropped, entry-word′, place-written, place-unwritten, number-written, number-unwritten}
+use Rattle.history.proofs.Members.{used-exact, entries-kept, branches-is, memberOf, member-number, member-piece, member-closing, member-entries, member-first, member-later, member-signed}
 use Rattle.history.proofs.CutCommit.{dataOf, mapOf, data-sector, data-bytes, map-sector, map-bytes, stores-are, Kind, old-number, kept, blank-kept, signed-cases, apart-after}
 
 module _ (g : Start) where
@@ -53,8 +54,8 @@ module _ (g : Start) where
   unfolding Kind
   kinds r a =
       ⊎-elim (λ x. let w = below-has always (dataOf g) (change .dataSectors) r x in inl (w .0, w .1, w .3))
-      (λ x. let w = below-has (plan g .written) (mapOf g) (piecesFor (s .l)) r x in inr (w .0, w .2, tt, w .3))
-      (among-append r (storesBelow always (dataOf g) (change .dataSectors)) (storesBelow (plan g .written) (mapOf g) (piecesFor (s .l)))
+      (λ x. let w = below-has (plan g .written) (mapOf g) (piecesFor (s .geometry .l)) r x in inr (w .0, w .2, tt, w .3))
+      (among-append r (storesBelow always (dataOf g) (change .dataSectors)) (storesBelow (plan g .written) (mapOf g) (piecesFor (s .geometry .l)))
       (subst (Among r) (stores-are g) a))
 
   -- What stands at the new places.
@@ -63,7 +64,7 @@ module _ (g : Start) where
   data-stands i h =
       let mine : Among (dataOf g i) (commitStores s t (plan g) change) =
       subst (Among (dataOf g i)) (sym (stores-are g))
-      (among-left (storesBelow (plan g .written) (mapOf g) (piecesFor (s .l))) (below-own always (dataOf g) (change .dataSectors) i h refl)) in
+      (among-left (storesBelow (plan g .written) (mapOf g) (piecesFor (s .geometry .l))) (below-own always (dataOf g) (change .dataSectors) i h refl)) in
       subst (λ (k : ℕ). image′ k ≡ change .content i) (data-sector g i)
       (applied-at (commitStores s t (plan g) change) image (dataOf g i) mine
       (λ r a e.
@@ -79,14 +80,14 @@ module _ (g : Start) where
       (kinds r a))
       ∙ data-bytes g i)
 
-  map-stands : (p : ℕ) → plan g .written p ≡ true → image′ (at (plan g .places) (change .dataSectors + rank (plan g) p)) ≡ encoded (s .l) (memberOf g p)
+  map-stands : (p : ℕ) → plan g .written p ≡ true → image′ (at (plan g .places) (change .dataSectors + rank (plan g) p)) ≡ encoded (s .geometry .l) (memberOf g p)
   unfolding Kind
   map-stands p e =
       let r0 = rank-below g p e in
       let mine : Among (mapOf g p) (commitStores s t (plan g) change) =
       subst (Among (mapOf g p)) (sym (stores-are g))
-      (among-right (storesBelow always (dataOf g) (change .dataSectors)) (below-own (plan g .written) (mapOf g) (piecesFor (s .l)) p (written-below g p e) e)) in
-      subst (λ (k : ℕ). image′ k ≡ encoded (s .l) (memberOf g p)) (map-sector g p)
+      (among-right (storesBelow always (dataOf g) (change .dataSectors)) (below-own (plan g .written) (mapOf g) (piecesFor (s .geometry .l)) p (written-below g p e) e)) in
+      subst (λ (k : ℕ). image′ k ≡ encoded (s .geometry .l) (memberOf g p)) (map-sector g p)
       (applied-at (commitStores s t (plan g) change) image (mapOf g p) mine
       (λ r a z.
       ⊎-elim (λ w.
@@ -103,25 +104,25 @@ module _ (g : Start) where
       ∙ map-bytes g p)
 
   -- The view at a written piece's place, and at an unwritten one's.
-  pub view-written : (p : ℕ) → plan g .written p ≡ true → imageView (s .n) (s .l) image′ (tables′ g .place p) ≡ some (memberOf g p)
+  pub view-written : (p : ℕ) → plan g .written p ≡ true → imageView (s .geometry) image′ (tables′ g .place p) ≡ some (memberOf g p)
   view-written p e =
       let r = rank-below g p e in
       let k = at (plan g .places) (change .dataSectors + rank (plan g) p) in
-      subst (λ (x : ℕ). imageView (s .n) (s .l) image′ x ≡ some (memberOf g p)) (sym (place-written g p e))
-      (view-at (s .n) (s .l) image′ k (at-below g (change .dataSectors + rank (plan g) p) (omega arith))
-      ∙ ap (decoded (s .n) (s .l)) (map-stands p e) ∙ member-signed g p e)
+      subst (λ (x : ℕ). imageView (s .geometry) image′ x ≡ some (memberOf g p)) (sym (place-written g p e))
+      (view-at (s .geometry) image′ k (at-below g (change .dataSectors + rank (plan g) p) (omega arith))
+      ∙ ap (decoded (s .geometry)) (map-stands p e) ∙ member-signed g p e)
 
-  view-unwritten : (p : ℕ) → p < piecesFor (s .l) → plan g .written p ≡ false
-      → imageView (s .n) (s .l) image′ (tables′ g .place p) ≡ imageView (s .n) (s .l) image (t .place p)
+  view-unwritten : (p : ℕ) → p < piecesFor (s .geometry .l) → plan g .written p ≡ false
+      → imageView (s .geometry) image′ (tables′ g .place p) ≡ imageView (s .geometry) image (t .place p)
   view-unwritten p h e =
-      ap (imageView (s .n) (s .l) image′) (place-unwritten g p e)
-      ∙ view-same (s .n) (s .l) image′ image (t .place p) (kept g (commitStores s t (plan g) change) Any kinds (piece p) h)
+      ap (imageView (s .geometry) image′) (place-unwritten g p e)
+      ∙ view-same (s .geometry) image′ image (t .place p) (kept g (commitStores s t (plan g) change) Any kinds (piece p) h)
 
   -- The last member is the tail.
   last-written : (q : ℕ) × (plan g .written q ≡ true) × (plan g .members ≡ suc (rank (plan g) q))
   unfolding rank
   last-written =
-      let w = below-last (plan g .written) (mapOf g) (piecesFor (s .l)) (let m = members-some g in let i = members-is g in omega arith) in
+      let w = below-last (plan g .written) (mapOf g) (piecesFor (s .geometry .l)) (let m = members-some g in let i = members-is g in omega arith) in
       (w .0, w .2, members-is g ∙ w .4)
 
   tail-place : (q : ℕ) → plan g .written q ≡ true → plan g .members ≡ suc (rank (plan g) q) → tables′ g .place q ≡ tail′
@@ -129,8 +130,8 @@ module _ (g : Start) where
       let x : plan g .members - 1 ≡ rank (plan g) q = omega arith in
       place-written g q e ∙ sym (member-place g (rank (plan g) q)) ∙ ap (memberPlace (plan g)) (sym x)
 
-  number-high : (p : ℕ) → p < piecesFor (s .l) → t .number p ≤ s .number
-  number-high p h = number-most (s .n) (s .l) image t (s .tail) (s .number) disk (given .fit) (given .settled .committed) p h
+  number-high : (p : ℕ) → p < piecesFor (s .geometry .l) → t .number p ≤ s .number
+  number-high p h = number-most (s .geometry) image t (s .tail) (s .number) disk (given .fit) (given .settled .committed) p h
 
   -- Whose sector it is, in the new tables: a new place, or one kept.
   abbrev Owner : ℕ → Name → Type 0
@@ -138,15 +139,15 @@ module _ (g : Start) where
   Owner j (block b) = (j < change .dataSectors) × (at (change .blocks) j ≡ b)
 
   abbrev New : Name → Type 0
-  New x = Named (s .l) (tables′ g .entry) (tables′ g .place) x
+  New x = Named (s .geometry .l) (tables′ g .entry) (tables′ g .place) x
 
   abbrev newSector : Name → ℕ
-  newSector x = sectorNamed (s .l) (tables′ g .entry) (tables′ g .place) x
+  newSector x = sectorNamed (s .geometry .l) (tables′ g .entry) (tables′ g .place) x
 
   Source : Name → Type 0
   Source x =
       ((j : ℕ) × (j < change .dataSectors + plan g .members) × (newSector x ≡ at (plan g .places) j) × Owner j x)
-      ⊎ (Named (s .l) (t .entry) (t .place) x × (newSector x ≡ sectorNamed (s .l) (t .entry) (t .place) x))
+      ⊎ (Named (s .geometry .l) (t .entry) (t .place) x × (newSector x ≡ sectorNamed (s .geometry .l) (t .entry) (t .place) x))
 
   source : (x : Name) → New x → Source x
   unfolding Source
@@ -186,12 +187,12 @@ module _ (g : Start) where
       let j = at-once g (a .0) (b .0) (a .1) (b .1) (sym (a .2) ∙ e ∙ b .2) in
       owner-once (a .0) x y (a .3) (subst (λ (i : ℕ). Owner i y) (sym j) (b .3)))
       (λ b.
-      clash (t .isUsed (sectorNamed (s .l) (t .entry) (t .place) y)) (named-used g y (b .0))
+      clash (t .isUsed (sectorNamed (s .geometry .l) (t .entry) (t .place) y)) (named-used g y (b .0))
       (subst (λ (k : ℕ). t .isUsed k ≡ false) (sym (a .2) ∙ e ∙ b .1) (at-free g (a .0) (a .1))))
       (source y k))
       (λ a.
       ⊎-elim (λ b.
-      clash (t .isUsed (sectorNamed (s .l) (t .entry) (t .place) x)) (named-used g x (a .0))
+      clash (t .isUsed (sectorNamed (s .geometry .l) (t .entry) (t .place) x)) (named-used g x (a .0))
       (subst (λ (k : ℕ). t .isUsed k ≡ false) (sym (b .2) ∙ sym e ∙ a .1) (at-free g (b .0) (b .1))))
       (λ b. given .settled .committed .ground .sound .once x y (a .0) (b .0) (sym (a .1) ∙ e ∙ b .1)) (source y k))
       (source x h)
@@ -201,46 +202,46 @@ module _ (g : Start) where
   low′ x h =
       ⊎-elim (λ a. rw (a .2) (at-low g (a .0) (a .1))) (λ a. rw (a .1) (given .settled .committed .ground .sound .low x (a .0))) (source x h)
 
-  high′ : (x : Name) → New x → newSector x ≤ s .n - 1
+  high′ : (x : Name) → New x → newSector x ≤ s .geometry .n - 1
   unfolding Source
   high′ x h =
       ⊎-elim (λ a. rw (a .2) (let b = at-below g (a .0) (a .1) in omega arith))
       (λ a. rw (a .1) (given .settled .committed .ground .sound .high x (a .0))) (source x h)
 
   -- At most as many blocks more are full as data sectors are stored.
-  entries-grow : countBelow (λ b. not (isEmpty (tables′ g .entry b))) (s .l)
-      ≤ countBelow (λ b. not (isEmpty (t .entry b))) (s .l) + min (length (change .blocks)) (change .dataSectors)
+  entries-grow : countBelow (λ b. not (isEmpty (tables′ g .entry b))) (s .geometry .l)
+      ≤ countBelow (λ b. not (isEmpty (t .entry b))) (s .geometry .l) + min (length (change .blocks)) (change .dataSectors)
   unfolding tables′ committedTables changedEntries
   entries-grow =
-      full-count (s .l) (t .entry) (at (change .blocks)) (λ i. (change .entry) i (at (plan g .places) i)) (change .dataSectors)
+      full-count (s .geometry .l) (t .entry) (at (change .blocks)) (λ i. (change .entry) i (at (plan g .places) i)) (change .dataSectors)
       (length (change .blocks)) (λ j a b. given .gone j (at (plan g .places) j) a b)
 
   -- P sectors are free again.
-  room′ : piecesFor (s .l) ≤ freeSectors (s .n) (tables′ g .isUsed)
+  room′ : piecesFor (s .geometry .l) ≤ freeSectors (s .geometry .n) (tables′ g .isUsed)
   unfolding freeSectors
   room′ =
       let sound = given .settled .committed .ground .sound in
       let least = given .fit .least in
-      let old = namedBy (s .l) (t .entry) (t .place) in
-      let new = namedBy (s .l) (tables′ g .entry) (tables′ g .place) in
-      let before = free-count (s .n) old (omega arith)
-      (λ k e. let w = elem-named (s .l) (t .entry) (t .place) k e in
+      let old = namedBy (s .geometry .l) (t .entry) (t .place) in
+      let new = namedBy (s .geometry .l) (tables′ g .entry) (tables′ g .place) in
+      let before = free-count (s .geometry .n) old (omega arith)
+      (λ k e. let w = elem-named (s .geometry .l) (t .entry) (t .place) k e in
       (rw (← (w .2)) (sound .low (w .0) (w .1)), let z = sound .high (w .0) (w .1) in let y = w .2 in omega arith))
-      (named-distinct (s .l) (t .entry) (t .place) (sound .once)) in
-      let now = free-count (s .n) new (omega arith)
-      (λ k e. let w = elem-named (s .l) (tables′ g .entry) (tables′ g .place) k e in
+      (named-distinct (s .geometry .l) (t .entry) (t .place) (sound .once)) in
+      let now = free-count (s .geometry .n) new (omega arith)
+      (λ k e. let w = elem-named (s .geometry .l) (tables′ g .entry) (tables′ g .place) k e in
       (rw (← (w .2)) (low′ (w .0) (w .1)), let z = high′ (w .0) (w .1) in let y = w .2 in omega arith))
-      (named-distinct (s .l) (tables′ g .entry) (tables′ g .place) once′) in
-      let same = count-same (λ k. not (t .isUsed k)) (λ k. not (usedBy old k)) (s .n)
+      (named-distinct (s .geometry .l) (tables′ g .entry) (tables′ g .place) once′) in
+      let same = count-same (λ k. not (t .isUsed k)) (λ k. not (usedBy old k)) (s .geometry .n)
       (λ k h. ap not (given .settled .committed .ground .used-all k)) in
-      let exact = count-same (λ k. not (tables′ g .isUsed k)) (λ k. not (usedBy new k)) (s .n) (λ k h. ap not (used-exact g k)) in
-      let l1 = named-length (s .l) (t .entry) (t .place) in
-      let l2 = named-length (s .l) (tables′ g .entry) (tables′ g .place) in
+      let exact = count-same (λ k. not (tables′ g .isUsed k)) (λ k. not (usedBy new k)) (s .geometry .n) (λ k h. ap not (used-exact g k)) in
+      let l1 = named-length (s .geometry .l) (t .entry) (t .place) in
+      let l2 = named-length (s .geometry .l) (tables′ g .entry) (tables′ g .place) in
       let more = entries-grow in
       let room = given .room in
       omega arith
 
-  numbers′ : (p q : ℕ) → p < piecesFor (s .l) → q < piecesFor (s .l) → tables′ g .number p ≡ tables′ g .number q → p ≡ q
+  numbers′ : (p q : ℕ) → p < piecesFor (s .geometry .l) → q < piecesFor (s .geometry .l) → tables′ g .number p ≡ tables′ g .number q → p ≡ q
   numbers′ p q h k e =
       let hp = number-high p h in
       let hq = number-high q k in
@@ -257,15 +258,15 @@ module _ (g : Start) where
       (bool? (plan g .written q)))
       (bool? (plan g .written p))
 
-  from1′ : (p : ℕ) → p < piecesFor (s .l) → 1 ≤ tables′ g .number p
+  from1′ : (p : ℕ) → p < piecesFor (s .geometry .l) → 1 ≤ tables′ g .number p
   from1′ p h =
       ⊎-elim (λ (a : plan g .written p ≡ true). rw (number-written g p a) (omega arith))
       (λ (a : plan g .written p ≡ false). rw (number-unwritten g p a) (given .settled .committed .ground .sound .from1 p h))
       (bool? (plan g .written p))
 
-  newest′ : (q : ℕ) → plan g .written q ≡ true → plan g .members ≡ suc (rank (plan g) q) → best (tables′ g .number) (piecesFor (s .l)) ≡ q
+  newest′ : (q : ℕ) → plan g .written q ≡ true → plan g .members ≡ suc (rank (plan g) q) → best (tables′ g .number) (piecesFor (s .geometry .l)) ≡ q
   newest′ q e m =
-      best-unique (tables′ g .number) (piecesFor (s .l)) q (written-below g q e)
+      best-unique (tables′ g .number) (piecesFor (s .geometry .l)) q (written-below g q e)
       (λ p h d.
       let x = number-written g q e in
       let hp = number-high p h in
@@ -276,7 +277,7 @@ module _ (g : Start) where
       (λ (z : rank (plan g) p ≡ rank (plan g) q → ⊥). omega arith) (eq? (rank (plan g) p) (rank (plan g) q)))
       (λ (a : plan g .written p ≡ false). let y = number-unwritten g p a in omega arith) (bool? (plan g .written p)))
 
-  sound′ : Sound (s .n) (s .l) (tables′ g) tail′ number′
+  sound′ : Sound (s .geometry) (tables′ g) tail′ number′
   sound′ =
       let w = last-written in
       let top = newest′ (w .0) (w .1) (w .2) in
@@ -296,13 +297,13 @@ module _ (g : Start) where
 
   -- The chain: from the tail down the members, and from the first member to what remains.
   abbrev Reached : ℕ → Type 0
-  Reached p = Reaches (imageView (s .n) (s .l) image′) (tables′ g .place) (piecesFor (s .l)) tail′ p
+  Reached p = Reaches (imageView (s .geometry) image′) (tables′ g .place) (piecesFor (s .geometry .l)) tail′ p
 
   member-reached : (k p : ℕ) → plan g .written p ≡ true → rank (plan g) p + suc k ≡ plan g .members → Reached p
   unfolding rank elem
   member-reached zero p e m = itself (written-below g p e) (tail-place p e (let x : plan g .members ≡ suc (rank (plan g) p) = omega arith in x))
   member-reached (suc k) p e m =
-      let w = count-nth (plan g .written) (piecesFor (s .l)) (suc (rank (plan g) p)) (let i = members-is g in omega arith) in
+      let w = count-nth (plan g .written) (piecesFor (s .geometry .l)) (suc (rank (plan g) p)) (let i = members-is g in omega arith) in
       let q = w .0 in
       let r : rank (plan g) q ≡ suc (rank (plan g) p) = w .3 in
       let here = place-written g p e in
@@ -317,39 +318,39 @@ module _ (g : Start) where
       member-reached (plan g .members - suc (rank (plan g) p)) p e (omega arith)
 
   abbrev remaining : ℕ → Bool
-  remaining = tabled false (piecesFor (s .l)) (λ q. not (touches (change .blocks) q))
+  remaining = tabled false (piecesFor (s .geometry .l)) (λ q. not (touches (change .blocks) q))
 
-  remaining-unwritten : plan g .fold ≡ false → (p : ℕ) → p < piecesFor (s .l) → remaining p ≡ true → plan g .written p ≡ false
+  remaining-unwritten : plan g .fold ≡ false → (p : ℕ) → p < piecesFor (s .geometry .l) → remaining p ≡ true → plan g .written p ≡ false
   remaining-unwritten f p h r =
-      let x = not-of (touches (change .blocks) p) (sym (tabled-at false (piecesFor (s .l)) (λ q. not (touches (change .blocks) q)) p h) ∙ r) in
+      let x = not-of (touches (change .blocks) p) (sym (tabled-at false (piecesFor (s .geometry .l)) (λ q. not (touches (change .blocks) q)) p h) ∙ r) in
       written-is g p h ∙ rw (f, x) refl
 
-  unwritten-remaining : (p : ℕ) → p < piecesFor (s .l) → plan g .written p ≡ false → (plan g .fold ≡ false) × (remaining p ≡ true)
+  unwritten-remaining : (p : ℕ) → p < piecesFor (s .geometry .l) → plan g .written p ≡ false → (plan g .fold ≡ false) × (remaining p ≡ true)
   unwritten-remaining p h e =
       let x = sym (written-is g p h) ∙ e in (
         or-left (plan g .fold) (touches (change .blocks) p) x,
-        tabled-at false (piecesFor (s .l)) (λ q. not (touches (change .blocks) q)) p h
+        tabled-at false (piecesFor (s .geometry .l)) (λ q. not (touches (change .blocks) q)) p h
             ∙ not-is (touches (change .blocks) p) (or-right (plan g .fold) (touches (change .blocks) p) x),
       )
 
   -- The view at an unwritten piece.
-  kept-says : (p : ℕ) → p < piecesFor (s .l) → plan g .written p ≡ false
-      → (m : MapSector) × (imageView (s .n) (s .l) image′ (tables′ g .place p) ≡ some m) × (m .number ≡ t .number p)
-      × (branchesIn (viewOf (s .n) (s .l) image (t .place p)) ≡ m .branches)
+  kept-says : (p : ℕ) → p < piecesFor (s .geometry .l) → plan g .written p ≡ false
+      → (m : MapSector) × (imageView (s .geometry) image′ (tables′ g .place p) ≡ some m) × (m .number ≡ t .number p)
+      × (branchesIn (viewOf (s .geometry) image (t .place p)) ≡ m .branches)
   unfolding branchesIn
   kept-says p h e =
       let w = given .settled .committed .ground .live p h in (
         w .0,
         view-unwritten p h e ∙ w .1,
         w .3,
-        ap branchesIn (sym (view-at (s .n) (s .l) image (t .place p) (view-below (s .n) (s .l) image (t .place p) (w .0) (w .1))) ∙ w .1),
+        ap branchesIn (sym (view-at (s .geometry) image (t .place p) (view-below (s .geometry) image (t .place p) (w .0) (w .1))) ∙ w .1),
       )
 
-  linked-reached : plan g .fold ≡ false → (p : ℕ) → Linked (piecesFor (s .l)) t (viewOf (s .n) (s .l) image) remaining (listed g) p → Reached p
+  linked-reached : plan g .fold ≡ false → (p : ℕ) → Linked (piecesFor (s .geometry .l)) t (viewOf (s .geometry) image) remaining (listed g) p → Reached p
   unfolding rank
   linked-reached f p (direct h r e) =
       let u = remaining-unwritten f p h r in
-      let w = count-nth (plan g .written) (piecesFor (s .l)) 0 (let i = members-is g in let m = members-some g in omega arith) in
+      let w = count-nth (plan g .written) (piecesFor (s .geometry .l)) 0 (let i = members-is g in let m = members-some g in omega arith) in
       let q = w .0 in
       let rank0 : rank (plan g) q ≡ 0 = w .3 in
       let k = kept-says p h u in
@@ -368,16 +369,16 @@ module _ (g : Start) where
   abbrev noneReached : ℕ → Bool
   noneReached q = false
 
-  all-linked : (p : ℕ) → p < piecesFor (s .l) → remaining p ≡ true → Linked (piecesFor (s .l)) t (viewOf (s .n) (s .l) image) remaining (listed g) p
+  all-linked : (p : ℕ) → p < piecesFor (s .geometry .l) → remaining p ≡ true → Linked (piecesFor (s .geometry .l)) t (viewOf (s .geometry) image) remaining (listed g) p
   unfolding listed branchesFor
   all-linked p h r =
-      listing-covers (piecesFor (s .l)) t (viewOf (s .n) (s .l) image) remaining (some-pieces (s .l) (given .fit .some))
-      (given .settled .committed .ground .sound .numbers) (listed g) (piecesFor (s .l)) (suc (s .number)) noneReached
+      listing-covers (piecesFor (s .geometry .l)) t (viewOf (s .geometry) image) remaining (some-pieces (s .geometry .l) (given .fit .some))
+      (given .settled .committed .ground .sound .numbers) (listed g) (piecesFor (s .geometry .l)) (suc (s .number)) noneReached
       (λ k e. e) (λ q i u e. absurd (true≢false (sym e)))
-      (count-le (λ q. remaining q && ltb (t .number q) (suc (s .number))) (piecesFor (s .l))) p h r (given .settled .committed .ground .sound .from1 p h)
+      (count-le (λ q. remaining q && ltb (t .number q) (suc (s .number))) (piecesFor (s .geometry .l))) p h r (given .settled .committed .ground .sound .from1 p h)
       (let b = number-high p h in omega arith)
 
-  chain′ : (p : ℕ) → p < piecesFor (s .l) → Reached p
+  chain′ : (p : ℕ) → p < piecesFor (s .geometry .l) → Reached p
   chain′ p h =
       ⊎-elim (λ (e : plan g .written p ≡ true). written-reached p e)
       (λ (e : plan g .written p ≡ false).
@@ -386,9 +387,9 @@ module _ (g : Start) where
       (bool? (plan g .written p))
 
   -- What the image then says.
-  live′ : (p : ℕ) → p < piecesFor (s .l)
-      → (m : MapSector) × (imageView (s .n) (s .l) image′ (tables′ g .place p) ≡ some m) × (m .piece ≡ p) × (m .number ≡ tables′ g .number p)
-      × (m .entries ≡ pieceEntries (s .l) (tables′ g .entry) p)
+  live′ : (p : ℕ) → p < piecesFor (s .geometry .l)
+      → (m : MapSector) × (imageView (s .geometry) image′ (tables′ g .place p) ≡ some m) × (m .piece ≡ p) × (m .number ≡ tables′ g .number p)
+      × (m .entries ≡ pieceEntries (s .geometry .l) (tables′ g .entry) p)
   live′ p h =
       ⊎-elim (λ (e : plan g .written p ≡ true).
       (memberOf g p, view-written p e, member-piece g p, member-number g p ∙ sym (number-written g p e), member-entries g p))
@@ -397,10 +398,10 @@ module _ (g : Start) where
       (w .0, view-unwritten p h e ∙ w .1, w .2, w .3 ∙ sym (number-unwritten g p e), w .4 ∙ sym (entries-kept g p e)))
       (bool? (plan g .written p))
 
-  closes′ : (m : MapSector) → imageView (s .n) (s .l) image′ tail′ ≡ some m → m .closing ≡ true
+  closes′ : (m : MapSector) → imageView (s .geometry) image′ tail′ ≡ some m → m .closing ≡ true
   closes′ m e =
       let w = last-written in
-      let v = subst (λ (k : ℕ). imageView (s .n) (s .l) image′ k ≡ some (memberOf g (w .0))) (tail-place (w .0) (w .1) (w .2)) (view-written (w .0) (w .1)) in
+      let v = subst (λ (k : ℕ). imageView (s .geometry) image′ k ≡ some (memberOf g (w .0))) (tail-place (w .0) (w .1) (w .2)) (view-written (w .0) (w .1)) in
       let same : m ≡ memberOf g (w .0) = cc in
       ap (λ (x : MapSector). x .closing) same ∙ member-closing g (w .0) ∙ eq-eqb (suc (rank (plan g) (w .0))) (plan g .members) (sym (w .2))
 
@@ -414,7 +415,7 @@ module _ (g : Start) where
   Holds b =
       ((isEmpty (tables′ g .entry b) ≡ true) × (disk′ b ≡ blank))
       ⊎ ((isEmpty (tables′ g .entry b) ≡ false) × (restored (tables′ g .entry b) (image′ (sectorOf (tables′ g .entry b))) ≡ disk′ b)
-      × (imageView (s .n) (s .l) image′ (sectorOf (tables′ g .entry b)) ≡ none))
+      × (imageView (s .geometry) image′ (sectorOf (tables′ g .entry b)) ≡ none))
 
   named-holds : (i : ℕ) → i < length (change .blocks) → Holds (at (change .blocks) i)
   named-holds i h =
@@ -427,14 +428,14 @@ module _ (g : Start) where
         e .0,
         rw (e .1, stands, entry-named g i h, disk-named i h) (given .back i (at (plan g .places) i) z low high),
         rw (e .1)
-            (view-at (s .n) (s .l) image′ (at (plan g .places) i) (at-below g i (omega arith)) ∙ ap (decoded (s .n) (s .l)) stands
+            (view-at (s .geometry) image′ (at (plan g .places) i) (at-below g i (omega arith)) ∙ ap (decoded (s .geometry)) stands
             ∙ given .unsigned i z),
       ))
       (λ (z : change .dataSectors ≤ i).
       inl (ap isEmpty (entry-dropped g i z h), disk-named i h ∙ given .emptied i z h))
       (lt? i (change .dataSectors))
 
-  other-holds : (b : ℕ) → b < s .l → ((i : ℕ) → i < length (change .blocks) → at (change .blocks) i ≡ b → ⊥) → Holds b
+  other-holds : (b : ℕ) → b < s .geometry .l → ((i : ℕ) → i < length (change .blocks) → at (change .blocks) i ≡ b → ⊥) → Holds b
   other-holds b h f =
       let e = entry-other g b f in
       let d = disk-other b f in
@@ -445,14 +446,14 @@ module _ (g : Start) where
       inr (
         ap isEmpty e ∙ z,
         rw (e, same, d) (ground .full b h z),
-        rw e (view-same (s .n) (s .l) image′ image (sectorOf (t .entry b)) same ∙ ground .unsigned b h z),
+        rw e (view-same (s .geometry) image′ image (sectorOf (t .entry b)) same ∙ ground .unsigned b h z),
       ))
       (bool? (isEmpty (t .entry b)))
 
-  holds′ : (b : ℕ) → b < s .l → Holds b
+  holds′ : (b : ℕ) → b < s .geometry .l → Holds b
   holds′ b h = ⊎-elim (λ w. subst Holds (w .2) (named-holds (w .0) (w .1))) (λ w. other-holds b h w) (named? g b)
 
-  ground′ : Ground (s .n) (s .l) image′ (tables′ g) tail′ number′ disk′
+  ground′ : Ground (s .geometry) image′ (tables′ g) tail′ number′ disk′
   ground′ =
       let ground = given .settled .committed .ground in
       record {
@@ -475,7 +476,7 @@ module _ (g : Start) where
         used-all = used-exact g;
       }
 
-  above′ : (k : ℕ) (a : MapSector) → imageView (s .n) (s .l) image′ k ≡ some a → a .number ≤ number′
+  above′ : (k : ℕ) (a : MapSector) → imageView (s .geometry) image′ k ≡ some a → a .number ≤ number′
   above′ k a e =
       ⊎-elim (λ x. let o = old-number g k a x in omega arith)
       (λ x.
@@ -484,7 +485,7 @@ module _ (g : Start) where
       omega arith)
       (signed-cases g (commitStores s t (plan g) change) Any kinds k a e)
 
-  latest′ : (k : ℕ) (a : MapSector) → imageView (s .n) (s .l) image′ k ≡ some a → a .number ≤ number′ → a .number ≤ tables′ g .number (a .piece)
+  latest′ : (k : ℕ) (a : MapSector) → imageView (s .geometry) image′ k ≡ some a → a .number ≤ number′ → a .number ≤ tables′ g .number (a .piece)
   latest′ k a e h =
       ⊎-elim (λ x.
       let o = old-number g k a x in
@@ -499,7 +500,7 @@ module _ (g : Start) where
       (signed-cases g (commitStores s t (plan g) change) Any kinds k a e)
 
   -- Nothing is lost, and what was written is there.
-  pub whole-commit : Settled (s .n) (s .l) image′ (tables′ g) tail′ number′ disk′
+  pub whole-commit : Settled (s .geometry) image′ (tables′ g) tail′ number′ disk′
   whole-commit =
       record {
         committed = record {

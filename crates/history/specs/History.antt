@@ -5,8 +5,10 @@ use mathlib.Core.Bool.{Bool, true, false, cond}
 use mathlib.Core.List.{List, [], _∷_}
 use mathlib.Core.Option.{some}
 use lib.ListN.{length}
+use Rattle.geometry.specs.declared.Geometry.{Geometry}
+use Rattle.geometry.specs.declared.Settings.{Settings}
 use Rattle.state.specs.declared.State.{State}
-use Rattle.geometry.specs.Geometry.{piecesFor}
+use Rattle.geometry.specs.Geometry.{piecesFor, settingsOf}
 use Rattle.answer.specs.Answer.{numberOf}
 use Rattle.layout.specs.Bounded.{at, elem, isZero, updates}
 use Rattle.layout.specs.MapSector.{MapSector, View}
@@ -18,7 +20,7 @@ use Rattle.volume.specs.Calls.{writeBy, dropBy, readOf, parkOf}
 use Rattle.volume.specs.Recover.{Finding, found, missing, imageView, newestClosing, closedUpTo, scanPlace, scannedLog, findingOf, recoverOf}
 
 -- A call of a list with all its arguments, right or wrong: head, block numbers, bytes and allowance; a read's own bytes.
--- Recover gets the L of the format.
+-- Recover gets the settings of the format.
 pub data Call : Type 0 where
   write : ℕ → List ℕ → List ℕ → ℕ → Call
   drop : ℕ → List ℕ → ℕ → Call
@@ -31,14 +33,14 @@ pub record World : Type 0 where
   pub state : State
   pub memory : Memory
 
-unfoldable pub made : Rules → ℕ → World → Call → After
-made rules l w (write head blocks bytes allowance) = writeBy rules (w .state) (w .memory) head blocks bytes allowance
-made rules l w (drop head blocks allowance) = dropBy rules (w .state) (w .memory) head blocks allowance
-made rules l w (read block out) =
+unfoldable pub made : Rules → Settings → World → Call → After
+made rules settings w (write head blocks bytes allowance) = writeBy rules (w .state) (w .memory) head blocks bytes allowance
+made rules settings w (drop head blocks allowance) = dropBy rules (w .state) (w .memory) head blocks allowance
+made rules settings w (read block out) =
     let r = readOf (w .state) (w .memory) block out in
     after (r .outcome) (r .memory)
-made rules l w (park allowance) = parkOf (w .state) (w .memory) allowance
-made rules l w (recover allowance) = recoverOf (w .state) (w .memory) l allowance
+made rules settings w (park allowance) = parkOf (w .state) (w .memory) allowance
+made rules settings w (recover allowance) = recoverOf (w .state) (w .memory) settings allowance
 
 abbrev pub worldOf : After → World
 worldOf a = record { state = a .outcome .state; memory = a .memory }
@@ -70,10 +72,10 @@ abbrev pub livePlace : ℕ → View → ℕ → ℕ
 livePlace n view = scanPlace n view (closedUpTo n view)
 
 -- Its live sectors: those, and the data sectors that their non-zero entries name.
-abbrev pub liveSectors : ℕ → ℕ → View → List ℕ
-liveSectors n l view =
-    let log = scannedLog n l view (closedUpTo n view) in
-    namedBy l (log .tables .entry) (log .tables .place)
+abbrev pub liveSectors : Geometry → View → List ℕ
+liveSectors g view =
+    let log = scannedLog g view (closedUpTo (g .n) view) in
+    namedBy (g .l) (log .tables .entry) (log .tables .place)
 
 -- The live map sector of a piece is reached from the tail, branch by branch to lower numbers, through live map sectors alone.
 pub data Reaches (view : View) (live : ℕ → ℕ) (pieces tail : ℕ) : ℕ → Type 0 where
@@ -84,50 +86,50 @@ pub data Reaches (view : View) (live : ℕ → ℕ) (pieces tail : ℕ) : ℕ �
 -- (b) "After each accepted commit the used map marks sector 0 and the live sectors and no other, so all it superseded is free;
 -- and from the tail, branch by branch to lower numbers, through live map sectors alone, each of them is reached." Live is what a
 -- scan of the image takes; a commit supersedes what is live before it and not after.
-pub record CommitKept (n l : ℕ) (before now : Memory) : Type 0 where
-  pub used : (k : ℕ) → now .tables .isUsed k ≡ usedBy (liveSectors n l (imageView n l (now .image))) k
-  pub freed : (k : ℕ) → elem k (liveSectors n l (imageView n l (before .image))) ≡ true
-      → elem k (liveSectors n l (imageView n l (now .image))) ≡ false → now .tables .isUsed k ≡ false
-  pub reached : (p : ℕ) → p < piecesFor l
-      → Reaches (imageView n l (now .image)) (livePlace n (imageView n l (now .image))) (piecesFor l) (newestClosing n (imageView n l (now .image))) p
+pub record CommitKept (g : Geometry) (before now : Memory) : Type 0 where
+  pub used : (k : ℕ) → now .tables .isUsed k ≡ usedBy (liveSectors g (imageView g (now .image))) k
+  pub freed : (k : ℕ) → elem k (liveSectors g (imageView g (before .image))) ≡ true
+      → elem k (liveSectors g (imageView g (now .image))) ≡ false → now .tables .isUsed k ≡ false
+  pub reached : (p : ℕ) → p < piecesFor (g .l)
+      → Reaches (imageView g (now .image)) (livePlace (g .n) (imageView g (now .image))) (piecesFor (g .l)) (newestClosing (g .n) (imageView g (now .image))) p
 
 -- What a call of a list keeps. (a) "An accepted read in the list gives its block as the plain disk then has it."
-unfoldable pub Kept : Rules → ℕ → ℕ → World → Disk → Call → Type 0
-Kept rules n l w disk (write head blocks bytes allowance) =
-    accepted (made rules l w (write head blocks bytes allowance)) ≡ true
-    → CommitKept n l (w .memory) (made rules l w (write head blocks bytes allowance) .memory)
-Kept rules n l w disk (drop head blocks allowance) =
-    accepted (made rules l w (drop head blocks allowance)) ≡ true
-    → CommitKept n l (w .memory) (made rules l w (drop head blocks allowance) .memory)
-Kept rules n l w disk (read block out) =
-    accepted (made rules l w (read block out)) ≡ true → readOf (w .state) (w .memory) block out .out ≡ disk block
-Kept rules n l w disk (park allowance) = Unit {0}
-Kept rules n l w disk (recover allowance) = Unit {0}
+unfoldable pub Kept : Rules → Geometry → World → Disk → Call → Type 0
+Kept rules g w disk (write head blocks bytes allowance) =
+    accepted (made rules (settingsOf g) w (write head blocks bytes allowance)) ≡ true
+    → CommitKept g (w .memory) (made rules (settingsOf g) w (write head blocks bytes allowance) .memory)
+Kept rules g w disk (drop head blocks allowance) =
+    accepted (made rules (settingsOf g) w (drop head blocks allowance)) ≡ true
+    → CommitKept g (w .memory) (made rules (settingsOf g) w (drop head blocks allowance) .memory)
+Kept rules g w disk (read block out) =
+    accepted (made rules (settingsOf g) w (read block out)) ≡ true → readOf (w .state) (w .memory) block out .out ≡ disk block
+Kept rules g w disk (park allowance) = Unit {0}
+Kept rules g w disk (recover allowance) = Unit {0}
 
 -- The list of stores of a recovery.
 unfoldable pub storesIn : Finding → List Store
 storesIn (found log answer stores) = stores
 storesIn (missing refusal) = []
 
-abbrev pub recoveryStores : ℕ → ℕ → (ℕ → List ℕ) → List Store
-recoveryStores n l image = storesIn (findingOf n l (imageView n l image) (image 0))
+abbrev pub recoveryStores : Geometry → (ℕ → List ℕ) → List Store
+recoveryStores g image = storesIn (findingOf g (imageView g image) (image 0))
 
 -- (c) "After the list, a recover of the image it left with that L, whatever tables and state then hold, ... with enough stores for
 -- its list, is accepted, and a read of each block below L, given what that recover left, gives the plain disk's."
-pub record Recovers (n l : ℕ) (m : Memory) (disk : Disk) : Type 0 where
-  pub accepts : (s : State) (t : Tables) (allowance : ℕ) → length (recoveryStores n l (m .image)) ≤ allowance
-      → accepted (recoverOf s (memoryWith m (m .image) t) l allowance) ≡ true
-  pub reads : (s : State) (t : Tables) (allowance : ℕ) → length (recoveryStores n l (m .image)) ≤ allowance
-      → (b : ℕ) (out : List ℕ) → b < l → length out ≡ 512
-      → (numberOf (readOf (recoverOf s (memoryWith m (m .image) t) l allowance .outcome .state)
-      (recoverOf s (memoryWith m (m .image) t) l allowance .memory) b out .outcome .answer) ≡ 0)
-      × (readOf (recoverOf s (memoryWith m (m .image) t) l allowance .outcome .state)
-      (recoverOf s (memoryWith m (m .image) t) l allowance .memory) b out .out ≡ disk b)
+pub record Recovers (g : Geometry) (m : Memory) (disk : Disk) : Type 0 where
+  pub accepts : (s : State) (t : Tables) (allowance : ℕ) → length (recoveryStores g (m .image)) ≤ allowance
+      → accepted (recoverOf s (memoryWith m (m .image) t) (settingsOf g) allowance) ≡ true
+  pub reads : (s : State) (t : Tables) (allowance : ℕ) → length (recoveryStores g (m .image)) ≤ allowance
+      → (b : ℕ) (out : List ℕ) → b < g .l → length out ≡ 512
+      → (numberOf (readOf (recoverOf s (memoryWith m (m .image) t) (settingsOf g) allowance .outcome .state)
+      (recoverOf s (memoryWith m (m .image) t) (settingsOf g) allowance .memory) b out .outcome .answer) ≡ 0)
+      × (readOf (recoverOf s (memoryWith m (m .image) t) (settingsOf g) allowance .outcome .state)
+      (recoverOf s (memoryWith m (m .image) t) (settingsOf g) allowance .memory) b out .out ≡ disk b)
 
 -- Demand 3 of a list of calls: each call gets what the last one left, refused and cut ones too, and keeps what it must; and what the
 -- list leaves recovers.
-unfoldable pub Faithful : Rules → ℕ → ℕ → List Call → World → Disk → Type 0
-Faithful rules n l [] w disk = Recovers n l (w .memory) disk
-Faithful rules n l (call ∷ calls) w disk =
-    Kept rules n l w disk call
-    × Faithful rules n l calls (worldOf (made rules l w call)) (diskAfter call (accepted (made rules l w call)) disk)
+unfoldable pub Faithful : Rules → Geometry → List Call → World → Disk → Type 0
+Faithful rules g [] w disk = Recovers g (w .memory) disk
+Faithful rules g (call ∷ calls) w disk =
+    Kept rules g w disk call
+    × Faithful rules g calls (worldOf (made rules (settingsOf g) w call)) (diskAfter call (accepted (made rules (settingsOf g) w call)) disk)

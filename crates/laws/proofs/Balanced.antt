@@ -7,7 +7,8 @@ use native.Mathlib.Omega.{arith}
 use lib.ListN.{length, drop, length-append}
 use lib.Seq.{sets, sets-eq, take-at, drop-at, take-append-seam}
 use Rattle.layout.specs.Word.{wordBytes, wordsOf, bytesOf, wordSum, balance, startsWith, balanced}
-use Rattle.laws.proofs.Words.{Words, words-cons, words-append, words-of-bytes, bytes-append, length-bytesOf}
+use Rattle.laws.proofs.Codec.{words-of-bytes}
+use Rattle.laws.proofs.Words.{Words, words-cons, words-append, all-words, bytes-append, length-bytesOf}
 use Rattle.laws.proofs.Sums.{sum-zero, sum-balance}
 use Rattle.laws.proofs.Lists.{same-is}
 use Rattle.laws.proofs.Runs.{sets-append, sets-whole}
@@ -48,7 +49,7 @@ pub balanced-is : (mark ws : List ℕ) → length mark ≡ 4 → Words ws
 unfolding balanced bytesOf
 balanced-is mark ws long h =
     let words : wordsOf (mark ++ bytesOf (0 ∷ ws)) ≡ wordsOf mark ++ (0 ∷ ws) =
-    words-append 1 mark (bytesOf (0 ∷ ws)) long ∙ ap (λ (l : List ℕ). wordsOf mark ++ l) (words-of-bytes (0 ∷ ws) (words-cons 0 ws (omega arith) h)) in
+    words-append 1 mark (bytesOf (0 ∷ ws)) long ∙ ap (λ (l : List ℕ). wordsOf mark ++ l) (words-of-bytes (0 ∷ ws) (all-words (0 ∷ ws) (words-cons 0 ws (omega arith) h))) in
     rw (words, sum-zero) (second mark (wordBytes 0) (wordBytes (balance (wordSum (wordsOf mark ++ ws)))) (bytesOf ws) long refl refl)
 
 -- The words are laid, and the balance is put in.
@@ -74,7 +75,7 @@ module _ (mark ws : List ℕ) (long : length mark ≡ 4) where
   unfolding balanced
   balanced-words h =
       let b : ℕ = balance (wordSum (wordsOf mark ++ ws)) in
-      words-append 1 mark (bytesOf (b ∷ ws)) long ∙ ap (λ (l : List ℕ). wordsOf mark ++ l) (words-of-bytes (b ∷ ws) (words-cons b ws (omega arith) h))
+      words-append 1 mark (bytesOf (b ∷ ws)) long ∙ ap (λ (l : List ℕ). wordsOf mark ++ l) (words-of-bytes (b ∷ ws) (all-words (b ∷ ws) (words-cons b ws (omega arith) h)))
 
   pub balanced-sum : Words ws → wordSum (wordsOf (balanced mark ws)) ≡ 0
   balanced-sum h = ap wordSum (balanced-words h) ∙ sum-balance (wordsOf mark) ws

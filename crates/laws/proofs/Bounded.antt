@@ -1,15 +1,17 @@
 -- Laws of the tests, counts, searches and lists of `specs/Bounded`.
 use Prim.Native.Nat.{ℕ, zero, suc, _+_, _≤_, _<_}
-use mathlib.Core.Path.{_≡_, refl, sym, _∙_, ap, subst}
+use mathlib.Core.Path.{_≡_, refl, sym, _∙_, ap, subst, fun-ext}
 use mathlib.Core.Logic.{_⊎_, inl, inr, ⊎-elim}
 use mathlib.Core.Bool.{Bool, true, false, cond, not, _&&_, _||_, true≢false}
 use mathlib.Core.List.{List, [], _∷_}
 use native.Mathlib.Nat.{le-of-suc-le-suc, not-suc-le-zero, eq-or-lt-of-le}
 use native.Mathlib.Omega.{arith}
-use lib.ListN.{length, getD}
+use lib.ListN.{length, getD, set}
+use lib.Seq.{getD-set-same, getD-set-other}
+use lib.ListN.{List·getD-eq-default}
 use lib.Dec.{ltb, eqb}
 use borrow.Author.Tests.{ltb-true, ltb-false, eqb-true, eqb-false, eq-eqb, ne-eqb}
-use Rattle.layout.specs.Bounded.{allBelow, anyBelow, countBelow, best, all, elem, distinct, gathered, listFrom, tabled, updated, updates}
+use Rattle.layout.specs.Bounded.{at, allBelow, anyBelow, countBelow, best, all, elem, distinct, gathered, listFrom, tabled, updated, updates}
 
 -- Deciding.
 
@@ -490,3 +492,20 @@ all-elem check [] k a e = absurd (true≢false (sym e))
 all-elem check (x ∷ xs) k a e =
     ⊎-elim (λ (z : k ≡ x). ap check z ∙ and-l (check x) (all check xs) a)
     (λ (z : elem k xs ≡ true). all-elem check xs k (and-r (check x) (all check xs) a) z) (elem-cons k x xs e)
+
+pub all-at : (check : ℕ → Bool) (xs : List ℕ) (i : ℕ) → all check xs ≡ true → i < length xs → check (at xs i) ≡ true
+unfolding all
+all-at check [] i e h = absurd (not-suc-le-zero h)
+all-at check (x ∷ xs) zero e h = and-l (check x) (all check xs) e
+all-at check (x ∷ xs) (suc i) e h = all-at check xs i (and-r (check x) (all check xs) e) (le-of-suc-le-suc h)
+
+-- A list with one number changed, as a function.
+pub at-set : (xs : List ℕ) (i v : ℕ) → i < length xs → at (set xs i v) ≡ updated (at xs) i v
+at-set xs i v h =
+    fun-ext (λ k.
+    ⊎-elim (λ (e : k ≡ i). ap (λ (x : ℕ). getD (set xs i v) x 0) e ∙ getD-set-same xs i v 0 h ∙ rw (eq-eqb k i e) refl)
+    (λ (d : k ≡ i → ⊥). getD-set-other xs i k v 0 d ∙ rw (ne-eqb k i d) refl) (eq? k i))
+
+-- Past the end stands 0.
+pub past-end : (xs : List ℕ) (i : ℕ) → length xs ≤ i → 0 ≡ at xs i
+past-end xs i h = sym (List·getD-eq-default xs 0 {n = i} h)

@@ -12,6 +12,7 @@ use lib.ListN.{length, take, drop, replicate, length-append, length-replicate}
 use lib.Seq.{take-append-seam, drop-append-seam, take-at, drop-at}
 use lib.Dec.{leb, ltb, eqb}
 use borrow.Author.Tests.{ltb-true, lt-ltb, le-leb, lt-leb, leb-true, eq-eqb, ne-eqb, eqb-true}
+use Rattle.geometry.specs.declared.Geometry.{Geometry}
 use Rattle.geometry.specs.Geometry.{within, piecesFor, branchRoom}
 use Rattle.layout.specs.Bounded.{all, same, isZero}
 use Rattle.layout.specs.Word.{word, wordsOf, bytesOf, wordSum, balance, startsWith, balanced}
@@ -67,17 +68,17 @@ all-replicate test zero x e = refl
 all-replicate test (suc n) x e = and-i (test x) (all test (replicate n x)) e (all-replicate test n x e)
 
 -- A map sector that a volume of N sectors and L blocks can hold.
-pub record WellFormed (n l : ℕ) (m : MapSector) : Type 0 where
-  pub sectors : n ≤ 65536
-  pub blocks : l < 2 ^ 32
+pub record WellFormed (g : Geometry) (m : MapSector) : Type 0 where
+  pub sectors : g .n ≤ 65536
+  pub blocks : g .l < 2 ^ 32
   pub low : 1 ≤ m .number
   pub high : m .number < 2 ^ 32
-  pub piece : m .piece < piecesFor l
+  pub piece : m .piece < piecesFor (g .l)
   pub few : length (m .branches) ≤ branchRoom
-  pub branches : all (within 1 (n - 1)) (m .branches) ≡ true
+  pub branches : all (within 1 (g .n - 1)) (m .branches) ≡ true
   pub count : length (m .entries) ≡ 96
   pub entries : all isWord (m .entries) ≡ true
-  pub past : all isZero (drop (l - 96 * m .piece) (m .entries)) ≡ true
+  pub past : all isZero (drop (g .l - 96 * m .piece) (m .entries)) ≡ true
 
 abbrev markWord : ℕ
 markWord = 0x314D4C56
@@ -92,8 +93,8 @@ kind-small : (c : Bool) → (kindOf c ≤ 1) × (eqb (kindOf c) 1 ≡ c)
 kind-small true = (omega arith, refl)
 kind-small false = (omega arith, refl)
 
-module _ (n l : ℕ) (m : MapSector) (ok : WellFormed n l m) where
-  body-words : all isWord (body l m) ≡ true
+module _ (g : Geometry) (m : MapSector) (ok : WellFormed g m) where
+  body-words : all isWord (body (g .l) m) ≡ true
   unfolding all body
   body-words =
       let k = kind-small (m .closing) .0 in
@@ -101,13 +102,13 @@ module _ (n l : ℕ) (m : MapSector) (ok : WellFormed n l m) where
       let p = lt-ltb (m .piece) (2 ^ 32) (let h = ok .piece in let b = ok .blocks in omega arith) in
       let c = lt-ltb (kindOf (m .closing)) (2 ^ 32) (omega arith) in
       let f = lt-ltb (length (m .branches)) (2 ^ 32) (let h = ok .few in omega arith) in
-      let b = lt-ltb l (2 ^ 32) (ok .blocks) in
+      let b = lt-ltb (g .l) (2 ^ 32) (ok .blocks) in
       rw (w, p, c, f, b)
       (all-append isWord (m .branches) (replicate (branchRoom - length (m .branches)) 0 ++ m .entries)
-      (all-implies (within 1 (n - 1)) isWord (m .branches)
+      (all-implies (within 1 (g .n - 1)) isWord (m .branches)
       (λ x h.
       let s = ok .sectors in
-      let t = leb-true x (n - 1) (and-r (leb 1 x) (leb x (n - 1)) h) in
+      let t = leb-true x (g .n - 1) (and-r (leb 1 x) (leb x (g .n - 1)) h) in
       lt-ltb x (2 ^ 32) (omega arith))
       (ok .branches))
       (all-append isWord (replicate (branchRoom - length (m .branches)) 0) (m .entries)
@@ -117,14 +118,14 @@ module _ (n l : ℕ) (m : MapSector) (ok : WellFormed n l m) where
   padded = let h = ok .few in simp (length-append, length-replicate) (omega arith)
 
   weight : ℕ
-  weight = balance (wordSum (markWord ∷ body l m))
+  weight = balance (wordSum (markWord ∷ body (g .l) m))
 
-  sector-words : wordsOf (encoded l m) ≡ markWord ∷ weight ∷ body l m
+  sector-words : wordsOf (encoded (g .l) m) ≡ markWord ∷ weight ∷ body (g .l) m
   unfolding encoded balanced wordsOf bytesOf body weight all
   sector-words =
       ap (λ (ws : List ℕ). markWord ∷ ws)
-      (words-of-bytes (weight ∷ body l m)
-      (and-i (isWord weight) (all isWord (body l m)) (lt-ltb weight (2 ^ 32) (omega arith)) body-words))
+      (words-of-bytes (weight ∷ body (g .l) m)
+      (and-i (isWord weight) (all isWord (body (g .l) m)) (lt-ltb weight (2 ^ 32) (omega arith)) body-words))
 
   branch-words : take branchRoom (m .branches ++ (replicate (branchRoom - length (m .branches)) 0 ++ m .entries))
       ≡ m .branches ++ replicate (branchRoom - length (m .branches)) 0
@@ -137,11 +138,11 @@ module _ (n l : ℕ) (m : MapSector) (ok : WellFormed n l m) where
       ap (drop branchRoom) (sym (append-assoc (m .branches) (replicate (branchRoom - length (m .branches)) 0) (m .entries)))
       ∙ drop-at (m .branches ++ replicate (branchRoom - length (m .branches)) 0) (m .entries) branchRoom padded
 
-  starts : startsWith mapMark (encoded l m) ≡ true
+  starts : startsWith mapMark (encoded (g .l) m) ≡ true
   unfolding encoded balanced startsWith same
   starts = refl
 
-  branches-fit : branchesFit n (length (m .branches)) (m .branches ++ replicate (branchRoom - length (m .branches)) 0) ≡ true
+  branches-fit : branchesFit (g .n) (length (m .branches)) (m .branches ++ replicate (branchRoom - length (m .branches)) 0) ≡ true
   unfolding branchesFit
   branches-fit =
       rw (
@@ -151,25 +152,25 @@ module _ (n l : ℕ) (m : MapSector) (ok : WellFormed n l m) where
       )
       (all-replicate isZero (branchRoom - length (m .branches)) 0 refl)
 
-  sector-valid : valid n l (encoded l m) (markWord ∷ weight ∷ body l m) ≡ true
+  sector-valid : valid g (encoded (g .l) m) (markWord ∷ weight ∷ body (g .l) m) ≡ true
   unfolding valid body weight
   sector-valid =
       let k = kind-small (m .closing) .0 in
       rw (
         starts,
-        eq-eqb (wordSum (markWord ∷ weight ∷ body l m)) 0 (balance-sums markWord (body l m)),
+        eq-eqb (wordSum (markWord ∷ weight ∷ body (g .l) m)) 0 (balance-sums markWord (body (g .l) m)),
         le-leb 1 (m .number) (ok .low),
-        lt-ltb (m .piece) (piecesFor l) (ok .piece),
+        lt-ltb (m .piece) (piecesFor (g .l)) (ok .piece),
         le-leb (kindOf (m .closing)) 1 k,
         le-leb (length (m .branches)) branchRoom (ok .few),
-        eq-eqb l l refl,
+        eq-eqb (g .l) (g .l) refl,
         branch-words,
         branches-fit,
         entry-words,
       )
       (ok .past)
 
-  sector-fields : fields (markWord ∷ weight ∷ body l m) ≡ m
+  sector-fields : fields (markWord ∷ weight ∷ body (g .l) m) ≡ m
   unfolding body
   sector-fields = λ i.
       record {
@@ -183,27 +184,27 @@ module _ (n l : ℕ) (m : MapSector) (ok : WellFormed n l m) where
       }
 
   -- A map sector that was made is signed, and says what it was made of.
-  pub decoded-encoded : decoded n l (encoded l m) ≡ some m
+  pub decoded-encoded : decoded g (encoded (g .l) m) ≡ some m
   unfolding decoded
   decoded-encoded =
       rw (
         sector-words,
-        cond-true (valid n l (encoded l m) (markWord ∷ weight ∷ body l m)) (some (fields (markWord ∷ weight ∷ body l m))) none sector-valid,
+        cond-true (valid g (encoded (g .l) m) (markWord ∷ weight ∷ body (g .l) m)) (some (fields (markWord ∷ weight ∷ body (g .l) m))) none sector-valid,
       )
       (ap some sector-fields)
 
 -- What does not begin with the mark is not signed.
-pub unmarked : (n l : ℕ) (bytes : List ℕ) → startsWith mapMark bytes ≡ false → decoded n l bytes ≡ none
+pub unmarked : (g : Geometry) (bytes : List ℕ) → startsWith mapMark bytes ≡ false → decoded g bytes ≡ none
 unfolding decoded valid
-unmarked n l bytes e = rw e refl
+unmarked g bytes e = rw e refl
 
-pub blank-unsigned : (n l : ℕ) → decoded n l blank ≡ none
+pub blank-unsigned : (g : Geometry) → decoded g blank ≡ none
 unfolding startsWith same
-blank-unsigned n l = unmarked n l blank refl
+blank-unsigned g = unmarked g blank refl
 
-pub park-unsigned : (n l : ℕ) (p : Parked) → decoded n l (parkRecord p) ≡ none
+pub park-unsigned : (g : Geometry) (p : Parked) → decoded g (parkRecord p) ≡ none
 unfolding startsWith same parkRecord balanced
-park-unsigned n l p = unmarked n l (parkRecord p) refl
+park-unsigned g p = unmarked g (parkRecord p) refl
 
 first-byte : (b : ℕ) (bs : List ℕ) → needsFlip (b ∷ bs) ≡ true → b ≡ 0x56
 unfolding needsFlip startsWith same
@@ -214,13 +215,13 @@ unfolding startsWith same complemented
 flip-unmarked [] e = refl
 flip-unmarked (b ∷ bs) e = rw (first-byte b bs e) refl
 
-pub stored-unsigned : (n l : ℕ) (block : List ℕ) → decoded n l (stored block) ≡ none
+pub stored-unsigned : (g : Geometry) (block : List ℕ) → decoded g (stored block) ≡ none
 unfolding stored needsFlip
-stored-unsigned n l block =
+stored-unsigned g block =
     ⊎-elim (λ (z : needsFlip block ≡ true).
-    unmarked n l (stored block) (rw (cond-true (needsFlip block) (complemented block) block z) (flip-unmarked block z)))
+    unmarked g (stored block) (rw (cond-true (needsFlip block) (complemented block) block z) (flip-unmarked block z)))
     (λ (z : needsFlip block ≡ false).
-    unmarked n l (stored block) (rw (cond-false (needsFlip block) (complemented block) block z) z))
+    unmarked g (stored block) (rw (cond-false (needsFlip block) (complemented block) block z) z))
     (bool? (needsFlip block))
 
 flip-back : (block : List ℕ) → needsFlip block ≡ true → complemented (complemented block) ≡ block

@@ -14,3 +14,4 @@ pub mod Placing
 pub mod Stores
 pub mod Sizes
 pub mod Judged
+pub mod CommitPassed

@@ -7,6 +7,7 @@ use mathlib.Core.List.{List, []}
 use native.Mathlib.Omega.{arith}
 use lib.Dec.{leb, eqb}
 use borrow.Author.Tests.{leb-true, le-leb, eqb-true, eq-eqb}
+use Rattle.geometry.specs.declared.Geometry.{Geometry}
 use Rattle.geometry.specs.Geometry.{within, piecesFor, usedBytes}
 use Rattle.layout.specs.Bounded.{always, allBelow, best, all, elem, distinct, gathered}
 use Rattle.layout.specs.Entry.{isEmpty, sectorOf}
@@ -111,17 +112,17 @@ module _ (l : ℕ) (entry place : ℕ → ℕ) where
       (λ b h e. f (block b) (h, not-of (isEmpty (entry b)) e))
 
 -- Sound tables, as facts.
-pub record Sound (n l : ℕ) (t : Tables) (tail number : ℕ) : Type 0 where
-  pub low : (x : Name) → Named l (t .entry) (t .place) x → 1 ≤ sectorNamed l (t .entry) (t .place) x
-  pub high : (x : Name) → Named l (t .entry) (t .place) x → sectorNamed l (t .entry) (t .place) x ≤ n - 1
-  pub once : (x y : Name) → Named l (t .entry) (t .place) x → Named l (t .entry) (t .place) y
-      → sectorNamed l (t .entry) (t .place) x ≡ sectorNamed l (t .entry) (t .place) y → x ≡ y
-  pub used : (k : ℕ) → k < 8 * usedBytes n → t .isUsed k ≡ usedBy (namedBy l (t .entry) (t .place)) k
-  pub room : piecesFor l ≤ freeSectors n (t .isUsed)
-  pub numbers : (p q : ℕ) → p < piecesFor l → q < piecesFor l → t .number p ≡ t .number q → p ≡ q
-  pub from1 : (p : ℕ) → p < piecesFor l → 1 ≤ t .number p
-  pub tail-is : tail ≡ t .place (best (t .number) (piecesFor l))
-  pub number-is : number ≡ t .number (best (t .number) (piecesFor l))
+pub record Sound (g : Geometry) (t : Tables) (tail number : ℕ) : Type 0 where
+  pub low : (x : Name) → Named (g .l) (t .entry) (t .place) x → 1 ≤ sectorNamed (g .l) (t .entry) (t .place) x
+  pub high : (x : Name) → Named (g .l) (t .entry) (t .place) x → sectorNamed (g .l) (t .entry) (t .place) x ≤ g .n - 1
+  pub once : (x y : Name) → Named (g .l) (t .entry) (t .place) x → Named (g .l) (t .entry) (t .place) y
+      → sectorNamed (g .l) (t .entry) (t .place) x ≡ sectorNamed (g .l) (t .entry) (t .place) y → x ≡ y
+  pub used : (k : ℕ) → k < 8 * usedBytes (g .n) → t .isUsed k ≡ usedBy (namedBy (g .l) (t .entry) (t .place)) k
+  pub room : piecesFor (g .l) ≤ freeSectors (g .n) (t .isUsed)
+  pub numbers : (p q : ℕ) → p < piecesFor (g .l) → q < piecesFor (g .l) → t .number p ≡ t .number q → p ≡ q
+  pub from1 : (p : ℕ) → p < piecesFor (g .l) → 1 ≤ t .number p
+  pub tail-is : tail ≡ t .place (best (t .number) (piecesFor (g .l)))
+  pub number-is : number ≡ t .number (best (t .number) (piecesFor (g .l)))
 
 pub beq-true : (a b : Bool) → Bool·beq a b ≡ true → a ≡ b
 beq-true true true e = refl
@@ -144,32 +145,32 @@ within-high low high x e = leb-true x high (and-r (leb low x) (leb x high) e)
 pub within-is : (low high x : ℕ) → low ≤ x → x ≤ high → within low high x ≡ true
 within-is low high x a b = and-i (leb low x) (leb x high) (le-leb low x a) (le-leb x high b)
 
-module _ (n l : ℕ) (t : Tables) (tail number : ℕ) where
+module _ (g : Geometry) (t : Tables) (tail number : ℕ) where
   c1 : Bool
-  c1 = all (within 1 (n - 1)) (namedBy l (t .entry) (t .place))
+  c1 = all (within 1 (g .n - 1)) (namedBy (g .l) (t .entry) (t .place))
 
   c2 : Bool
-  c2 = distinct (namedBy l (t .entry) (t .place))
+  c2 = distinct (namedBy (g .l) (t .entry) (t .place))
 
   c3 : Bool
-  c3 = allBelow (λ k. Bool·beq (t .isUsed k) (usedBy (namedBy l (t .entry) (t .place)) k)) (8 * usedBytes n)
+  c3 = allBelow (λ k. Bool·beq (t .isUsed k) (usedBy (namedBy (g .l) (t .entry) (t .place)) k)) (8 * usedBytes (g .n))
 
   c4 : Bool
-  c4 = leb (piecesFor l) (freeSectors n (t .isUsed))
+  c4 = leb (piecesFor (g .l)) (freeSectors (g .n) (t .isUsed))
 
   c5 : Bool
-  c5 = distinct (gathered always (t .number) [] (piecesFor l))
+  c5 = distinct (gathered always (t .number) [] (piecesFor (g .l)))
 
   c6 : Bool
-  c6 = allBelow (λ q. leb 1 (t .number q)) (piecesFor l)
+  c6 = allBelow (λ q. leb 1 (t .number q)) (piecesFor (g .l))
 
   c7 : Bool
-  c7 = eqb tail (t .place (best (t .number) (piecesFor l)))
+  c7 = eqb tail (t .place (best (t .number) (piecesFor (g .l))))
 
   c8 : Bool
-  c8 = eqb number (t .number (best (t .number) (piecesFor l)))
+  c8 = eqb number (t .number (best (t .number) (piecesFor (g .l))))
 
-  pub sound : consistent n l t tail number ≡ true → Sound n l t tail number
+  pub sound : consistent g t tail number ≡ true → Sound g t tail number
   unfolding consistent c1 c2 c3 c4 c5 c6 c7 c8
   sound e =
       let e7 = and-l (c1 && c2 && c3 && c4 && c5 && c6 && c7) c8 e in
@@ -180,29 +181,29 @@ module _ (n l : ℕ) (t : Tables) (tail number : ℕ) where
       let e2 = and-l (c1 && c2) c3 e3 in
       let range = and-l c1 c2 e2 in
       record {
-        low = λ x h. within-low 1 (n - 1) _ (all-elem (within 1 (n - 1)) (namedBy l (t .entry) (t .place)) _ range (named-elem l (t .entry) (t .place) x h));
-        high = λ x h. within-high 1 (n - 1) _ (all-elem (within 1 (n - 1)) (namedBy l (t .entry) (t .place)) _ range (named-elem l (t .entry) (t .place) x h));
-        once = named-once l (t .entry) (t .place) (and-r c1 c2 e2);
-        used = λ k h. beq-true (t .isUsed k) _ (allBelow-at _ (8 * usedBytes n) (and-r (c1 && c2) c3 e3) k h);
-        room = leb-true (piecesFor l) _ (and-r (c1 && c2 && c3) c4 e4);
-        numbers = λ p q h g. gathered-same always (t .number) [] (piecesFor l) (and-r (c1 && c2 && c3 && c4) c5 e5) p q h g refl refl;
-        from1 = λ p h. leb-true 1 _ (allBelow-at (λ q. leb 1 (t .number q)) (piecesFor l) (and-r (c1 && c2 && c3 && c4 && c5) c6 e6) p h);
+        low = λ x h. within-low 1 (g .n - 1) _ (all-elem (within 1 (g .n - 1)) (namedBy (g .l) (t .entry) (t .place)) _ range (named-elem (g .l) (t .entry) (t .place) x h));
+        high = λ x h. within-high 1 (g .n - 1) _ (all-elem (within 1 (g .n - 1)) (namedBy (g .l) (t .entry) (t .place)) _ range (named-elem (g .l) (t .entry) (t .place) x h));
+        once = named-once (g .l) (t .entry) (t .place) (and-r c1 c2 e2);
+        used = λ k h. beq-true (t .isUsed k) _ (allBelow-at _ (8 * usedBytes (g .n)) (and-r (c1 && c2) c3 e3) k h);
+        room = leb-true (piecesFor (g .l)) _ (and-r (c1 && c2 && c3) c4 e4);
+        numbers = λ p q h u. gathered-same always (t .number) [] (piecesFor (g .l)) (and-r (c1 && c2 && c3 && c4) c5 e5) p q h u refl refl;
+        from1 = λ p h. leb-true 1 _ (allBelow-at (λ q. leb 1 (t .number q)) (piecesFor (g .l)) (and-r (c1 && c2 && c3 && c4 && c5) c6 e6) p h);
         tail-is = eqb-true tail _ (and-r (c1 && c2 && c3 && c4 && c5 && c6) c7 e7);
         number-is = eqb-true number _ (and-r (c1 && c2 && c3 && c4 && c5 && c6 && c7) c8 e);
       }
 
-  pub sound-consistent : Sound n l t tail number → consistent n l t tail number ≡ true
+  pub sound-consistent : Sound g t tail number → consistent g t tail number ≡ true
   unfolding consistent c1 c2 c3 c4 c5 c6 c7 c8 elem distinct
   sound-consistent s =
-      let r1 = named-all l (t .entry) (t .place) (within 1 (n - 1)) (λ x h. within-is 1 (n - 1) _ (s .low x h) (s .high x h)) in
-      let r2 = named-distinct l (t .entry) (t .place) (s .once) in
-      let r3 = allBelow-is (λ k. Bool·beq (t .isUsed k) (usedBy (namedBy l (t .entry) (t .place)) k)) (8 * usedBytes n)
+      let r1 = named-all (g .l) (t .entry) (t .place) (within 1 (g .n - 1)) (λ x h. within-is 1 (g .n - 1) _ (s .low x h) (s .high x h)) in
+      let r2 = named-distinct (g .l) (t .entry) (t .place) (s .once) in
+      let r3 = allBelow-is (λ k. Bool·beq (t .isUsed k) (usedBy (namedBy (g .l) (t .entry) (t .place)) k)) (8 * usedBytes (g .n))
       (λ k h. true-beq (t .isUsed k) _ (s .used k h)) in
-      let r4 = le-leb (piecesFor l) (freeSectors n (t .isUsed)) (s .room) in
-      let r5 = gathered-distinct always (t .number) [] (piecesFor l) refl (λ i h e. refl) (λ i j h g e e′ q. s .numbers i j h g q) in
-      let r6 = allBelow-is (λ q. leb 1 (t .number q)) (piecesFor l) (λ q h. le-leb 1 _ (s .from1 q h)) in
-      let r7 = eq-eqb tail (t .place (best (t .number) (piecesFor l))) (s .tail-is) in
-      let r8 = eq-eqb number (t .number (best (t .number) (piecesFor l))) (s .number-is) in
+      let r4 = le-leb (piecesFor (g .l)) (freeSectors (g .n) (t .isUsed)) (s .room) in
+      let r5 = gathered-distinct always (t .number) [] (piecesFor (g .l)) refl (λ i h e. refl) (λ i j h u e e′ q. s .numbers i j h u q) in
+      let r6 = allBelow-is (λ q. leb 1 (t .number q)) (piecesFor (g .l)) (λ q h. le-leb 1 _ (s .from1 q h)) in
+      let r7 = eq-eqb tail (t .place (best (t .number) (piecesFor (g .l)))) (s .tail-is) in
+      let r8 = eq-eqb number (t .number (best (t .number) (piecesFor (g .l)))) (s .number-is) in
       and-i (c1 && c2 && c3 && c4 && c5 && c6 && c7) c8
       (and-i (c1 && c2 && c3 && c4 && c5 && c6) c7
       (and-i (c1 && c2 && c3 && c4 && c5) c6

@@ -1,14 +1,16 @@
 -- Words and bytes: where a word's bytes stand, what is made of bytes that words gave, and lengths.
 use Prim.Native.Nat.{ℕ, zero, suc, _+_, _*_, _/_, _^_, _≤_, _<_}
 use mathlib.Core.Path.{_≡_, refl, sym, ap, _∙_}
+use mathlib.Core.Bool.{true}
 use mathlib.Core.List.{List, [], _∷_, _++_}
 use native.Mathlib.Omega.{arith}
 use native.Mathlib.Numerals.{add-one}
 use lib.ListN.{length, take, replicate, length-replicate, replicate-append-replicate}
 use lib.Seq.{sets, take-suc, length-take-le}
-use Rattle.layout.specs.Bounded.{at}
+use borrow.Author.Tests.{lt-ltb}
+use Rattle.layout.specs.Bounded.{at, all}
 use Rattle.layout.specs.Word.{word, wordBytes, wordsOf, bytesOf}
-use Rattle.laws.proofs.Codec.{word-bytes}
+use Rattle.laws.proofs.Codec.{isWord}
 use Rattle.laws.proofs.Runs.{sets-append}
 
 -- Every number of the list is a byte, or a word. (Past the end stands 0.)
@@ -61,10 +63,10 @@ length-wordsOf (a ∷ b ∷ []) = refl
 length-wordsOf (a ∷ b ∷ c ∷ []) = refl
 length-wordsOf (a ∷ b ∷ c ∷ d ∷ bs) = let e : length (wordsOf bs) ≡ length bs / 4 = length-wordsOf bs in omega arith
 
-pub words-of-bytes : (ws : List ℕ) → Words ws → wordsOf (bytesOf ws) ≡ ws
-unfolding bytesOf wordsOf
-words-of-bytes [] h = refl
-words-of-bytes (w ∷ ws) h = rw (word-bytes w (h 0), words-of-bytes ws (λ i. h (suc i)))
+pub all-words : (ws : List ℕ) → Words ws → all isWord ws ≡ true
+unfolding all
+all-words [] h = refl
+all-words (w ∷ ws) h = rw (lt-ltb w (2 ^ 32) (h 0), all-words ws (λ i. h (suc i))) refl
 
 pub bytes-append : (xs ys : List ℕ) → bytesOf (xs ++ ys) ≡ bytesOf xs ++ bytesOf ys
 unfolding bytesOf

@@ -7,6 +7,7 @@ use mathlib.Core.List.{List, [], _∷_, map}
 use mathlib.Core.Option.{Option, none, some}
 use lib.ListN.{replicate, set, take}
 use lib.Dec.{eqb}
+use Rattle.geometry.proofs.Sized.{sized}
 use Rattle.layout.specs.Bounded.{all, same}
 use Rattle.layout.specs.Word.{wordsOf, bytesOf, wordSum, startsWith, balanced}
 use Rattle.layout.specs.MapSector.{MapSector, encoded, branchesFit, valid, decoded}
@@ -39,7 +40,7 @@ isSigned (some m) = true
 
 alteredGives : Altered → Bool
 unfolding all same wordsOf bytesOf wordSum startsWith balanced encoded branchesFit valid decoded altered signed isSigned
-alteredGives a = isSigned (decoded 12 200 (altered (signed 5 2 true (7 ∷ [])) a))
+alteredGives a = isSigned (decoded (sized 12 200) (altered (signed 5 2 true (7 ∷ [])) a))
 
 alterations : List Altered
 alterations =

@@ -6,6 +6,7 @@ use mathlib.Core.Option.{Option, none, some}
 use lib.ListN.{length, take, drop, replicate}
 use lib.Dec.{eqb, leb, ltb}
 use Rattle.layout.specs.Bounded.{at, all, isZero}
+use Rattle.geometry.specs.declared.Geometry.{Geometry}
 use Rattle.geometry.specs.Geometry.{within, piecesFor, entriesPerPiece, branchRoom}
 use Rattle.layout.specs.Word.{wordsOf, wordSum, startsWith, balanced}
 
@@ -43,18 +44,18 @@ unfoldable pub branchesFit : ℕ → ℕ → List ℕ → Bool
 branchesFit n count branches = all (within 1 (n - 1)) (take count branches) && all isZero (drop count branches)
 
 -- Signed: the mark, the sum, and every word as the layout says; in a volume of N sectors and L blocks.
-unfoldable pub valid : ℕ → ℕ → List ℕ → List ℕ → Bool
-valid n l bytes ws =
+unfoldable pub valid : Geometry → List ℕ → List ℕ → Bool
+valid g bytes ws =
     startsWith mapMark bytes
     && isZero (wordSum ws)
     && leb 1 (at ws 2)
     && isZero (at ws 3)
-    && ltb (at ws 4) (piecesFor l)
+    && ltb (at ws 4) (piecesFor (g .l))
     && leb (at ws 5) 1
     && leb (at ws 6) branchRoom
-    && eqb (at ws 7) l
-    && branchesFit n (at ws 6) (branchWords ws)
-    && all isZero (drop (l - entriesPerPiece * at ws 4) (entryWords ws))
+    && eqb (at ws 7) (g .l)
+    && branchesFit (g .n) (at ws 6) (branchWords ws)
+    && all isZero (drop (g .l - entriesPerPiece * at ws 4) (entryWords ws))
 
 abbrev pub fields : List ℕ → MapSector
 fields ws =
@@ -67,11 +68,11 @@ fields ws =
     }
 
 -- What a sector says where it is signed, and nothing where it is not.
-unfoldable pub decoded : ℕ → ℕ → List ℕ → Option MapSector
-decoded n l bytes =
+unfoldable pub decoded : Geometry → List ℕ → Option MapSector
+decoded g bytes =
     let ws = wordsOf bytes in
     let found = some (fields ws) in
-    cond (valid n l bytes ws) found none
+    cond (valid g bytes ws) found none
 
 -- A volume's sectors as map sectors.
 abbrev pub View : Type 0

@@ -4,13 +4,14 @@ use mathlib.Core.Path.{_≡_, refl, sym, _∙_, ap, fun-ext, subst}
 use mathlib.Core.Logic.{⊎-elim}
 use mathlib.Core.Bool.{Bool, true, false, cond, not, _&&_, _||_}
 use mathlib.Core.List.{List, [], _∷_, _++_, append-assoc, append-nil}
-use native.Mathlib.Nat.{not-suc-le-zero, le-of-suc-le-suc}
+use native.Mathlib.Nat.{not-suc-le-zero}
 use native.Mathlib.Numerals.{add-one}
 use native.Mathlib.Omega.{arith}
 use lib.ListN.{length, set, take, drop, replicate, length-drop, List·getD-eq-default}
 use lib.Seq.{set-split, take-append-add, take-at, take-all, take-suc, getD-take, length-take-le}
 use lib.Dec.{eqb, ltb, leb}
 use borrow.Author.Tests.{eq-eqb, ne-eqb, lt-ltb, le-ltb, leb-true}
+use Rattle.geometry.specs.declared.Geometry.{Geometry}
 use Rattle.geometry.specs.Geometry.{within, piecesFor}
 use Rattle.layout.specs.Bounded.{at, all, best, elem, isZero}
 use Rattle.layout.specs.Word.{wordsOf, wordSum, startsWith}
@@ -18,7 +19,7 @@ use Rattle.layout.specs.MapSector.{View, mapMark, valid, branchesFit, branchWor
 use Rattle.volume.specs.Tables.{Tables, sectorAt, tablesOf}
 use Rattle.volume.specs.Commit.{olderKey, listing, branchesIn}
 use Rattle.volume.specs.Calls.{viewOf}
-use Rattle.laws.proofs.Bounded.{bool?, lt?, eq?, and-l, and-r, cond-true, cond-false, tabled-at}
+use Rattle.laws.proofs.Bounded.{bool?, lt?, eq?, and-l, and-r, cond-true, cond-false, tabled-at, all-at}
 use Rattle.pieces.specs.Arrays.{flagged, unflagged, Live}
 use Rattle.pieces.proofs.FlagLaws.{flag-set, none-flagged}
 use Rattle.laws.proofs.Words.{length-wordsOf}
@@ -105,55 +106,49 @@ module _ (reached pl nu : List ℕ) (p b bound : ℕ) (only : (q : ℕ) → at p
       (λ (z : q ≡ p → ⊥). rw (ne-eqb q p z) (away q (λ (f : at pl q ≡ b). z (only q f .0)))) (eq? q p))
 
 -- A test of a whole list, at one place.
-pub all-at : (test : ℕ → Bool) (xs : List ℕ) (i : ℕ) → all test xs ≡ true → i < length xs → test (at xs i) ≡ true
-unfolding all
-all-at test [] i e h = absurd (not-suc-le-zero h)
-all-at test (x ∷ xs) zero e h = and-l (test x) (all test xs) e
-all-at test (x ∷ xs) (suc i) e h = all-at test xs i (and-r (test x) (all test xs) e) (le-of-suc-le-suc h)
-
 -- A signed sector: its branches are sectors, and at most 24 of them.
-module _ (n l : ℕ) (bytes : List ℕ) (signed : valid n l bytes (wordsOf bytes) ≡ true) where
+module _ (g : Geometry) (bytes : List ℕ) (signed : valid g bytes (wordsOf bytes) ≡ true) where
   abbrev ws : List ℕ
   ws = wordsOf bytes
 
   c1 : Bool
-  c1 = startsWith mapMark bytes && isZero (wordSum ws) && leb 1 (at ws 2) && isZero (at ws 3) && ltb (at ws 4) (piecesFor l) && leb (at ws 5) 1
+  c1 = startsWith mapMark bytes && isZero (wordSum ws) && leb 1 (at ws 2) && isZero (at ws 3) && ltb (at ws 4) (piecesFor (g .l)) && leb (at ws 5) 1
 
   c2 : Bool
   c2 = leb (at ws 6) 24
 
   c3 : Bool
-  c3 = eqb (at ws 7) l
+  c3 = eqb (at ws 7) (g .l)
 
   c4 : Bool
-  c4 = branchesFit n (at ws 6) (branchWords ws)
+  c4 = branchesFit (g .n) (at ws 6) (branchWords ws)
 
   c5 : Bool
-  c5 = all isZero (drop (l - 96 * at ws 4) (entryWords ws))
+  c5 = all isZero (drop (g .l - 96 * at ws 4) (entryWords ws))
 
   pub few-branches : at ws 6 ≤ 24
   unfolding valid c1 c2 c3 c4 c5
   few-branches = leb-true (at ws 6) 24 (and-r c1 c2 (and-l (c1 && c2) c3 (and-l (c1 && c2 && c3) c4 (and-l (c1 && c2 && c3 && c4) c5 signed))))
 
-  fit : branchesFit n (at ws 6) (branchWords ws) ≡ true
+  fit : branchesFit (g .n) (at ws 6) (branchWords ws) ≡ true
   unfolding valid c1 c2 c3 c4 c5
   fit = and-r (c1 && c2 && c3) c4 (and-l (c1 && c2 && c3 && c4) c5 signed)
 
-  pub branch-inside : (i : ℕ) → length (branchWords ws) ≡ 24 → i < at ws 6 → (1 ≤ at (branchWords ws) i) × (at (branchWords ws) i ≤ n - 1)
+  pub branch-inside : (i : ℕ) → length (branchWords ws) ≡ 24 → i < at ws 6 → (1 ≤ at (branchWords ws) i) × (at (branchWords ws) i ≤ g .n - 1)
   unfolding branchesFit
   branch-inside i len h =
       let few = few-branches in
       let bs = branchWords ws in
-      let inside = and-l (all (within 1 (n - 1)) (take (at ws 6) bs)) (all isZero (drop (at ws 6) bs)) fit in
+      let inside = and-l (all (within 1 (g .n - 1)) (take (at ws 6) bs)) (all isZero (drop (at ws 6) bs)) fit in
       let k = length-take-le (at ws 6) bs (omega arith) in
-      let w = all-at (within 1 (n - 1)) (take (at ws 6) bs) i inside (omega arith) in
+      let w = all-at (within 1 (g .n - 1)) (take (at ws 6) bs) i inside (omega arith) in
       let e = getD-take (at ws 6) bs i 0 h in
       let z = at (take (at ws 6) bs) i in
-      let low = leb-true 1 z (and-l (leb 1 z) (leb z (n - 1)) w) in
-      let high = leb-true z (n - 1) (and-r (leb 1 z) (leb z (n - 1)) w) in
+      let low = leb-true 1 z (and-l (leb 1 z) (leb z (g .n - 1)) w) in
+      let high = leb-true z (g .n - 1) (and-r (leb 1 z) (leb z (g .n - 1)) w) in
       (omega arith, omega arith)
 
-  pub branches-view : branchesIn (decoded n l bytes) ≡ take (at ws 6) (branchWords ws)
+  pub branches-view : branchesIn (decoded g bytes) ≡ take (at ws 6) (branchWords ws)
   unfolding decoded branchesIn
   branches-view = rw signed refl
 
@@ -262,10 +257,10 @@ branch-room bytes e =
     length-take-le 24 (drop 8 (wordsOf bytes)) (omega arith)
 
 -- The whole listing: what is listed so far, and what is listed from here on.
-module _ (n l : ℕ) (image : ℕ → List ℕ) (pl nu touched : List ℕ) (number : ℕ) where
+module _ (g : Geometry) (image : ℕ → List ℕ) (pl nu touched : List ℕ) (number : ℕ) where
   abbrev pub listedFrom : ℕ → ℕ → (ℕ → Bool) → List ℕ
   listedFrom steps bound reached =
-      listing (length nu) (tablesOf [] pl nu []) (viewOf n l image) (unflagged (length nu) touched) steps bound reached
+      listing (length nu) (tablesOf [] pl nu []) (viewOf g image) (unflagged (length nu) touched) steps bound reached
 
   abbrev pub Listing : List ℕ → ℕ → ℕ → (ℕ → Bool) → Type 0
   Listing done steps bound reached = listedFrom (length nu) (suc number) (λ _. false) ≡ done ++ listedFrom steps bound reached
@@ -280,19 +275,19 @@ module _ (n l : ℕ) (image : ℕ → List ℕ) (pl nu touched : List ℕ) (numb
   pub listing-more : (done done′ : List ℕ) (steps bound bound′ q place : ℕ) (reached reached′ : ℕ → Bool) (known : Bool)
       → Listing done steps bound reached → 0 < steps → q ≡ best (key nu touched bound) (length nu) → bound′ ≡ key nu touched bound q
       → (bound′ ≡ 0 → ⊥) → known ≡ reached q → place ≡ at pl q → done′ ≡ done ++ cond known [] (place ∷ [])
-      → reached′ ≡ (λ r. reached r || (elem (at pl r) (branchesIn (viewOf n l image (at pl q))) && ltb (at nu r) bound′))
+      → reached′ ≡ (λ r. reached r || (elem (at pl r) (branchesIn (viewOf g image (at pl q))) && ltb (at nu r) bound′))
       → Listing done′ (steps - 1) bound′ reached′
-  listing-more done done′ steps bound bound′ q place reached reached′ known s h e f d k p g r =
+  listing-more done done′ steps bound bound′ q place reached reached′ known s h e f d k p u r =
       let here = any-places bound in
-      let rest : List ℕ = listedFrom (steps - 1) bound′ (λ r. reached r || (elem (at pl r) (branchesIn (viewOf n l image (at pl q))) && ltb (at nu r) bound′)) in
+      let rest : List ℕ = listedFrom (steps - 1) bound′ (λ r. reached r || (elem (at pl r) (branchesIn (viewOf g image (at pl q))) && ltb (at nu r) bound′)) in
       s
       ∙ ap (λ (xs : List ℕ). done ++ xs)
-      (listing-on (length nu) (tablesOf [] pl nu []) (viewOf n l image) (unflagged (length nu) touched) steps bound reached q bound′ h
+      (listing-on (length nu) (tablesOf [] pl nu []) (viewOf g image) (unflagged (length nu) touched) steps bound reached q bound′ h
       (e ∙ ap (λ (x : ℕ → ℕ). best x (length nu)) here) (f ∙ ap (λ (x : ℕ → ℕ). x q) here) d)
       ∙ sym (append-assoc done (cond (reached q) [] (at pl q ∷ [])) rest)
       ∙ ap (λ (b : Bool). (done ++ cond b [] (at pl q ∷ [])) ++ rest) (sym k)
       ∙ ap (λ (x : ℕ). (done ++ cond known [] (x ∷ [])) ++ rest) (sym p)
-      ∙ ap (λ (xs : List ℕ). xs ++ rest) (sym g)
+      ∙ ap (λ (xs : List ℕ). xs ++ rest) (sym u)
       ∙ ap (λ (x : ℕ → Bool). done′ ++ listedFrom (steps - 1) bound′ x) (sym r)
 
   -- It ends with all of it, or with the first 25.
@@ -316,7 +311,7 @@ module _ (n l : ℕ) (image : ℕ → List ℕ) (pl nu touched : List ℕ) (numb
   listing-no-more branches count steps bound reached q bound′ h len s e f z =
       let here = any-places bound in
       all-of-it branches count (listedFrom steps bound reached) h (omega arith)
-      (listing-ends (length nu) (tablesOf [] pl nu []) (viewOf n l image) (unflagged (length nu) touched) steps bound reached
+      (listing-ends (length nu) (tablesOf [] pl nu []) (viewOf g image) (unflagged (length nu) touched) steps bound reached
       (subst (λ (x : ℕ → ℕ). x (best x (length nu)) ≡ 0) here (ap (key nu touched bound) (sym e) ∙ sym f ∙ z)))
       s
 
@@ -325,24 +320,24 @@ module _ (n l : ℕ) (image : ℕ → List ℕ) (pl nu touched : List ℕ) (numb
       → take count branches ≡ take 25 (listedFrom (length nu) (suc number) (λ _. false))
   listing-done branches count steps bound reached h len s z =
       all-of-it branches count (listedFrom steps bound reached) h (omega arith)
-      (listing-over (length nu) (tablesOf [] pl nu []) (viewOf n l image) (unflagged (length nu) touched) steps bound reached z) s
+      (listing-over (length nu) (tablesOf [] pl nu []) (viewOf g image) (unflagged (length nu) touched) steps bound reached z) s
 
 -- The live sector at a branch is the one of the piece that the sector there says.
-pub only-there : (n l : ℕ) (image : ℕ → List ℕ) (pl : List ℕ) (b p : ℕ) → Live n l image (at pl) (length pl) → 1 ≤ b → p ≡ at (wordsOf (image b)) 4
+pub only-there : (g : Geometry) (image : ℕ → List ℕ) (pl : List ℕ) (b p : ℕ) → Live g image (at pl) (length pl) → 1 ≤ b → p ≡ at (wordsOf (image b)) 4
     → (q : ℕ) → at pl q ≡ b → (q ≡ p) × (q < length pl)
-only-there n l image pl b p live low e q f =
+only-there g image pl b p live low e q f =
     ⊎-elim (λ (h : q < length pl).
     (sym (live .piece q h) ∙ ap (λ (x : ℕ). at (wordsOf (image x)) 4) f ∙ sym e, h))
     (λ (h : length pl ≤ q). let z = List·getD-eq-default pl 0 {n = q} h in absurd (omega arith)) (lt? q (length pl))
 
 -- All branches of a listed sector.
-pub reached-all : (n l : ℕ) (bytes s : List ℕ) (before f : ℕ → Bool) (pl nu : List ℕ) (bound i count : ℕ) → s ≡ bytes
-    → valid n l bytes (wordsOf bytes) ≡ true → count ≡ at (wordsOf s) 6 → i ≡ count → f ≡ reachedBy before pl nu (branchWords (wordsOf s)) bound i
-    → f ≡ (λ r. before r || (elem (at pl r) (branchesIn (decoded n l bytes)) && ltb (at nu r) bound))
-reached-all n l bytes s before f pl nu bound i count e v g h r =
-    let same : take i (branchWords (wordsOf s)) ≡ branchesIn (decoded n l bytes)
-    = ap (λ (x : ℕ). take x (branchWords (wordsOf s))) (h ∙ g) ∙ ap (λ (x : List ℕ). take (at (wordsOf x) 6) (branchWords (wordsOf x))) e
-    ∙ sym (branches-view n l bytes v) in
+pub reached-all : (g : Geometry) (bytes s : List ℕ) (before f : ℕ → Bool) (pl nu : List ℕ) (bound i count : ℕ) → s ≡ bytes
+    → valid g bytes (wordsOf bytes) ≡ true → count ≡ at (wordsOf s) 6 → i ≡ count → f ≡ reachedBy before pl nu (branchWords (wordsOf s)) bound i
+    → f ≡ (λ r. before r || (elem (at pl r) (branchesIn (decoded g bytes)) && ltb (at nu r) bound))
+reached-all g bytes s before f pl nu bound i count e v u h r =
+    let same : take i (branchWords (wordsOf s)) ≡ branchesIn (decoded g bytes)
+    = ap (λ (x : ℕ). take x (branchWords (wordsOf s))) (h ∙ u) ∙ ap (λ (x : List ℕ). take (at (wordsOf x) 6) (branchWords (wordsOf x))) e
+    ∙ sym (branches-view g bytes v) in
     r ∙ fun-ext (λ q. ap (λ (xs : List ℕ). before q || (elem (at pl q) xs && ltb (at nu q) bound)) same)
 
 -- At most one more is listed.
@@ -351,20 +346,20 @@ one-more count r most true e h = omega arith
 one-more count r most false e h = omega arith
 
 -- A listed sector, and the sector that a branch of it names.
-module _ (n l : ℕ) (im s : List ℕ) (place : ℕ) (len : length im ≡ 512 * n) (inside : place < n) (is : s ≡ sectorAt im place)
-    (signed : valid n l (sectorAt im place) (wordsOf (sectorAt im place)) ≡ true) where
+module _ (g : Geometry) (im s : List ℕ) (place : ℕ) (len : length im ≡ 512 * g .n) (inside : place < g .n) (is : s ≡ sectorAt im place)
+    (signed : valid g (sectorAt im place) (wordsOf (sectorAt im place)) ≡ true) where
   pub whole-sector : length s ≡ 512
   whole-sector = ap length is ∙ sector-length im place (omega arith)
 
-  signed-s : valid n l s (wordsOf s) ≡ true
-  signed-s = subst (λ (x : List ℕ). valid n l x (wordsOf x) ≡ true) (sym is) signed
+  signed-s : valid g s (wordsOf s) ≡ true
+  signed-s = subst (λ (x : List ℕ). valid g x (wordsOf x) ≡ true) (sym is) signed
 
   pub count-few : (count : ℕ) → count ≡ at (wordsOf s) 6 → count ≤ 24
-  count-few count e = let h = few-branches n l s signed-s in omega arith
+  count-few count e = let h = few-branches g s signed-s in omega arith
 
   pub branch-sector : (count i b : ℕ) → count ≡ at (wordsOf s) 6 → i < count → b ≡ at (branchWords (wordsOf s)) i → (1 ≤ b) × (512 * b + 512 ≤ length im)
   branch-sector count i b e h f =
-      let w = branch-inside n l s signed-s i (branch-room s whole-sector) (omega arith) in
+      let w = branch-inside g s signed-s i (branch-room s whole-sector) (omega arith) in
       let low = w .0 in
       let high = w .1 in
       (omega arith, omega arith)

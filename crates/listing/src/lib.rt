@@ -1,10 +1,10 @@
 // The branches of a commit's first member: the live sectors of untouched pieces, newest to oldest, without those already reached
 // from a listed one.
 ghost use mathlib.Core.Path.{_≡_};
-ghost use mathlib.Core.Bool.{true, false, cond, _&&_, _||_};
+ghost use mathlib.Core.Bool.{false, cond, _&&_, _||_};
 ghost use mathlib.Core.List.{[], _∷_, _++_};
 ghost use Prim.Native.Nat.{ℕ, suc, _+_, _*_, _≤_, _<_};
-ghost use lib.ListN.{length, take, drop};
+ghost use lib.ListN.{length, take};
 ghost use lib.Dec.{eqb, ltb};
 ghost use Rattle.geometry.specs.Geometry.{sectorBytes};
 ghost use Rattle.layout.specs.Bounded.{at, best};
@@ -12,6 +12,7 @@ ghost use Rattle.volume.specs.Tables.{sectorAt, tablesOf};
 ghost use Rattle.volume.specs.Commit.{olderKey, listing};
 ghost use Rattle.volume.specs.Calls.{viewOf};
 ghost use Rattle.pieces.specs.Arrays.{flagged, unflagged, Live};
+use geometry::Geometry;
 
 // The number of piece q where it is a candidate: untouched and older than bound; 0 where it is not.
 fn older_key(numbers: &[u32], touched: &[u8], bound: u32, q: usize) -> u32
@@ -81,22 +82,21 @@ fn reach(reached: &mut [u8], places: &[u32], numbers: &[u32], p: u32, b: u32, bo
 // The first of the listed branches, at most 25 of them: with more than 24 the commit folds. How many they are.
 pub fn list_branches(
     image: &[u8],
-    n: u32,
-    l: u32,
+    g: Geometry,
     places: &[u32],
     numbers: &[u32],
     touched: &[u8],
     number: u32,
     branches: &mut [u32],
 ) -> usize
-    requires { ⌜ length (now image) ≡ sectorBytes * n ⌝ }
+    requires { ⌜ length (now image) ≡ sectorBytes * g .n ⌝ }
     requires { ⌜ length (now places) ≡ length (now numbers) ⌝ }
     requires { ⌜ length (now numbers) ≤ 256 ⌝ }
     requires { ⌜ length (now numbers) ≤ length (now touched) ⌝ }
     requires { ⌜ number + 1 < 4294967296 ⌝ }
     requires { ⌜ length (now branches) ≡ 25 ⌝ }
-    requires { ⌜ Live n l (sectorAt (now image)) (at (now places)) (length (now numbers)) ⌝ }
-    ensures { λ r. ⌜ take r (now (branches .exit)) ≡ take 25 (listing (length (now (numbers .entry))) (tablesOf [] (now (places .entry)) (now (numbers .entry)) []) (viewOf n l (sectorAt (now (image .entry)))) (unflagged (length (now (numbers .entry))) (now (touched .entry))) (length (now (numbers .entry))) (suc number) (λ _. false)) × (r ≤ 25) ⌝ }
+    requires { ⌜ Live g (sectorAt (now image)) (at (now places)) (length (now numbers)) ⌝ }
+    ensures { λ r. ⌜ take r (now (branches .exit)) ≡ take 25 (listing (length (now (numbers .entry))) (tablesOf [] (now (places .entry)) (now (numbers .entry)) []) (viewOf g (sectorAt (now (image .entry)))) (unflagged (length (now (numbers .entry))) (now (touched .entry))) (length (now (numbers .entry))) (suc number) (λ _. false)) × (r ≤ 25) ⌝ }
 {
     let mut reached = [0u8; 256];
     let mut count = 0;

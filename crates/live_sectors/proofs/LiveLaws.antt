@@ -6,10 +6,11 @@ use mathlib.Core.Bool.{Bool, true, false, cond, not, _&&_}
 use mathlib.Core.List.{List, []}
 use mathlib.Core.Option.{Option, none, some}
 use native.Mathlib.Omega.{arith}
-use lib.ListN.{length, length-drop, List·getD-eq-default}
+use lib.ListN.{length, length-drop}
 use lib.Seq.{ext-getD}
 use lib.Dec.{eqb, leb}
 use borrow.Author.Tests.{leb-true, eqb-true, eq-eqb, ne-eqb}
+use Rattle.geometry.specs.declared.Geometry.{Geometry}
 use Rattle.state.specs.declared.State.{State}
 use Rattle.geometry.specs.Geometry.{sectorBytes, piecesFor, usedBytes, geometryFits}
 use Rattle.layout.specs.Bounded.{at, allBelow, same}
@@ -18,15 +19,12 @@ use Rattle.layout.specs.MapSector.{MapSector, entryWords, fields, valid, decode
 use Rattle.volume.specs.Tables.{Memory, sectorAt, memory, tablesOf, consistent, pieceEntries, saysPiece, liveValid}
 use Rattle.volume.specs.Format.{tablesFit}
 use Rattle.volume.specs.Calls.{viewOf, stateFits, tablesAgree}
-use Rattle.laws.proofs.Bounded.{bool?, and-l, and-r, not-of, cond-true, cond-false, length-listFrom, listFrom-at}
+use Rattle.laws.proofs.Bounded.{bool?, and-l, and-r, not-of, cond-true, cond-false, length-listFrom, listFrom-at, past-end}
 use Rattle.laws.proofs.Names.{piece, sound}
 use Rattle.laws.proofs.Words.{length-wordsOf}
 use Rattle.laws.proofs.Lists.{same-is, same-not}
 use Rattle.names.proofs.Marking.{not-false}
 use Rattle.numbers.proofs.Numbering.{allBelow-none, allBelow-more, allBelow-not}
-
-pub past-end : (map : List ℕ) (b : ℕ) → length map ≤ b → 0 ≡ at map b
-past-end map b h = sym (List·getD-eq-default map 0 h)
 
 entry-past : (map : List ℕ) (b : ℕ) → cond (leb (length map) b) 0 (at map b) ≡ at map b
 entry-past map b =
@@ -75,9 +73,9 @@ module _ (a b c : Bool) where
   third-decides : a ≡ true → b ≡ true → c ≡ (a && b && c)
   third-decides p q = rw (p, q) refl
 
-module _ (n l p number : ℕ) (bs entries : List ℕ) where
+module _ (g : Geometry) (p number : ℕ) (bs entries : List ℕ) where
   abbrev Says : Bool
-  Says = saysPiece (decoded n l bs) p number entries
+  Says = saysPiece (decoded g bs) p number entries
 
   abbrev Piece : Bool
   Piece = eqb (at (wordsOf bs) 4) p
@@ -88,19 +86,19 @@ module _ (n l p number : ℕ) (bs entries : List ℕ) where
   abbrev Same : Bool
   Same = same (entryWords (wordsOf bs)) entries
 
-  module _ (r : Bool) (h : r ≡ valid n l bs (wordsOf bs)) where
+  module _ (r : Bool) (h : r ≡ valid g bs (wordsOf bs)) where
     pub says-unsigned : not r ≡ true → false ≡ Says
     unfolding saysPiece decoded
     says-unsigned e =
         ap (λ (m : Option MapSector). saysPiece m p number entries)
-        (sym (cond-false (valid n l bs (wordsOf bs)) (some (fields (wordsOf bs))) none (sym h ∙ not-of r e)))
+        (sym (cond-false (valid g bs (wordsOf bs)) (some (fields (wordsOf bs))) none (sym h ∙ not-of r e)))
 
     module _ (e : not r ≡ false) where
       said : Says ≡ (Piece && Number && Same)
       unfolding saysPiece decoded
       said =
           ap (λ (m : Option MapSector). saysPiece m p number entries)
-          (cond-true (valid n l bs (wordsOf bs)) (some (fields (wordsOf bs))) none (sym h ∙ not-false r e))
+          (cond-true (valid g bs (wordsOf bs)) (some (fields (wordsOf bs))) none (sym h ∙ not-false r e))
 
       module _ (k : ℕ) (is : k ≡ at (wordsOf bs) 4) where
         pub says-other-piece : (k ≡ p → ⊥) → false ≡ Says
@@ -115,18 +113,18 @@ module _ (n l p number : ℕ) (bs entries : List ℕ) where
               ∙ sym said
 
           pub says-entries : j ≡ number → (u : Bool) → u ≡ Same → u ≡ Says
-          says-entries g u v =
+          says-entries w u v =
               v
-              ∙ third-decides Piece Number Same (eq-eqb (at (wordsOf bs) 4) p (sym is ∙ f)) (eq-eqb (at (wordsOf bs) 2) number (sym is₂ ∙ g))
+              ∙ third-decides Piece Number Same (eq-eqb (at (wordsOf bs) 4) p (sym is ∙ f)) (eq-eqb (at (wordsOf bs) 2) number (sym is₂ ∙ w))
               ∙ sym said
 
 -- The live sectors of the pieces below p say what the tables say.
-module _ (n l : ℕ) (image map places numbers : List ℕ) where
+module _ (g : Geometry) (image map places numbers : List ℕ) where
   abbrev Live : ℕ → Bool
-  Live p = saysPiece (decoded n l (sectorAt image (at places p))) p (at numbers p) (pieceEntries l (at map) p)
+  Live p = saysPiece (decoded g (sectorAt image (at places p))) p (at numbers p) (pieceEntries (g .l) (at map) p)
 
   abbrev Valid : Bool
-  Valid = liveValid l (tablesOf map places numbers []) (viewOf n l (sectorAt image))
+  Valid = liveValid (g .l) (tablesOf map places numbers []) (viewOf g (sectorAt image))
 
   pub Lives : ℕ → Type 0
   Lives p = allBelow Live p ≡ true
@@ -136,19 +134,19 @@ module _ (n l : ℕ) (image map places numbers : List ℕ) where
   live-none = allBelow-none Live
 
   module _ (p : ℕ) (s : List ℕ) (e : s ≡ sectorAt image (at places p)) (r : Bool)
-      (h : r ≡ saysPiece (decoded n l s) p (at numbers p) (pieceEntries l (at map) p)) where
+      (h : r ≡ saysPiece (decoded g s) p (at numbers p) (pieceEntries (g .l) (at map) p)) where
     live-is : r ≡ Live p
-    live-is = h ∙ ap (λ (bs : List ℕ). saysPiece (decoded n l bs) p (at numbers p) (pieceEntries l (at map) p)) e
+    live-is = h ∙ ap (λ (bs : List ℕ). saysPiece (decoded g bs) p (at numbers p) (pieceEntries (g .l) (at map) p)) e
 
     pub live-more : Lives p → not r ≡ false → Lives (p + 1)
     unfolding Lives
     live-more a f = allBelow-more Live p a (sym live-is ∙ not-false r f)
 
-    pub live-fails : p < piecesFor l → not r ≡ true → false ≡ Valid
+    pub live-fails : p < piecesFor (g .l) → not r ≡ true → false ≡ Valid
     unfolding liveValid
-    live-fails b f = allBelow-not Live (piecesFor l) p b (sym live-is ∙ not-of r f)
+    live-fails b f = allBelow-not Live (piecesFor (g .l)) p b (sym live-is ∙ not-of r f)
 
-  pub live-all : (p : ℕ) → p ≡ piecesFor l → Lives p → true ≡ Valid
+  pub live-all : (p : ℕ) → p ≡ piecesFor (g .l) → Lives p → true ≡ Valid
   unfolding liveValid Lives
   live-all p e a = sym (subst (λ (x : ℕ). allBelow Live x ≡ true) e a)
 
@@ -158,64 +156,64 @@ module _ (s : State) (image map places numbers used : List ℕ) where
   Lent = memory image map places numbers used
 
   module _ (h : stateFits s Lent ≡ true) where
-    pub image-long : length image ≡ sectorBytes * s .n
+    pub image-long : length image ≡ sectorBytes * s .geometry .n
     unfolding stateFits memory
     image-long =
-        eqb-true (length image) (sectorBytes * s .n) (and-l (eqb (length image) (sectorBytes * s .n)) (geometryFits (s .n) (s .l)) h)
+        eqb-true (length image) (sectorBytes * s .geometry .n) (and-l (eqb (length image) (sectorBytes * s .geometry .n)) (geometryFits (s .geometry)) h)
 
-    pub geometry-fits : geometryFits (s .n) (s .l) ≡ true
+    pub geometry-fits : geometryFits (s .geometry) ≡ true
     unfolding stateFits memory
-    geometry-fits = and-r (eqb (length image) (sectorBytes * s .n)) (geometryFits (s .n) (s .l)) h
+    geometry-fits = and-r (eqb (length image) (sectorBytes * s .geometry .n)) (geometryFits (s .geometry)) h
 
-  module _ (h : tablesFit Lent (s .n) (s .l) ≡ true) where
+  module _ (h : tablesFit Lent (s .geometry) ≡ true) where
     abbrev M : Bool
-    M = eqb (length map) (s .l)
+    M = eqb (length map) (s .geometry .l)
 
     abbrev P : Bool
-    P = eqb (length places) (piecesFor (s .l))
+    P = eqb (length places) (piecesFor (s .geometry .l))
 
     abbrev N : Bool
-    N = eqb (length numbers) (piecesFor (s .l))
+    N = eqb (length numbers) (piecesFor (s .geometry .l))
 
     abbrev U : Bool
-    U = eqb (length used) (usedBytes (s .n))
+    U = eqb (length used) (usedBytes (s .geometry .n))
 
     whole : (M && P && N && U) ≡ true
     unfolding tablesFit memory
     whole = h
 
-    pub map-long : length map ≡ s .l
-    map-long = eqb-true (length map) (s .l) (and-l M P (and-l (M && P) N (and-l (M && P && N) U whole)))
+    pub map-long : length map ≡ s .geometry .l
+    map-long = eqb-true (length map) (s .geometry .l) (and-l M P (and-l (M && P) N (and-l (M && P && N) U whole)))
 
-    pub places-long : length places ≡ piecesFor (s .l)
-    places-long = eqb-true (length places) (piecesFor (s .l)) (and-r M P (and-l (M && P) N (and-l (M && P && N) U whole)))
+    pub places-long : length places ≡ piecesFor (s .geometry .l)
+    places-long = eqb-true (length places) (piecesFor (s .geometry .l)) (and-r M P (and-l (M && P) N (and-l (M && P && N) U whole)))
 
-    pub numbers-long : length numbers ≡ piecesFor (s .l)
-    numbers-long = eqb-true (length numbers) (piecesFor (s .l)) (and-r (M && P) N (and-l (M && P && N) U whole))
+    pub numbers-long : length numbers ≡ piecesFor (s .geometry .l)
+    numbers-long = eqb-true (length numbers) (piecesFor (s .geometry .l)) (and-r (M && P) N (and-l (M && P && N) U whole))
 
-    pub used-long : length used ≡ usedBytes (s .n)
-    used-long = eqb-true (length used) (usedBytes (s .n)) (and-r (M && P && N) U whole)
+    pub used-long : length used ≡ usedBytes (s .geometry .n)
+    used-long = eqb-true (length used) (usedBytes (s .geometry .n)) (and-r (M && P && N) U whole)
 
   abbrev Sane : Bool
-  Sane = consistent (s .n) (s .l) (tablesOf map places numbers used) (s .tail) (s .number)
+  Sane = consistent (s .geometry) (tablesOf map places numbers used) (s .tail) (s .number)
 
   module _ (r : Bool) (h : r ≡ Sane) where
     pub tables-unsound : not r ≡ true → false ≡ tablesAgree s Lent
     unfolding tablesAgree memory
     tables-unsound e =
-        ap (λ (b : Bool). b && liveValid (s .l) (tablesOf map places numbers used) (viewOf (s .n) (s .l) (sectorAt image)))
+        ap (λ (b : Bool). b && liveValid (s .geometry .l) (tablesOf map places numbers used) (viewOf (s .geometry) (sectorAt image)))
         (sym (sym h ∙ not-of r e))
 
     module _ (e : not r ≡ false) where
-      pub places-below : 1 ≤ s .n → (q : ℕ) → q < piecesFor (s .l) → at places q < s .n
+      pub places-below : 1 ≤ s .geometry .n → (q : ℕ) → q < piecesFor (s .geometry .l) → at places q < s .geometry .n
       places-below least q b =
-          let high = sound (s .n) (s .l) (tablesOf map places numbers used) (s .tail) (s .number) (sym h ∙ not-false r e) .high (piece q) b in
+          let high = sound (s .geometry) (tablesOf map places numbers used) (s .tail) (s .number) (sym h ∙ not-false r e) .high (piece q) b in
           omega arith
 
-      pub live-decides : (u : Bool) → u ≡ liveValid (s .l) (tablesOf map places numbers []) (viewOf (s .n) (s .l) (sectorAt image))
+      pub live-decides : (u : Bool) → u ≡ liveValid (s .geometry .l) (tablesOf map places numbers []) (viewOf (s .geometry) (sectorAt image))
           → u ≡ tablesAgree s Lent
       unfolding tablesAgree memory liveValid
       live-decides u v =
           v
-          ∙ ap (λ (b : Bool). b && liveValid (s .l) (tablesOf map places numbers used) (viewOf (s .n) (s .l) (sectorAt image)))
+          ∙ ap (λ (b : Bool). b && liveValid (s .geometry .l) (tablesOf map places numbers used) (viewOf (s .geometry) (sectorAt image)))
           (sym (sym h ∙ not-false r e))

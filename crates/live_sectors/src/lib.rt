@@ -14,16 +14,6 @@ ghost use Rattle.volume.specs.Calls.{viewOf, stateFits, tablesAgree};
 use geometry::Geometry;
 use state::State;
 
-// The map's entry of a block, zero past the map's end.
-fn entry_of(map: &[u32], block: usize) -> u32
-    ensures { λ r. ⌜ r ≡ at (now (map .entry)) block ⌝ }
-{
-    if map.len() <= block {
-        return 0;
-    }
-    map[block]
-}
-
 // Whether the sector's 96 entries are those of piece p in the map; those past the map's end are zero.
 fn entries_match(s: &[u8], map: &[u32], p: u32) -> bool
     requires { ⌜ length (now s) ≡ sectorBytes ⌝ }
@@ -33,7 +23,7 @@ fn entries_match(s: &[u8], map: &[u32], p: u32) -> bool
     let first = (Geometry::ENTRIES * p) as usize;
     let mut i = 0;
     while i < 96 {
-        if map_sector::entry_at(s, i) != entry_of(map, first + i) {
+        if map_sector::entry_at(s, i) != blocks::entry_of(map, first + i) {
             return false;
         }
         i += 1;
@@ -42,14 +32,14 @@ fn entries_match(s: &[u8], map: &[u32], p: u32) -> bool
 }
 
 // Whether the sector is signed with this piece and number, and these entries.
-fn says_piece(s: &[u8], n: u32, l: u32, map: &[u32], p: u32, number: u32) -> bool
+fn says_piece(s: &[u8], g: Geometry, map: &[u32], p: u32, number: u32) -> bool
     requires { ⌜ length (now s) ≡ sectorBytes ⌝ }
-    requires { ⌜ 1 ≤ n ⌝ }
-    requires { ⌜ length (now map) ≡ l ⌝ }
+    requires { ⌜ 1 ≤ g .n ⌝ }
+    requires { ⌜ length (now map) ≡ g .l ⌝ }
     requires { ⌜ p < 256 ⌝ }
-    ensures { λ r. ⌜ r ≡ saysPiece (decoded n l (now (s .entry))) p number (pieceEntries l (at (now (map .entry))) p) ⌝ }
+    ensures { λ r. ⌜ r ≡ saysPiece (decoded g (now (s .entry))) p number (pieceEntries (g .l) (at (now (map .entry))) p) ⌝ }
 {
-    if !map_sector::is_valid(s, n, l) {
+    if !map_sector::is_valid(s, g) {
         return false;
     }
     if map_sector::piece_of(s) != p {
@@ -62,29 +52,22 @@ fn says_piece(s: &[u8], n: u32, l: u32, map: &[u32], p: u32, number: u32) -> boo
 }
 
 // Each live place is signed with its piece, number and entries.
-pub fn live_valid(
-    n: u32,
-    l: u32,
-    image: &[u8],
-    map: &[u32],
-    places: &[u32],
-    numbers: &[u32],
-) -> bool
-    requires { ⌜ 1 ≤ n ⌝ }
-    requires { ⌜ piecesFor l ≤ 256 ⌝ }
-    requires { ⌜ length (now image) ≡ sectorBytes * n ⌝ }
-    requires { ⌜ length (now map) ≡ l ⌝ }
-    requires { ⌜ length (now places) ≡ piecesFor l ⌝ }
-    requires { ⌜ length (now numbers) ≡ piecesFor l ⌝ }
-    requires { ⌜ ((q : ℕ) → q < piecesFor l → at (now places) q < n) ⌝ }
-    ensures { λ r. ⌜ r ≡ liveValid l (tablesOf (now (map .entry)) (now (places .entry)) (now (numbers .entry)) []) (viewOf n l (sectorAt (now (image .entry)))) ⌝ }
+pub fn live_valid(g: Geometry, image: &[u8], map: &[u32], places: &[u32], numbers: &[u32]) -> bool
+    requires { ⌜ 1 ≤ g .n ⌝ }
+    requires { ⌜ piecesFor (g .l) ≤ 256 ⌝ }
+    requires { ⌜ length (now image) ≡ sectorBytes * g .n ⌝ }
+    requires { ⌜ length (now map) ≡ g .l ⌝ }
+    requires { ⌜ length (now places) ≡ piecesFor (g .l) ⌝ }
+    requires { ⌜ length (now numbers) ≡ piecesFor (g .l) ⌝ }
+    requires { ⌜ ((q : ℕ) → q < piecesFor (g .l) → at (now places) q < g .n) ⌝ }
+    ensures { λ r. ⌜ r ≡ liveValid (g .l) (tablesOf (now (map .entry)) (now (places .entry)) (now (numbers .entry)) []) (viewOf g (sectorAt (now (image .entry)))) ⌝ }
 {
-    let pieces = Geometry::pieces_for(l);
+    let pieces = Geometry::pieces_for(g.l);
     let mut p: u32 = 0;
     while p < pieces {
         let q = p as usize;
         let s = images::sector(image, places[q] as usize);
-        if !says_piece(s, n, l, map, p, numbers[q]) {
+        if !says_piece(s, g, map, p, numbers[q]) {
             return false;
         }
         p += 1;
@@ -102,11 +85,12 @@ pub fn tables_agree(
     used: &[u8],
 ) -> bool
     requires { ⌜ stateFits s (memory (now image) (now map) (now places) (now numbers) (now used)) ≡ true ⌝ }
-    requires { ⌜ tablesFit (memory (now image) (now map) (now places) (now numbers) (now used)) (s .n) (s .l) ≡ true ⌝ }
+    requires { ⌜ tablesFit (memory (now image) (now map) (now places) (now numbers) (now used)) (s .geometry) ≡ true ⌝ }
     ensures { λ r. ⌜ r ≡ tablesAgree s (memory (now (image .entry)) (now (map .entry)) (now (places .entry)) (now (numbers .entry)) (now (used .entry))) ⌝ }
 {
-    if !soundness::is_consistent(s.n, s.l, map, places, numbers, used, s.tail, s.number) {
+    let g = s.geometry;
+    if !soundness::is_consistent(g, map, places, numbers, used, s.tail, s.number) {
         return false;
     }
-    live_valid(s.n, s.l, image, map, places, numbers)
+    live_valid(g, image, map, places, numbers)
 }

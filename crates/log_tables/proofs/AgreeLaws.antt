@@ -6,6 +6,7 @@ use mathlib.Core.List.{List, []}
 use native.Mathlib.Omega.{arith}
 use lib.Dec.{eqb, leb}
 use borrow.Author.Tests.{le-leb, lt-leb, not-true, not-false}
+use Rattle.geometry.specs.declared.Geometry.{Geometry}
 use Rattle.geometry.specs.Geometry.{within, piecesFor, usedBytes}
 use Rattle.layout.specs.Bounded.{at, allBelow, best, all, distinct, always, gathered}
 use Rattle.volume.specs.Tables.{namedBy, usedBy, freeSectors, consistent}
@@ -28,67 +29,67 @@ module _ (a b c d e f g : Bool) where
   rest-on : a ≡ true → b ≡ true → c ≡ true → (d && e && f && g) ≡ (a && b && c && d && e && f && g)
   rest-on p q r = rw (p, q, r) refl
 
-module _ (n l : ℕ) (map places numbers : List ℕ) (tail number : ℕ) where
+module _ (g : Geometry) (map places numbers : List ℕ) (tail number : ℕ) where
   abbrev Names : List ℕ
-  Names = namedBy l (at map) (at places)
+  Names = namedBy (g .l) (at map) (at places)
 
   abbrev Fits : Bool
-  Fits = all (within 1 (n - 1)) Names && distinct Names
+  Fits = all (within 1 (g .n - 1)) Names && distinct Names
 
   abbrev Bits : Bool
-  Bits = allBelow (λ k. Bool·beq (usedBy Names k) (usedBy Names k)) (8 * usedBytes n)
+  Bits = allBelow (λ k. Bool·beq (usedBy Names k) (usedBy Names k)) (8 * usedBytes (g .n))
 
   abbrev Room : Bool
-  Room = leb (piecesFor l) (freeSectors n (usedBy Names))
+  Room = leb (piecesFor (g .l)) (freeSectors (g .n) (usedBy Names))
 
   abbrev D : Bool
-  D = distinct (gathered always (at numbers) [] (piecesFor l))
+  D = distinct (gathered always (at numbers) [] (piecesFor (g .l)))
 
   abbrev E : Bool
-  E = allBelow (λ q. leb 1 (at numbers q)) (piecesFor l)
+  E = allBelow (λ q. leb 1 (at numbers q)) (piecesFor (g .l))
 
   abbrev F : Bool
-  F = eqb tail (at places (best (at numbers) (piecesFor l)))
+  F = eqb tail (at places (best (at numbers) (piecesFor (g .l))))
 
   abbrev G : Bool
-  G = eqb number (at numbers (best (at numbers) (piecesFor l)))
+  G = eqb number (at numbers (best (at numbers) (piecesFor (g .l))))
 
   -- What is answered, and the bits then.
   abbrev pub Agrees : Bool → (ℕ → Bool) → Type 0
-  Agrees r bits = (r ≡ consistent n l (tablesNamed l map places numbers) tail number) × (r ≡ true → bits ≡ usedBy Names)
+  Agrees r bits = (r ≡ consistent g (tablesNamed (g .l) map places numbers) tail number) × (r ≡ true → bits ≡ usedBy Names)
 
   no-claim : (bits : ℕ → Bool) → false ≡ true → bits ≡ usedBy Names
   no-claim bits z = absurd (true≢false (sym z))
 
   bits-same : Bits ≡ true
-  bits-same = allBelow-is (λ k. Bool·beq (usedBy Names k) (usedBy Names k)) (8 * usedBytes n) (λ k h. beq-self (usedBy Names k))
+  bits-same = allBelow-is (λ k. Bool·beq (usedBy Names k) (usedBy Names k)) (8 * usedBytes (g .n)) (λ k h. beq-self (usedBy Names k))
 
-  module _ (bits : ℕ → Bool) (r : Bool) (h : Left n Names r bits) where
+  module _ (bits : ℕ → Bool) (r : Bool) (h : Left (g .n) Names r bits) where
     pub names-fail : not r ≡ true → Agrees false bits
     unfolding consistent
     names-fail e = (names-off Fits Bits Room D E F G (sym (h .0) ∙ not-true r e), no-claim bits)
 
-    module _ (e : not r ≡ false) (free p : ℕ) (counted : free ≡ freeSectors n bits) (pieces : p ≡ piecesFor l) where
+    module _ (e : not r ≡ false) (free p : ℕ) (counted : free ≡ freeSectors (g .n) bits) (pieces : p ≡ piecesFor (g .l)) where
       fits : Fits ≡ true
       fits = sym (h .0) ∙ not-false r e
 
       made : bits ≡ usedBy Names
       made = h .1 (not-false r e)
 
-      free-is : free ≡ freeSectors n (usedBy Names)
-      free-is = counted ∙ ap (freeSectors n) made
+      free-is : free ≡ freeSectors (g .n) (usedBy Names)
+      free-is = counted ∙ ap (freeSectors (g .n)) made
 
       pub room-fails : free < p → Agrees false bits
       unfolding consistent
-      room-fails g =
+      room-fails y =
           let w = free-is in
-          (room-off Fits Bits Room D E F G fits bits-same (lt-leb (piecesFor l) (freeSectors n (usedBy Names)) (omega arith)), no-claim bits)
+          (room-off Fits Bits Room D E F G fits bits-same (lt-leb (piecesFor (g .l)) (freeSectors (g .n) (usedBy Names)) (omega arith)), no-claim bits)
 
-      pub numbers-decide : p ≤ free → (u : Bool) (m : ℕ) → m ≡ piecesFor l → u ≡ Agree (at places) (at numbers) m tail number → Agrees u bits
+      pub numbers-decide : p ≤ free → (u : Bool) (m : ℕ) → m ≡ piecesFor (g .l) → u ≡ Agree (at places) (at numbers) m tail number → Agrees u bits
       unfolding consistent
-      numbers-decide g u m same v =
+      numbers-decide y u m same v =
           let w = free-is in (
             v ∙ ap (λ (x : ℕ). Agree (at places) (at numbers) x tail number) same
-                ∙ rest-on Fits Bits Room D E F G fits bits-same (le-leb (piecesFor l) (freeSectors n (usedBy Names)) (omega arith)),
+                ∙ rest-on Fits Bits Room D E F G fits bits-same (le-leb (piecesFor (g .l)) (freeSectors (g .n) (usedBy Names)) (omega arith)),
             λ z. made,
           )

@@ -10,8 +10,7 @@ use geometry::Geometry;
 
 // Marks the sectors that the tables name in the used map, and says whether the tables are then sound.
 pub fn log_agrees(
-    n: u32,
-    l: u32,
+    g: Geometry,
     map: &[u32],
     places: &[u32],
     numbers: &[u32],
@@ -19,18 +18,18 @@ pub fn log_agrees(
     tail: u32,
     number: u32,
 ) -> bool
-    requires { ⌜ geometryFits n l ≡ true ⌝ }
-    requires { ⌜ length (now map) ≡ l ⌝ }
-    requires { ⌜ length (now places) ≡ piecesFor l ⌝ }
-    requires { ⌜ length (now numbers) ≡ piecesFor l ⌝ }
-    requires { ⌜ length (now used) ≡ usedBytes n ⌝ }
-    ensures { λ r. ⌜ (r ≡ consistent n l (tablesNamed l (now (map .entry)) (now (places .entry)) (now (numbers .entry))) tail number) × (r ≡ true → bitAt (now (used .exit)) ≡ usedBy (namedBy l (at (now (map .entry))) (at (now (places .entry))))) ⌝ }
+    requires { ⌜ geometryFits g ≡ true ⌝ }
+    requires { ⌜ length (now map) ≡ g .l ⌝ }
+    requires { ⌜ length (now places) ≡ piecesFor (g .l) ⌝ }
+    requires { ⌜ length (now numbers) ≡ piecesFor (g .l) ⌝ }
+    requires { ⌜ length (now used) ≡ usedBytes (g .n) ⌝ }
+    ensures { λ r. ⌜ (r ≡ consistent g (tablesNamed (g .l) (now (map .entry)) (now (places .entry)) (now (numbers .entry))) tail number) × (r ≡ true → bitAt (now (used .exit)) ≡ usedBy (namedBy (g .l) (at (now (map .entry))) (at (now (places .entry))))) ⌝ }
 {
     fill::zero_bytes(used);
-    if !names::mark_names(used, n, l, map, places) {
+    if !names::mark_names(used, g, map, places) {
         return false;
     }
-    if bits::count_free(used, n) < Geometry::pieces_for(l) {
+    if bits::count_free(used, g.n) < Geometry::pieces_for(g.l) {
         return false;
     }
     numbers::numbers_agree(places, numbers, tail, number)

@@ -8,7 +8,7 @@ use lib.ListN.{length, replicate, length-append, length-replicate}
 use lib.Seq.{sets}
 use lib.Dec.{eqb, leb}
 use Rattle.layout.specs.Bounded.{all, isZero}
-use Rattle.layout.specs.Word.{word, wordBytes, wordsOf, bytesOf, wordSum, balance}
+use Rattle.layout.specs.Word.{wordBytes, wordsOf, bytesOf, wordSum, balance}
 use Rattle.layout.specs.MapSector.{mapMark, MapSector, kindOf, encoded}
 use Rattle.laws.proofs.Words.{Words, words-cons, words-both, words-zeros}
 use Rattle.laws.proofs.Balanced.{laid-first, laid-next, sealed, balanced-length}

@@ -9,6 +9,7 @@ use lib.ListN.{length, take, drop, drop-of-length-le, length-drop}
 use lib.Seq.{slice, take-all, take-take, take-nil, drop-drop, getD-take, getD-drop}
 use lib.Dec.{eqb, leb, ltb}
 use borrow.Author.Tests.{ltb-true, leb-true}
+use Rattle.geometry.specs.declared.Geometry.{Geometry}
 use Rattle.geometry.specs.Geometry.{within, piecesFor, entriesPerPiece, branchRoom}
 use Rattle.layout.specs.Bounded.{at, all, isZero}
 use Rattle.layout.specs.Word.{wordSum, startsWith}
@@ -85,30 +86,30 @@ module _ (d : ℕ) (ws : List ℕ) (long : length ws ≡ 128) where
   pub entries-past : all isZero (drop d (entryWords ws)) ≡ all isZero (slice (32 + d) 128 ws)
   entries-past = ap (all isZero) (drop-drop d 32 ws ∙ ap (drop (32 + d)) (sym (take-all 128 ws (omega arith))))
 
-module _ (n l : ℕ) (bs ws : List ℕ) where
-  pub valid-unmarked : startsWith mapMark bs ≡ false → valid n l bs ws ≡ false
+module _ (g : Geometry) (bs ws : List ℕ) where
+  pub valid-unmarked : startsWith mapMark bs ≡ false → valid g bs ws ≡ false
   unfolding valid
   valid-unmarked t = rw t
 
-  pub valid-unbalanced : startsWith mapMark bs ≡ true → isZero (wordSum ws) ≡ false → valid n l bs ws ≡ false
+  pub valid-unbalanced : startsWith mapMark bs ≡ true → isZero (wordSum ws) ≡ false → valid g bs ws ≡ false
   unfolding valid
   valid-unbalanced t z = rw (t, z)
 
   -- With the mark and the sum, the header, the branches and the entries are left.
   pub valid-parts : startsWith mapMark bs ≡ true → isZero (wordSum ws) ≡ true
-      → valid n l bs ws
-      ≡ (headerFits l ws && branchesFit n (at ws 6) (branchWords ws) && all isZero (drop (l - entriesPerPiece * at ws 4) (entryWords ws)))
+      → valid g bs ws
+      ≡ (headerFits (g .l) ws && branchesFit (g .n) (at ws 6) (branchWords ws) && all isZero (drop (g .l - entriesPerPiece * at ws 4) (entryWords ws)))
   unfolding valid headerFits fieldsFit
   valid-parts t z = rw (t, z)
 
-  pub valid-header : startsWith mapMark bs ≡ true → isZero (wordSum ws) ≡ true → headerFits l ws ≡ false → valid n l bs ws ≡ false
+  pub valid-header : startsWith mapMark bs ≡ true → isZero (wordSum ws) ≡ true → headerFits (g .l) ws ≡ false → valid g bs ws ≡ false
   valid-header t z h = valid-parts t z ∙ rw h
 
-  pub valid-branches : startsWith mapMark bs ≡ true → isZero (wordSum ws) ≡ true → headerFits l ws ≡ true
-      → branchesFit n (at ws 6) (branchWords ws) ≡ false → valid n l bs ws ≡ false
+  pub valid-branches : startsWith mapMark bs ≡ true → isZero (wordSum ws) ≡ true → headerFits (g .l) ws ≡ true
+      → branchesFit (g .n) (at ws 6) (branchWords ws) ≡ false → valid g bs ws ≡ false
   valid-branches t z h b = valid-parts t z ∙ rw (h, b)
 
-  pub valid-entries : startsWith mapMark bs ≡ true → isZero (wordSum ws) ≡ true → headerFits l ws ≡ true
-      → branchesFit n (at ws 6) (branchWords ws) ≡ true
-      → valid n l bs ws ≡ all isZero (drop (l - entriesPerPiece * at ws 4) (entryWords ws))
+  pub valid-entries : startsWith mapMark bs ≡ true → isZero (wordSum ws) ≡ true → headerFits (g .l) ws ≡ true
+      → branchesFit (g .n) (at ws 6) (branchWords ws) ≡ true
+      → valid g bs ws ≡ all isZero (drop (g .l - entriesPerPiece * at ws 4) (entryWords ws))
   valid-entries t z h b = valid-parts t z ∙ rw (h, b)

@@ -133,10 +133,10 @@ fn entries_fit(s: &[u8], l: u32) -> bool
 }
 
 // Whether s is a map sector of a volume of n sectors and l blocks. Most sectors are decided by their first bytes.
-pub fn is_valid(s: &[u8], n: u32, l: u32) -> bool
+pub fn is_valid(s: &[u8], g: Geometry) -> bool
     requires { ⌜ length (now s) ≡ sectorBytes ⌝ }
-    requires { ⌜ 1 ≤ n ⌝ }
-    ensures { λ r. ⌜ r ≡ valid n l (now (s .entry)) (wordsOf (now (s .entry))) ⌝ }
+    requires { ⌜ 1 ≤ g .n ⌝ }
+    ensures { λ r. ⌜ r ≡ valid g (now (s .entry)) (wordsOf (now (s .entry))) ⌝ }
 {
     if !marks::starts_with(s, &marks::MAP_MARK) {
         return false;
@@ -144,11 +144,11 @@ pub fn is_valid(s: &[u8], n: u32, l: u32) -> bool
     if sums::word_sum(s) != 0 {
         return false;
     }
-    if !header_fits(s, l) {
+    if !header_fits(s, g.l) {
         return false;
     }
-    if !branches_fit(s, n) {
+    if !branches_fit(s, g.n) {
         return false;
     }
-    entries_fit(s, l)
+    entries_fit(s, g.l)
 }

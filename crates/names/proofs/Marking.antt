@@ -11,6 +11,7 @@ use native.Mathlib.Omega.{arith}
 use lib.ListN.{replicate}
 use lib.Dec.{eqb, leb}
 use borrow.Author.Tests.{leb-true, eq-eqb, ne-eqb}
+use Rattle.geometry.specs.declared.Geometry.{Geometry}
 use Rattle.geometry.specs.Geometry.{within, piecesFor}
 use Rattle.layout.specs.Bounded.{at, allBelow, all, elem, distinct, always, gathered, updated}
 use Rattle.volume.specs.Tables.{bitAt, namedBy, usedBy}
@@ -203,7 +204,7 @@ zeros-marked bits us m e h =
     ∙ only (eqb k 0))
 
 -- All that tables name: the live places, then the sectors of the entries below i that are not zero.
-module _ (n l : ℕ) (entry place : ℕ → ℕ) where
+module _ (g : Geometry) (entry place : ℕ → ℕ) where
   taken : ℕ → Bool
   taken b = not (isEmpty (entry b))
 
@@ -211,39 +212,39 @@ module _ (n l : ℕ) (entry place : ℕ → ℕ) where
   sector b = sectorOf (entry b)
 
   places : List ℕ
-  places = gathered always place [] (piecesFor l)
+  places = gathered always place [] (piecesFor (g .l))
 
   pub Entries : ℕ → (ℕ → Bool) → Type 0
-  Entries i bits = Marking n taken sector places i bits
+  Entries i bits = Marking (g .n) taken sector places i bits
 
-  named-is : namedBy l entry place ≡ gathered taken sector places l
+  named-is : namedBy (g .l) entry place ≡ gathered taken sector places (g .l)
   unfolding namedBy taken sector places
   named-is = refl
 
-  module _ (len : ℕ) (same : len ≡ piecesFor l) (bits : ℕ → Bool) (r : Bool) (h : Left n (gathered always place [] len) r bits) where
+  module _ (len : ℕ) (same : len ≡ piecesFor (g .l)) (bits : ℕ → Bool) (r : Bool) (h : Left (g .n) (gathered always place [] len) r bits) where
     pub entries-start : not r ≡ false → Entries 0 bits
     unfolding Entries places
     entries-start e =
-        marking-starts n taken sector places bits
-        (subst (λ (x : ℕ). Marked n (gathered always place [] x) bits) same
-        (marked-left n (gathered always place [] len) bits r h (not-false r e)))
+        marking-starts (g .n) taken sector places bits
+        (subst (λ (x : ℕ). Marked (g .n) (gathered always place [] x) bits) same
+        (marked-left (g .n) (gathered always place [] len) bits r h (not-false r e)))
 
-    pub places-refused : not r ≡ true → Left n (namedBy l entry place) false bits
+    pub places-refused : not r ≡ true → Left (g .n) (namedBy (g .l) entry place) false bits
     unfolding places
     places-refused e =
-        subst (λ (xs : List ℕ). Left n xs false bits) (sym named-is)
-        (others-refused n taken sector places l bits
-        (subst (λ (x : ℕ). Fit n (gathered always place [] x) ≡ false) same (sym (h .0) ∙ not-of r e)))
+        subst (λ (xs : List ℕ). Left (g .n) xs false bits) (sym named-is)
+        (others-refused (g .n) taken sector places (g .l) bits
+        (subst (λ (x : ℕ). Fit (g .n) (gathered always place [] x) ≡ false) same (sym (h .0) ∙ not-of r e)))
 
   pub entries-skip : (i : ℕ) (bits : ℕ → Bool) → entry i ≡ 0 → Entries i bits → Entries (i + 1) bits
   unfolding Entries taken
-  entries-skip i bits e m = rw add-one (marking-skips n taken sector places i bits (ap not (eq-eqb (entry i) 0 e)) m)
+  entries-skip i bits e m = rw add-one (marking-skips (g .n) taken sector places i bits (ap not (eq-eqb (entry i) 0 e)) m)
 
   module _ (i : ℕ) (bits after : ℕ → Bool) (r : Bool) (k : ℕ) (e : entry i ≡ 0 → ⊥) (s : k ≡ sectorOf (entry i)) (m : Entries i bits)
-      (h : Told n k bits r after) where
-    told : Told n (sector i) bits r after
+      (h : Told (g .n) k bits r after) where
+    told : Told (g .n) (sector i) bits r after
     unfolding sector
-    told = subst (λ (x : ℕ). Told n x bits r after) s h
+    told = subst (λ (x : ℕ). Told (g .n) x bits r after) s h
 
     is-taken : taken i ≡ true
     unfolding taken
@@ -251,16 +252,16 @@ module _ (n l : ℕ) (entry place : ℕ → ℕ) where
 
     pub entry-marks : not r ≡ false → Entries (i + 1) after
     unfolding Entries
-    entry-marks z = rw add-one (marking-marks n taken sector places i bits after r is-taken m told (not-false r z))
+    entry-marks z = rw add-one (marking-marks (g .n) taken sector places i bits after r is-taken m told (not-false r z))
 
-    pub entry-refused : i < l → not r ≡ true → Left n (namedBy l entry place) false after
+    pub entry-refused : i < g .l → not r ≡ true → Left (g .n) (namedBy (g .l) entry place) false after
     unfolding Entries
     entry-refused b z =
-        subst (λ (xs : List ℕ). Left n xs false after) (sym named-is)
-        (marking-refused n taken sector places i bits after r is-taken m told l b (not-of r z))
+        subst (λ (xs : List ℕ). Left (g .n) xs false after) (sym named-is)
+        (marking-refused (g .n) taken sector places i bits after r is-taken m told (g .l) b (not-of r z))
 
-  pub entries-end : (i : ℕ) (bits : ℕ → Bool) → i ≡ l → Entries i bits → Left n (namedBy l entry place) true bits
+  pub entries-end : (i : ℕ) (bits : ℕ → Bool) → i ≡ g .l → Entries i bits → Left (g .n) (namedBy (g .l) entry place) true bits
   unfolding Entries
   entries-end i bits e m =
-      subst (λ (xs : List ℕ). Left n xs true bits) (sym named-is)
-      (left-marked n (gathered taken sector places l) bits (subst (λ (x : ℕ). Marking n taken sector places x bits) e m))
+      subst (λ (xs : List ℕ). Left (g .n) xs true bits) (sym named-is)
+      (left-marked (g .n) (gathered taken sector places (g .l)) bits (subst (λ (x : ℕ). Marking (g .n) taken sector places x bits) e m))

@@ -7,6 +7,7 @@ ghost use lib.ListN.{length, replicate};
 ghost use Rattle.geometry.specs.Geometry.{within, piecesFor};
 ghost use Rattle.layout.specs.Bounded.{at, all, distinct, always, gathered, updated};
 ghost use Rattle.volume.specs.Tables.{bitAt, namedBy, usedBy};
+use geometry::Geometry;
 
 // Marks a named sector; false where it is not one from 1 to n - 1, or is named already.
 fn mark_name(marks: &mut [u8], n: u32, k: u32) -> bool
@@ -45,16 +46,16 @@ fn mark_places(marks: &mut [u8], n: u32, places: &[u32]) -> bool
 }
 
 // Marks sector 0 and every sector that the tables name: the live places, then the sectors of all non-zero entries.
-pub fn mark_names(marks: &mut [u8], n: u32, l: u32, map: &[u32], places: &[u32]) -> bool
-    requires { ⌜ 1 ≤ n ⌝ }
-    requires { ⌜ n ≤ 8 * length (now marks) ⌝ }
-    requires { ⌜ length (now map) ≡ l ⌝ }
-    requires { ⌜ length (now places) ≡ piecesFor l ⌝ }
+pub fn mark_names(marks: &mut [u8], g: Geometry, map: &[u32], places: &[u32]) -> bool
+    requires { ⌜ 1 ≤ g .n ⌝ }
+    requires { ⌜ g .n ≤ 8 * length (now marks) ⌝ }
+    requires { ⌜ length (now map) ≡ g .l ⌝ }
+    requires { ⌜ length (now places) ≡ piecesFor (g .l) ⌝ }
     requires { ⌜ now marks ≡ replicate (length (now marks)) 0 ⌝ }
-    ensures { λ r. ⌜ (r ≡ (all (within 1 (n - 1)) (namedBy l (at (now (map .entry))) (at (now (places .entry)))) && distinct (namedBy l (at (now (map .entry))) (at (now (places .entry)))))) × (r ≡ true → bitAt (now (marks .exit)) ≡ usedBy (namedBy l (at (now (map .entry))) (at (now (places .entry))))) ⌝ }
+    ensures { λ r. ⌜ (r ≡ (all (within 1 (g .n - 1)) (namedBy (g .l) (at (now (map .entry))) (at (now (places .entry)))) && distinct (namedBy (g .l) (at (now (map .entry))) (at (now (places .entry)))))) × (r ≡ true → bitAt (now (marks .exit)) ≡ usedBy (namedBy (g .l) (at (now (map .entry))) (at (now (places .entry))))) ⌝ }
 {
     bits::set_bit(marks, 0);
-    if !mark_places(marks, n, places) {
+    if !mark_places(marks, g.n, places) {
         return false;
     }
     let mut i = 0;
@@ -64,7 +65,7 @@ pub fn mark_names(marks: &mut [u8], n: u32, l: u32, map: &[u32], places: &[u32])
             i += 1;
             continue 'entries;
         }
-        if !mark_name(marks, n, blocks::sector_of(entry)) {
+        if !mark_name(marks, g.n, blocks::sector_of(entry)) {
             return false;
         }
         i += 1;

@@ -1,10 +1,9 @@
 // The park call: the tail and its number go into sector 0, so that recovery can walk from there.
 ghost use mathlib.Core.Path.{_≡_};
-ghost use lib.ListN.{length};
 ghost use Rattle.volume.specs.Tables.{memory};
 ghost use Rattle.volume.specs.Refusals.{judged};
-ghost use Rattle.volume.specs.Store.{after, performed};
-ghost use Rattle.volume.specs.Calls.{parkChecks, parkAction, parkOf};
+ghost use Rattle.volume.specs.Store.{after};
+ghost use Rattle.volume.specs.Calls.{parkChecks, parkOf};
 ghost use Rattle.answer.specs.declared.Verdict.the-variants.{Pass};
 use answer::Answer;
 use answer::Refusal;
@@ -26,9 +25,8 @@ fn park_verdict(
     if !checks::state_fits(s, image.len()) {
         return Verdict::Refuse(Refusal::Size);
     }
-    let n = s.n;
-    let l = s.l;
-    if !checks::tables_fit(n, l, map.len(), places.len(), numbers.len(), used.len()) {
+    let g = s.geometry;
+    if !checks::tables_fit(g, map.len(), places.len(), numbers.len(), used.len()) {
         return Verdict::Refuse(Refusal::BufferLength);
     }
     if !s.is_running() {
@@ -61,7 +59,7 @@ pub fn park(
         Verdict::Pass => {
             if allowance == 0 {
                 return Outcome {
-                    answer: Answer::PowerFailed { stores: 0 },
+                    answer: Answer::power_failed(0),
                     state: s.cut(),
                 };
             }
@@ -69,7 +67,7 @@ pub fn park(
             let tail = s.tail;
             images::store_park(image, number, tail);
             Outcome {
-                answer: Answer::Accepted { stores: 1 },
+                answer: Answer::accepted(1),
                 state: s.parked(),
             }
         }

@@ -5,6 +5,7 @@ use mathlib.Core.Bool.{Bool, true, false, not, _&&_}
 use mathlib.Core.List.{List, []}
 use lib.ListN.{length, take}
 use lib.Dec.{eqb}
+use Rattle.geometry.specs.declared.Geometry.{Geometry}
 use Rattle.geometry.specs.Geometry.{piecesFor}
 use Rattle.layout.specs.Bounded.{at, anyBelow, countBelow, tabled}
 use Rattle.layout.specs.Word.{wordsOf}
@@ -23,10 +24,10 @@ unfoldable pub unflagged : ℕ → List ℕ → ℕ → Bool
 unflagged pieces flags = tabled false pieces (λ q. not (flagged flags q))
 
 -- Each live place is a sector from 1 to N - 1 that is signed with its piece.
-pub record Live (n l : ℕ) (image : ℕ → List ℕ) (place : ℕ → ℕ) (pieces : ℕ) : Type 0 where
+pub record Live (g : Geometry) (image : ℕ → List ℕ) (place : ℕ → ℕ) (pieces : ℕ) : Type 0 where
   pub low : (q : ℕ) → q < pieces → 1 ≤ place q
-  pub high : (q : ℕ) → q < pieces → place q < n
-  pub signed : (q : ℕ) → q < pieces → valid n l (image (place q)) (wordsOf (image (place q))) ≡ true
+  pub high : (q : ℕ) → q < pieces → place q < g .n
+  pub signed : (q : ℕ) → q < pieces → valid g (image (place q)) (wordsOf (image (place q))) ≡ true
   pub piece : (q : ℕ) → q < pieces → at (wordsOf (image (place q))) 4 ≡ q
 
 -- The plan: the first member's branches, the flags of the pieces written, the counts, and the sectors taken. Whether it folds
@@ -58,19 +59,19 @@ without bits test sector n k = bits k && not (anyBelow (λ i. test i && eqb k (s
 -- What the change of the tables relies on: the named blocks are below L and all different; each data sector's block gets an
 -- entry that names it, and each other block is emptied; as many sectors are taken as are written, and they are below N; the
 -- flags past P are clear; and the numbers suffice.
-pub record Settling (n l number : ℕ) (blocks entries taken : List ℕ) (dataSectors : ℕ) (written : List ℕ) : Type 0 where
-  pub inside : (i : ℕ) → i < length blocks → at blocks i < l
+pub record Settling (g : Geometry) (number : ℕ) (blocks entries taken : List ℕ) (dataSectors : ℕ) (written : List ℕ) : Type 0 where
+  pub inside : (i : ℕ) → i < length blocks → at blocks i < g .l
   pub apart : (i j : ℕ) → i < j → j < length blocks → at blocks i ≡ at blocks j → ⊥
   pub enough : length blocks ≤ length entries
   pub few : dataSectors ≤ length blocks
   pub full : (i : ℕ) → i < dataSectors → isEmpty (at entries i) ≡ false
   pub names : (i : ℕ) → i < dataSectors → sectorOf (at entries i) ≡ at taken i
   pub emptied : (i : ℕ) → dataSectors ≤ i → i < length blocks → at entries i ≡ 0
-  pub below : (i : ℕ) → i < length taken → at taken i < n
-  pub flags : piecesFor l ≤ length written
-  pub past : (p : ℕ) → piecesFor l ≤ p → flagged written p ≡ false
-  pub taken-all : dataSectors + countBelow (flagged written) (piecesFor l) ≡ length taken
-  pub numbers : number + countBelow (flagged written) (piecesFor l) < 2 ^ 32
+  pub below : (i : ℕ) → i < length taken → at taken i < g .n
+  pub flags : piecesFor (g .l) ≤ length written
+  pub past : (p : ℕ) → piecesFor (g .l) ≤ p → flagged written p ≡ false
+  pub taken-all : dataSectors + countBelow (flagged written) (piecesFor (g .l)) ≡ length taken
+  pub numbers : number + countBelow (flagged written) (piecesFor (g .l)) < 2 ^ 32
 
 -- The plan, as it stands in the arrays.
 pub record Planning (plan : Plan) (count members : ℕ) (branches written : List ℕ) (dataSectors : ℕ) (taken : List ℕ) : Type 0 where

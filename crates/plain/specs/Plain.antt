@@ -6,8 +6,9 @@ use Rattle.state.specs.declared.State.{State}
 use Rattle.state.specs.declared.Phase.{Phase}
 use Rattle.state.specs.declared.Phase.the-variants.{Running, Parked, Cut}
 use Rattle.state.specs.declared.Outcome.{Outcome}
-use Rattle.geometry.specs.Geometry.{within}
-use Rattle.answer.specs.Answer.{numberOf, storesOf, wayOf, readsOf}
+use Rattle.answer.specs.declared.Cost.{Cost}
+use Rattle.answer.specs.declared.Answer.{Answer}
+use Rattle.answer.specs.Answer.{isRefusal, numberOf, costOf, wayOf, readsOf}
 use Rattle.plain.specs.declared.CState.{CState}
 use Rattle.plain.specs.declared.CResult.{CResult}
 
@@ -20,21 +21,27 @@ phaseNumber Cut = 2
 unfoldable pub phaseOf : ℕ → Phase
 phaseOf number = cond (eqb number 0) Running (cond (eqb number 1) Parked Cut)
 
+abbrev pub stateIn : CState → Phase → State
+stateIn c phase = record { geometry = record { n = c .n; l = c .l }; tail = c .tail; number = c .number; phase = phase }
+
 abbrev pub stateOf : CState → State
-stateOf c = record { n = c .n; l = c .l; tail = c .tail; number = c .number; phase = phaseOf (c .phase) }
+stateOf c = stateIn c (phaseOf (c .phase))
+
+abbrev pub plainIn : State → ℕ → CState
+plainIn s phase = record { n = s .geometry .n; l = s .geometry .l; tail = s .tail; number = s .number; phase = phase }
 
 abbrev pub plainOf : State → CState
-plainOf s = record { n = s .n; l = s .l; tail = s .tail; number = s .number; phase = phaseNumber (s .phase) }
+plainOf s = plainIn s (phaseNumber (s .phase))
 
--- Numbers 1 to 7 leave the state as it came; any other answer has the state of the outcome.
-unfoldable pub stateLeft : CState → ℕ → State → CState
-stateLeft c number s = cond (within 1 7 number) c (plainOf s)
+-- A refusal leaves the state as it came; any other answer has the state of the outcome.
+unfoldable pub stateLeft : CState → Answer → State → CState
+stateLeft c answer s = cond (isRefusal answer) c (plainOf s)
 
-abbrev pub joined : ℕ → ℕ → ℕ → ℕ → CState → CResult
-joined answer stores way read left =
+abbrev pub joined : ℕ → Cost → ℕ → ℕ → CState → CResult
+joined answer cost way read left =
     record {
       answer = answer;
-      stores = stores;
+      stores = cost .stores;
       way = way;
       read = read;
       n = left .n;
@@ -47,5 +54,5 @@ joined answer stores way read left =
 -- The numbers of an outcome, for a call that was handed the state c.
 unfoldable pub resultOf : CState → Outcome → CResult
 resultOf c o =
-    joined (numberOf (o .answer)) (storesOf (o .answer)) (wayOf (o .answer)) (readsOf (o .answer))
-    (stateLeft c (numberOf (o .answer)) (o .state))
+    joined (numberOf (o .answer)) (costOf (o .answer)) (wayOf (o .answer)) (readsOf (o .answer))
+    (stateLeft c (o .answer) (o .state))

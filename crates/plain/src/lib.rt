@@ -1,6 +1,8 @@
 // A state and a result in plain numbers, as they cross to C.
 ghost use mathlib.Core.Path.{_≡_};
 ghost use Rattle.plain.specs.Plain.{phaseOf, phaseNumber, stateOf, plainOf, stateLeft, resultOf};
+use answer::Answer;
+use geometry::Geometry;
 use state::Outcome;
 use state::Phase;
 use state::State;
@@ -57,9 +59,9 @@ pub fn state_of(c: CState) -> State
     ensures { λ r. ⌜ r ≡ stateOf c ⌝ }
 {
     let phase = phase_of(c.phase);
+    let geometry = Geometry { n: c.n, l: c.l };
     State {
-        n: c.n,
-        l: c.l,
+        geometry,
         tail: c.tail,
         number: c.number,
         phase,
@@ -71,26 +73,24 @@ fn plain_of(s: State) -> CState
 {
     let came = s.phase;
     let phase = phase_number(came);
+    let g = s.geometry;
     CState {
-        n: s.n,
-        l: s.l,
+        n: g.n,
+        l: g.l,
         tail: s.tail,
         number: s.number,
         phase,
     }
 }
 
-// The state that goes back: after a refusal 1 to 7 it is the one that came, a number that is no phase too.
-fn state_left(c: CState, number: u32, s: State) -> CState
-    ensures { λ r. ⌜ r ≡ stateLeft c number s ⌝ }
+// The state that goes back: after a refusal it is the one that came, a number that is no phase too.
+fn state_left(c: CState, answer: Answer, s: State) -> CState
+    ensures { λ r. ⌜ r ≡ stateLeft c answer s ⌝ }
 {
-    if number < 1 {
-        return plain_of(s);
+    if answer.is_refusal() {
+        return c;
     }
-    if 7 < number {
-        return plain_of(s);
-    }
-    c
+    plain_of(s)
 }
 
 pub fn result_of(c: CState, o: Outcome) -> CResult
@@ -98,13 +98,13 @@ pub fn result_of(c: CState, o: Outcome) -> CResult
 {
     let given = o.answer;
     let answer = given.number();
-    let stores = given.stores();
+    let cost = given.cost();
     let way = given.way();
     let read = given.sectors_read();
-    let left = state_left(c, answer, o.state);
+    let left = state_left(c, given, o.state);
     CResult {
         answer,
-        stores,
+        stores: cost.stores,
         way,
         read,
         n: left.n,

@@ -80,16 +80,16 @@ touches-past blocks l q inside h =
     either : (a b : ℕ) → a < b → eqb a b ≡ false
     either a b k = ⊎-elim (λ (e : eqb a b ≡ true). let z = eqb-true a b e in absurd (omega arith)) (λ (e : eqb a b ≡ false). e) (bool? (eqb a b))
 
-module _ (s : State) (pl nu us blocks : List ℕ) (view : View) (head count : ℕ) (inside : (i : ℕ) → i < length blocks → at blocks i < s .l)
-    (touched written bs taken : List ℕ) (listed first members pieces : ℕ) (pieces-is : pieces ≡ piecesFor (s .l))
-    (lens : length nu ≡ piecesFor (s .l)) (room : length bs ≡ 25) (most : listed ≤ 25)
+module _ (s : State) (pl nu us blocks : List ℕ) (view : View) (head count : ℕ) (inside : (i : ℕ) → i < length blocks → at blocks i < s .geometry .l)
+    (touched written bs taken : List ℕ) (listed first members pieces : ℕ) (pieces-is : pieces ≡ piecesFor (s .geometry .l))
+    (lens : length nu ≡ piecesFor (s .geometry .l)) (room : length bs ≡ 25) (most : listed ≤ 25)
     (touching : flagged touched ≡ touches blocks)
     (listing-is : take listed bs
     ≡ take 25 (listing (length nu) (tablesOf [] pl nu []) view (unflagged (length nu) touched) (length nu) (suc (s .number)) (λ _. false)))
     (first-is : first ≡ cond (ltb 24 listed) 0 listed)
     (written-is : flagged written ≡ cond (ltb 24 listed) (λ q. ltb q pieces || flagged touched q) (flagged touched)) where
   abbrev whole : List ℕ
-  whole = branchesFor (s .l) (tablesOf [] pl nu us) view (s .number) blocks
+  whole = branchesFor (s .geometry .l) (tablesOf [] pl nu us) view (s .number) blocks
 
   same-list : take listed bs ≡ take 25 whole
   unfolding branchesFor unflagged
@@ -98,25 +98,25 @@ module _ (s : State) (pl nu us blocks : List ℕ) (view : View) (head count : �
       ∙ ap (take 25)
       (listing-any (length nu) [] [] pl nu [] us view (unflagged (length nu) touched) (length nu) (suc (s .number)) (λ _. false)
       ∙ ap (λ (k : ℕ). listing k (tablesOf [] pl nu us) view (tabled false k (λ q. not (flagged touched q))) k (suc (s .number)) (λ _. false)) lens
-      ∙ ap (λ (f : ℕ → Bool). listing (piecesFor (s .l)) (tablesOf [] pl nu us) view (tabled false (piecesFor (s .l)) (λ q. not (f q))) (piecesFor (s .l)) (suc (s .number)) (λ _. false))
+      ∙ ap (λ (f : ℕ → Bool). listing (piecesFor (s .geometry .l)) (tablesOf [] pl nu us) view (tabled false (piecesFor (s .geometry .l)) (λ q. not (f q))) (piecesFor (s .geometry .l)) (suc (s .number)) (λ _. false))
       touching)
 
-  flags-after : (fold : Bool) → flagged written ≡ cond fold (λ q. ltb q (piecesFor (s .l)) || flagged touched q) (flagged touched)
-      → flagged written ≡ tabled false (piecesFor (s .l)) (λ q. fold || touches blocks q)
+  flags-after : (fold : Bool) → flagged written ≡ cond fold (λ q. ltb q (piecesFor (s .geometry .l)) || flagged touched q) (flagged touched)
+      → flagged written ≡ tabled false (piecesFor (s .geometry .l)) (λ q. fold || touches blocks q)
   flags-after true e =
       e
       ∙ fun-ext (λ q.
-      ⊎-elim (λ (h : q < piecesFor (s .l)). rw (lt-ltb q (piecesFor (s .l)) h) (sym (tabled-at false (piecesFor (s .l)) (λ q. true) q h)))
-      (λ (h : piecesFor (s .l) ≤ q).
-      rw (le-ltb q (piecesFor (s .l)) h)
-      (ap (λ (f : ℕ → Bool). f q) touching ∙ touches-past blocks (s .l) q inside h ∙ sym (tabled-past false (piecesFor (s .l)) (λ q. true) q h)))
-      (lt? q (piecesFor (s .l))))
+      ⊎-elim (λ (h : q < piecesFor (s .geometry .l)). rw (lt-ltb q (piecesFor (s .geometry .l)) h) (sym (tabled-at false (piecesFor (s .geometry .l)) (λ q. true) q h)))
+      (λ (h : piecesFor (s .geometry .l) ≤ q).
+      rw (le-ltb q (piecesFor (s .geometry .l)) h)
+      (ap (λ (f : ℕ → Bool). f q) touching ∙ touches-past blocks (s .geometry .l) q inside h ∙ sym (tabled-past false (piecesFor (s .geometry .l)) (λ q. true) q h)))
+      (lt? q (piecesFor (s .geometry .l))))
   flags-after false e =
       e ∙ touching
       ∙ fun-ext (λ q.
-      ⊎-elim (λ (h : q < piecesFor (s .l)). sym (tabled-at false (piecesFor (s .l)) (λ q. touches blocks q) q h))
-      (λ (h : piecesFor (s .l) ≤ q). touches-past blocks (s .l) q inside h ∙ sym (tabled-past false (piecesFor (s .l)) (λ q. touches blocks q) q h))
-      (lt? q (piecesFor (s .l))))
+      ⊎-elim (λ (h : q < piecesFor (s .geometry .l)). sym (tabled-at false (piecesFor (s .geometry .l)) (λ q. touches blocks q) q h))
+      (λ (h : piecesFor (s .geometry .l) ≤ q). touches-past blocks (s .geometry .l) q inside h ∙ sym (tabled-past false (piecesFor (s .geometry .l)) (λ q. touches blocks q) q h))
+      (lt? q (piecesFor (s .geometry .l))))
 
   branches-after : (fold : Bool) → fold ≡ ltb 24 (length whole) → first ≡ cond fold 0 listed → take first bs ≡ cond fold [] whole
   branches-after true e f = ap (λ (k : ℕ). take k bs) f
@@ -132,7 +132,7 @@ module _ (s : State) (pl nu us blocks : List ℕ) (view : View) (head count : �
       ⊎-elim (λ (h : 24 < listed). clash (ltb 24 listed) (lt-ltb 24 listed h) (sym e)) (λ (h : listed ≤ 24). omega arith) (lt? 24 listed)
 
   pub planning : members ≡ countBelow (flagged written) pieces
-      → take (count + members) taken ≡ listFrom (placeOf base (s .n) (bitAt us) head) 0 (count + members)
+      → take (count + members) taken ≡ listFrom (placeOf base (s .geometry .n) (bitAt us) head) 0 (count + members)
       → Planning (planned base s (tablesOf [] pl nu us) view head (changeOf blocks [] count)) first members bs written count taken
   unfolding planned
   planning m t =
@@ -140,14 +140,14 @@ module _ (s : State) (pl nu us blocks : List ℕ) (view : View) (head count : �
       let flags = flags-after (ltb 24 (length whole))
       (written-is ∙ ap (λ (b : Bool). cond b (λ q. ltb q pieces || flagged touched q) (flagged touched)) alike
       ∙ ap (λ (k : ℕ). cond (ltb 24 (length whole)) (λ q. ltb q k || flagged touched q) (flagged touched)) pieces-is) in
-      let counted : members ≡ countBelow (tabled false (piecesFor (s .l)) (λ q. ltb 24 (length whole) || touches blocks q)) (piecesFor (s .l))
-      = m ∙ ap (countBelow (flagged written)) pieces-is ∙ ap (λ (f : ℕ → Bool). countBelow f (piecesFor (s .l))) flags in
+      let counted : members ≡ countBelow (tabled false (piecesFor (s .geometry .l)) (λ q. ltb 24 (length whole) || touches blocks q)) (piecesFor (s .geometry .l))
+      = m ∙ ap (countBelow (flagged written)) pieces-is ∙ ap (λ (f : ℕ → Bool). countBelow f (piecesFor (s .geometry .l))) flags in
       record {
         members-are = counted;
         branches-are = branches-after (ltb 24 (length whole)) refl (first-is ∙ ap (λ (b : Bool). cond b 0 listed) alike);
         few = few-after (ltb 24 listed) refl first-is;
         written-are = flags;
-        taken-are = t ∙ ap (λ (k : ℕ). listFrom (placeOf base (s .n) (bitAt us) head) 0 (count + k)) counted;
+        taken-are = t ∙ ap (λ (k : ℕ). listFrom (placeOf base (s .geometry .n) (bitAt us) head) 0 (count + k)) counted;
       }
 
 pub counted-few : (f : ℕ → Bool) (pieces members : ℕ) → members ≡ countBelow f pieces → members ≤ pieces

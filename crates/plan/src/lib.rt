@@ -75,29 +75,28 @@ pub fn plan(
     branches: &mut [u32],
     taken: &mut [u32],
 ) -> Sizes
-    requires { ⌜ geometryFits (s .n) (s .l) ≡ true ⌝ }
-    requires { ⌜ length (now image) ≡ sectorBytes * s .n ⌝ }
-    requires { ⌜ length (now places) ≡ piecesFor (s .l) ⌝ }
-    requires { ⌜ length (now numbers) ≡ piecesFor (s .l) ⌝ }
-    requires { ⌜ length (now used) ≡ usedBytes (s .n) ⌝ }
-    requires { ⌜ head < s .n ⌝ }
+    requires { ⌜ geometryFits (s .geometry) ≡ true ⌝ }
+    requires { ⌜ length (now image) ≡ sectorBytes * s .geometry .n ⌝ }
+    requires { ⌜ length (now places) ≡ piecesFor (s .geometry .l) ⌝ }
+    requires { ⌜ length (now numbers) ≡ piecesFor (s .geometry .l) ⌝ }
+    requires { ⌜ length (now used) ≡ usedBytes (s .geometry .n) ⌝ }
+    requires { ⌜ head < s .geometry .n ⌝ }
     requires { ⌜ s .number ≤ 4294967039 ⌝ }
     requires { ⌜ count ≤ 64 ⌝ }
-    requires { ⌜ ((i : ℕ) → i < length (now blocks) → at (now blocks) i < s .l) ⌝ }
-    requires { ⌜ Live (s .n) (s .l) (sectorAt (now image)) (at (now places)) (piecesFor (s .l)) ⌝ }
+    requires { ⌜ ((i : ℕ) → i < length (now blocks) → at (now blocks) i < s .geometry .l) ⌝ }
+    requires { ⌜ Live (s .geometry) (sectorAt (now image)) (at (now places)) (piecesFor (s .geometry .l)) ⌝ }
     requires { ⌜ now written ≡ replicate 256 0 ⌝ }
     requires { ⌜ length (now branches) ≡ 25 ⌝ }
     requires { ⌜ length (now taken) ≡ 320 ⌝ }
-    ensures { λ r. ⌜ Planning (planned base s (tablesOf [] (now (places .entry)) (now (numbers .entry)) (now (used .entry))) (viewOf (s .n) (s .l) (sectorAt (now (image .entry)))) head (changeOf (now (blocks .entry)) [] count)) (r .branches) (r .members) (now (branches .exit)) (now (written .exit)) count (now (taken .exit)) ⌝ }
+    ensures { λ r. ⌜ Planning (planned base s (tablesOf [] (now (places .entry)) (now (numbers .entry)) (now (used .entry))) (viewOf (s .geometry) (sectorAt (now (image .entry)))) head (changeOf (now (blocks .entry)) [] count)) (r .branches) (r .members) (now (branches .exit)) (now (written .exit)) count (now (taken .exit)) ⌝ }
 {
-    let n = s.n;
-    let l = s.l;
-    let pieces = Geometry::pieces_for(l);
+    let g = s.geometry;
+    let pieces = Geometry::pieces_for(g.l);
     pieces::touch_pieces(written, blocks);
-    let listed = listing::list_branches(image, n, l, places, numbers, written, s.number, branches);
+    let listed = listing::list_branches(image, g, places, numbers, written, s.number, branches);
     let first = fold(written, pieces, listed);
     let members = pieces::count_flagged(written, pieces);
-    take_sectors(used, n, head, (count + members) as usize, taken);
+    take_sectors(used, g.n, head, (count + members) as usize, taken);
     Sizes {
         branches: first,
         members,

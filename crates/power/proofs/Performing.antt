@@ -5,6 +5,8 @@ use mathlib.Core.List.{List}
 use native.Mathlib.Omega.{arith}
 use lib.ListN.{length, take}
 use lib.Seq.{take-all}
+use Rattle.state.specs.declared.State.{State}
+use Rattle.answer.specs.declared.Answer.{Answer}
 use Rattle.answer.specs.declared.Answer.the-variants.{PowerFailed}
 use Rattle.volume.specs.Tables.{Tables, Memory, memory, sectorAt, tablesOf}
 use Rattle.volume.specs.Store.{Store, applied, after, memoryWith, Action, performed}
@@ -28,18 +30,23 @@ memory-left im mp pl nu us im′ mp′ pl′ nu′ us′ image t e1 e2 e3 e4 e5 
 
 -- A storing call by the stores that it made, and the memory that it left.
 module _ (allowance : ℕ) (a : Action) (m m′ : Memory) (image : ℕ → List ℕ) (made : image ≡ applied (take allowance (a .stores)) (m .image)) where
-  pub call-cut : Failed ≡ powered (length (a .stores)) allowance → m′ ≡ memoryWith m image (a .cutTables)
-      → after (record { answer = PowerFailed allowance; state = a .cutState }) m′ ≡ performed allowance a m
-  call-cut e f =
-      ap (after (record { answer = PowerFailed allowance; state = a .cutState })) (f ∙ ap (λ (i : ℕ → List ℕ). memoryWith m i (a .cutTables)) made)
+  pub call-cut : (x : Answer) (y : State) → x ≡ PowerFailed ((a .cost) allowance) → y ≡ a .cutState
+      → Failed ≡ powered (length (a .stores)) allowance → m′ ≡ memoryWith m image (a .cutTables)
+      → after (record { answer = x; state = y }) m′ ≡ performed allowance a m
+  call-cut x y p q e f =
+      ap (λ (z : Answer). after (record { answer = z; state = y }) m′) p
+      ∙ ap (λ (z : State). after (record { answer = PowerFailed ((a .cost) allowance); state = z }) m′) q
+      ∙ ap (after (record { answer = PowerFailed ((a .cost) allowance); state = a .cutState })) (f ∙ ap (λ (i : ℕ → List ℕ). memoryWith m i (a .cutTables)) made)
       ∙ sym (performed-cut allowance a m (failed-short (length (a .stores)) allowance e))
 
-  pub call-whole : (left : ℕ) → Left left ≡ powered (length (a .stores)) allowance → m′ ≡ memoryWith m image (a .tables)
-      → after (record { answer = (a .answer) (allowance - left); state = a .state }) m′ ≡ performed allowance a m
-  call-whole left e f =
+  pub call-whole : (x : Answer) (y : State) (left : ℕ) → x ≡ (a .answer) ((a .cost) (allowance - left)) → y ≡ a .state
+      → Left left ≡ powered (length (a .stores)) allowance → m′ ≡ memoryWith m image (a .tables)
+      → after (record { answer = x; state = y }) m′ ≡ performed allowance a m
+  call-whole x y left p q e f =
       let enough = left-enough (length (a .stores)) allowance left e in
       let count : allowance - left ≡ length (a .stores) = omega arith in
-      ap (λ (k : ℕ). after (record { answer = (a .answer) k; state = a .state }) m′) count
-      ∙ ap (after (record { answer = (a .answer) (length (a .stores)); state = a .state }))
+      ap (λ (z : Answer). after (record { answer = z; state = y }) m′) (p ∙ ap (λ (k : ℕ). (a .answer) ((a .cost) k)) count)
+      ∙ ap (λ (z : State). after (record { answer = (a .answer) ((a .cost) (length (a .stores))); state = z }) m′) q
+      ∙ ap (after (record { answer = (a .answer) ((a .cost) (length (a .stores))); state = a .state }))
       (f ∙ ap (λ (i : ℕ → List ℕ). memoryWith m i (a .tables)) (made ∙ ap (λ (zs : List Store). applied zs (m .image)) (take-all allowance (a .stores) (omega arith))))
       ∙ sym (performed-whole allowance a m (omega arith))

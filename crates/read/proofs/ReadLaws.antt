@@ -10,6 +10,8 @@ use lib.Dec.{eqb, ltb, leb}
 use borrow.Author.Tests.{eqb-true, eq-eqb, ne-eqb, lt-ltb, le-ltb, ltb-true, leb-true, le-leb, lt-leb, not-true, not-false}
 use Rattle.state.specs.declared.State.{State}
 use Rattle.answer.specs.declared.Refusal.{Refusal}
+use Rattle.answer.specs.Answer.{storesAlone}
+use Rattle.answer.specs.declared.Answer.{Answer}
 use Rattle.answer.specs.declared.Answer.the-variants.{Accepted, Refused}
 use Rattle.answer.specs.declared.Refusal.the-variants.{Size, BufferLength, BlockNumbers, WrongPhase, Inconsistent}
 use Rattle.answer.specs.declared.Verdict.{Verdict}
@@ -19,13 +21,13 @@ use Rattle.state.specs.State.{isReadable}
 use Rattle.layout.specs.Bounded.{at}
 use Rattle.layout.specs.Entry.{isEmpty, sectorOf, restored}
 use Rattle.volume.specs.Tables.{memory, sectorAt}
-use Rattle.volume.specs.Refusals.{judged}
+use Rattle.volume.specs.Refusals.{applies, firstOf, judged}
 use Rattle.volume.specs.Format.{tablesFit}
 use Rattle.volume.specs.Calls.{stateFits, entryReadable, readChecks, blockOf, readJudged, readOf}
 use Rattle.checks.specs.Left.{readLeft}
 use Rattle.laws.proofs.Bounded.{and-l, and-r, or-cases}
-use Rattle.laws.proofs.Sizes.{fits}
-use Rattle.laws.proofs.Judged.{passes-first, passes-rest}
+use Rattle.laws.proofs.Sizes.{fits, state-fits, tables-fit}
+use Rattle.laws.proofs.Judged.{cleared}
 use Rattle.checks.proofs.TestLaws.{StateTest, TablesTest}
 
 -- The test of one entry.
@@ -46,68 +48,68 @@ module _ (s : State) (im mp pl nu us : List ℕ) (block out : ℕ) (b1 : Bool) (
   verdict = judged (readChecks s (memory im mp pl nu us) block out)
 
   pub size-refused : not b1 ≡ true → Refuse Size ≡ verdict
-  unfolding readChecks stateFits memory judged
+  unfolding readChecks stateFits memory judged firstOf applies
   size-refused e = rw (sym f1 ∙ not-true b1 e) refl
 
   module _ (e1 : not b1 ≡ false) (b2 : Bool) (f2 : TablesTest s mp pl nu us b2) where
     pub tables-refused : not b2 ≡ true → Refuse BufferLength ≡ verdict
-    unfolding readChecks stateFits tablesFit memory judged
+    unfolding readChecks stateFits tablesFit memory judged firstOf applies
     tables-refused e = rw (sym f1 ∙ not-false b1 e1, sym f2 ∙ not-true b2 e) refl
 
     module _ (e2 : not b2 ≡ false) where
       pub out-refused : (out ≡ 512 → ⊥) → Refuse BufferLength ≡ verdict
-      unfolding readChecks stateFits tablesFit memory judged
+      unfolding readChecks stateFits tablesFit memory judged firstOf applies
       out-refused e = rw (sym f1 ∙ not-false b1 e1, sym f2 ∙ not-false b2 e2, ne-eqb out 512 e) refl
 
-      pub block-refused : out ≡ 512 → s .l ≤ block → Refuse BlockNumbers ≡ verdict
-      unfolding readChecks stateFits tablesFit memory judged
-      block-refused e h = rw (sym f1 ∙ not-false b1 e1, sym f2 ∙ not-false b2 e2, eq-eqb out 512 e, le-ltb block (s .l) h) refl
+      pub block-refused : out ≡ 512 → s .geometry .l ≤ block → Refuse BlockNumbers ≡ verdict
+      unfolding readChecks stateFits tablesFit memory judged firstOf applies
+      block-refused e h = rw (sym f1 ∙ not-false b1 e1, sym f2 ∙ not-false b2 e2, eq-eqb out 512 e, le-ltb block (s .geometry .l) h) refl
 
-      module _ (e3 : out ≡ 512) (h : block < s .l) (b3 : Bool) (f3 : b3 ≡ isReadable (s .phase)) where
+      module _ (e3 : out ≡ 512) (h : block < s .geometry .l) (b3 : Bool) (f3 : b3 ≡ isReadable (s .phase)) where
         pub phase-refused : not b3 ≡ true → Refuse WrongPhase ≡ verdict
-        unfolding readChecks stateFits tablesFit memory judged
+        unfolding readChecks stateFits tablesFit memory judged firstOf applies
         phase-refused e =
-            rw (sym f1 ∙ not-false b1 e1, sym f2 ∙ not-false b2 e2, eq-eqb out 512 e3, lt-ltb block (s .l) h, sym f3 ∙ not-true b3 e) refl
+            rw (sym f1 ∙ not-false b1 e1, sym f2 ∙ not-false b2 e2, eq-eqb out 512 e3, lt-ltb block (s .geometry .l) h, sym f3 ∙ not-true b3 e) refl
 
-        module _ (e4 : not b3 ≡ false) (b4 : Bool) (f4 : b4 ≡ entryReadable (s .n) (at mp block)) where
+        module _ (e4 : not b3 ≡ false) (b4 : Bool) (f4 : b4 ≡ entryReadable (s .geometry .n) (at mp block)) where
           pub entry-refused : not b4 ≡ true → Refuse Inconsistent ≡ verdict
-          unfolding readChecks stateFits tablesFit memory judged
+          unfolding readChecks stateFits tablesFit memory judged firstOf applies
           entry-refused e =
               rw (
                 sym f1 ∙ not-false b1 e1,
                 sym f2 ∙ not-false b2 e2,
                 eq-eqb out 512 e3,
-                lt-ltb block (s .l) h,
+                lt-ltb block (s .geometry .l) h,
                 sym f3 ∙ not-false b3 e4,
                 sym f4 ∙ not-true b4 e,
               )
               refl
 
           pub none-refused : not b4 ≡ false → Pass ≡ verdict
-          unfolding readChecks stateFits tablesFit memory judged
+          unfolding readChecks stateFits tablesFit memory judged firstOf applies
           none-refused e =
               rw (
                 sym f1 ∙ not-false b1 e1,
                 sym f2 ∙ not-false b2 e2,
                 eq-eqb out 512 e3,
-                lt-ltb block (s .l) h,
+                lt-ltb block (s .geometry .l) h,
                 sym f3 ∙ not-false b3 e4,
                 sym f4 ∙ not-false b4 e,
               )
               refl
 
   -- The map has L words.
-  pub map-length : not b1 ≡ false → (b2 : Bool) → TablesTest s mp pl nu us b2 → not b2 ≡ false → length mp ≡ s .l
+  pub map-length : not b1 ≡ false → (b2 : Bool) → TablesTest s mp pl nu us b2 → not b2 ≡ false → length mp ≡ s .geometry .l
   map-length e1 b2 f2 e2 =
-      let c1 = eqb (length mp) (s .l) in
-      let c2 = eqb (length pl) (piecesFor (s .l)) in
-      let c3 = eqb (length nu) (piecesFor (s .l)) in
-      let c4 = eqb (length us) (usedBytes (s .n)) in
-      eqb-true (length mp) (s .l) (and-l c1 c2 (and-l (c1 && c2) c3 (and-l (c1 && c2 && c3) c4 (sym f2 ∙ not-false b2 e2))))
+      let c1 = eqb (length mp) (s .geometry .l) in
+      let c2 = eqb (length pl) (piecesFor (s .geometry .l)) in
+      let c3 = eqb (length nu) (piecesFor (s .geometry .l)) in
+      let c4 = eqb (length us) (usedBytes (s .geometry .n)) in
+      eqb-true (length mp) (s .geometry .l) (and-l c1 c2 (and-l (c1 && c2) c3 (and-l (c1 && c2 && c3) c4 (sym f2 ∙ not-false b2 e2))))
 
-  pub some-sectors : not b1 ≡ false → 1 ≤ s .n
+  pub some-sectors : not b1 ≡ false → 1 ≤ s .geometry .n
   some-sectors e =
-      let f = fits (s .n) (s .l) (and-r (eqb (length im) (512 * s .n)) (geometryFits (s .n) (s .l)) (sym f1 ∙ not-false b1 e)) in
+      let f = fits (s .geometry) (and-r (eqb (length im) (512 * s .geometry .n)) (geometryFits (s .geometry)) (sym f1 ∙ not-false b1 e)) in
       let z = f .least in
       omega arith
 
@@ -128,29 +130,21 @@ entry-inside n entry some e =
 
 pub readable : (s : State) (im mp pl nu us : List ℕ) (block out : ℕ) → Pass ≡ judged (readChecks s (memory im mp pl nu us) block out)
     → Readable im mp block out
-unfolding readChecks stateFits tablesFit memory
+unfolding readChecks memory applies
 readable s im mp pl nu us block out e =
-    let p1 = sym e in
-    let p2 = passes-rest _ _ p1 in
-    let p3 = passes-rest _ _ p2 in
-    let p4 = passes-rest _ _ p3 in
-    let p5 = passes-rest _ _ p4 in
-    let sizes = not-false (eqb (length im) (512 * s .n) && geometryFits (s .n) (s .l)) (passes-first _ _ p1) in
-    let fit = fits (s .n) (s .l) (and-r (eqb (length im) (512 * s .n)) (geometryFits (s .n) (s .l)) sizes) in
-    let len = eqb-true (length im) (512 * s .n) (and-l (eqb (length im) (512 * s .n)) (geometryFits (s .n) (s .l)) sizes) in
-    let c1 = eqb (length mp) (s .l) in
-    let c2 = eqb (length pl) (piecesFor (s .l)) in
-    let c3 = eqb (length nu) (piecesFor (s .l)) in
-    let c4 = eqb (length us) (usedBytes (s .n)) in
-    let lens = not-false (c1 && c2 && c3 && c4 && eqb out 512) (passes-first _ _ p2) in
-    let map = eqb-true (length mp) (s .l) (and-l c1 c2 (and-l (c1 && c2) c3 (and-l (c1 && c2 && c3) c4 (and-l (c1 && c2 && c3 && c4) (eqb out 512) lens)))) in
-    let below = ltb-true block (s .l) (not-false (ltb block (s .l)) (passes-first _ _ p3)) in
-    let least = fit .least in
-    let inside = entry-inside (s .n) (at mp block) (omega arith) (not-false (entryReadable (s .n) (at mp block)) (passes-first _ _ p5)) in
+    let g = s .geometry in
+    let m = memory im mp pl nu us in
+    let sizes = state-fits s im mp pl nu us (not-false (stateFits s m) (cleared Size _ (sym e))) in
+    let least = fits g (sizes .range) .least in
+    let len = sizes .image in
+    let lens = not-false (tablesFit m g && eqb out 512) (cleared BufferLength _ (sym e)) in
+    let map = tables-fit im mp pl nu us g (and-l (tablesFit m g) (eqb out 512) lens) .map in
+    let below = ltb-true block (g .l) (not-false (ltb block (g .l)) (cleared BlockNumbers _ (sym e))) in
+    let inside = entry-inside (g .n) (at mp block) (omega arith) (not-false (entryReadable (g .n) (at mp block)) (cleared Inconsistent _ (sym e))) in
     record {
       in-map = omega arith;
       in-image = omega arith;
-      whole = eqb-true out 512 (and-r (c1 && c2 && c3 && c4) (eqb out 512) lens);
+      whole = eqb-true out 512 (and-r (tablesFit m g) (eqb out 512) lens);
     }
 
 -- The result of a read.
@@ -160,11 +154,12 @@ pub read-refused : (s : State) (im mp pl nu us : List ℕ) (block : ℕ) (out : 
 unfolding readOf readJudged
 read-refused s im mp pl nu us block out r e = ap (λ (v : Verdict). readJudged v s (memory im mp pl nu us) block out) e
 
-pub read-done : (s : State) (im mp pl nu us : List ℕ) (block : ℕ) (out left : List ℕ)
+pub read-done : (s : State) (im mp pl nu us : List ℕ) (block : ℕ) (out left : List ℕ) (x : Answer) → x ≡ Accepted (storesAlone 0)
     → Pass ≡ judged (readChecks s (memory im mp pl nu us) block (length out))
     → left ≡ restored (at mp block) (sectorAt im (sectorOf (at mp block)))
-    → readLeft (record { answer = Accepted 0; state = s }) (memory im mp pl nu us) left ≡ readOf s (memory im mp pl nu us) block out
+    → readLeft (record { answer = x; state = s }) (memory im mp pl nu us) left ≡ readOf s (memory im mp pl nu us) block out
 unfolding readOf readJudged blockOf memory
-read-done s im mp pl nu us block out left e f =
-    ap (λ (xs : List ℕ). readLeft (record { answer = Accepted 0; state = s }) (memory im mp pl nu us) xs) f
+read-done s im mp pl nu us block out left x p e f =
+    ap (λ (a : Answer). readLeft (record { answer = a; state = s }) (memory im mp pl nu us) left) p
+    ∙ ap (λ (xs : List ℕ). readLeft (record { answer = Accepted (storesAlone 0); state = s }) (memory im mp pl nu us) xs) f
     ∙ ap (λ (v : Verdict). readJudged v s (memory im mp pl nu us) block out) e

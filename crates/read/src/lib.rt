@@ -1,8 +1,7 @@
 // The read call: the block that an entry names, restored where it was stored flipped.
 ghost use mathlib.Core.Path.{_≡_};
-ghost use Prim.Native.Nat.{_*_, _≤_, _<_};
+ghost use Prim.Native.Nat.{_≤_, _<_};
 ghost use lib.ListN.{length};
-ghost use Rattle.geometry.specs.Geometry.{sectorBytes};
 ghost use Rattle.layout.specs.Bounded.{at};
 ghost use Rattle.layout.specs.Entry.{sectorOf, restored};
 ghost use Rattle.volume.specs.Tables.{sectorAt, memory};
@@ -47,21 +46,20 @@ fn read_verdict(
     if !checks::state_fits(s, image.len()) {
         return Verdict::Refuse(Refusal::Size);
     }
-    let n = s.n;
-    let l = s.l;
-    if !checks::tables_fit(n, l, map.len(), places.len(), numbers.len(), used.len()) {
+    let g = s.geometry;
+    if !checks::tables_fit(g, map.len(), places.len(), numbers.len(), used.len()) {
         return Verdict::Refuse(Refusal::BufferLength);
     }
     if out != 512 {
         return Verdict::Refuse(Refusal::BufferLength);
     }
-    if l <= block {
+    if g.l <= block {
         return Verdict::Refuse(Refusal::BlockNumbers);
     }
     if !s.is_readable() {
         return Verdict::Refuse(Refusal::WrongPhase);
     }
-    if !entry_readable(n, map[block as usize]) {
+    if !entry_readable(g.n, map[block as usize]) {
         return Verdict::Refuse(Refusal::Inconsistent);
     }
     Verdict::Pass
@@ -108,7 +106,7 @@ pub fn read(
         Verdict::Pass => {
             fill(s, image, map, places, numbers, used, block, out);
             Outcome {
-                answer: Answer::Accepted { stores: 0 },
+                answer: Answer::accepted(0),
                 state: s,
             }
         }

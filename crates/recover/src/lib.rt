@@ -2,7 +2,7 @@
 ghost use mathlib.Core.Path.{_≡_};
 ghost use Prim.Native.Nat.{_/_};
 ghost use lib.ListN.{length};
-ghost use Rattle.geometry.specs.Geometry.{sectorBytes};
+ghost use Rattle.geometry.specs.Geometry.{sectorBytes, geometryOf};
 ghost use Rattle.answer.specs.declared.Verdict.the-variants.{Pass};
 ghost use Rattle.volume.specs.Tables.{sectorAt, memory};
 ghost use Rattle.volume.specs.Refusals.{judged};
@@ -12,6 +12,7 @@ ghost use Rattle.volume.specs.Recover.{findingOf, recovered, imageView, recover
 use answer::Answer;
 use answer::Verdict;
 use geometry::Geometry;
+use geometry::Settings;
 use state::Outcome;
 use state::State;
 use walk::Way;
@@ -23,24 +24,23 @@ fn find(
     places: &mut [u32],
     numbers: &mut [u32],
     used: &mut [u8],
-    l: u32,
+    settings: Settings,
     allowance: u32,
 ) -> Outcome
-    requires { ⌜ Pass ≡ judged (sizeChecks (memory (now image) (now map) (now places) (now numbers) (now used)) l) ⌝ }
-    ensures { λ r. ⌜ after r (memory (now (image .exit)) (now (map .exit)) (now (places .exit)) (now (numbers .exit)) (now (used .exit))) ≡ recovered (length (now (image .entry)) / sectorBytes) l allowance (memory (now (image .entry)) (now (map .entry)) (now (places .entry)) (now (numbers .entry)) (now (used .entry))) (findingOf (length (now (image .entry)) / sectorBytes) l (imageView (length (now (image .entry)) / sectorBytes) l (sectorAt (now (image .entry)))) (sectorAt (now (image .entry)) 0)) ⌝ }
+    requires { ⌜ Pass ≡ judged (sizeChecks (memory (now image) (now map) (now places) (now numbers) (now used)) settings) ⌝ }
+    ensures { λ r. ⌜ after r (memory (now (image .exit)) (now (map .exit)) (now (places .exit)) (now (numbers .exit)) (now (used .exit))) ≡ recovered (geometryOf (length (now (image .entry)) / sectorBytes) settings) allowance (memory (now (image .entry)) (now (map .entry)) (now (places .entry)) (now (numbers .entry)) (now (used .entry))) (findingOf (geometryOf (length (now (image .entry)) / sectorBytes) settings) (imageView (geometryOf (length (now (image .entry)) / sectorBytes) settings) (sectorAt (now (image .entry)))) (sectorAt (now (image .entry)) 0)) ⌝ }
 {
-    let n = (image.len() / Geometry::SECTOR) as u32;
-    let way = walk::walk(image, n, l, map, places, numbers, used);
+    let g = settings.volume((image.len() / Geometry::SECTOR) as u32);
+    let way = walk::walk(image, g, map, places, numbers, used);
     match way {
-        Way::Scan => recover_by_scan::by_scan(image, map, places, numbers, used, n, l, allowance),
+        Way::Scan => recover_by_scan::by_scan(image, map, places, numbers, used, g, allowance),
         Way::Log { tail, number, read } => resume::after_walk(
             image,
             map,
             places,
             numbers,
             used,
-            n,
-            l,
+            g,
             tail,
             number,
             read,
@@ -49,7 +49,7 @@ fn find(
     }
 }
 
-// Finds the log in an image of l blocks. It looks at nothing in the state or the tables.
+// Finds the log in the image. It looks at nothing in the state or the tables.
 pub fn recover(
     s: State,
     image: &mut [u8],
@@ -57,13 +57,13 @@ pub fn recover(
     places: &mut [u32],
     numbers: &mut [u32],
     used: &mut [u8],
-    l: u32,
+    settings: Settings,
     allowance: u32,
 ) -> Outcome
-    ensures { λ r. ⌜ after r (memory (now (image .exit)) (now (map .exit)) (now (places .exit)) (now (numbers .exit)) (now (used .exit))) ≡ recoverOf s (memory (now (image .entry)) (now (map .entry)) (now (places .entry)) (now (numbers .entry)) (now (used .entry))) l allowance ⌝ }
+    ensures { λ r. ⌜ after r (memory (now (image .exit)) (now (map .exit)) (now (places .exit)) (now (numbers .exit)) (now (used .exit))) ≡ recoverOf s (memory (now (image .entry)) (now (map .entry)) (now (places .entry)) (now (numbers .entry)) (now (used .entry))) settings allowance ⌝ }
 {
     let verdict = checks::size_verdict(
-        l,
+        settings,
         image.len(),
         map.len(),
         places.len(),
@@ -75,6 +75,6 @@ pub fn recover(
             answer: Answer::Refused(refusal),
             state: s,
         },
-        Verdict::Pass => find(image, map, places, numbers, used, l, allowance),
+        Verdict::Pass => find(image, map, places, numbers, used, settings, allowance),
     }
 }

@@ -8,6 +8,7 @@ ghost use Rattle.volume.specs.Tables.{sectorAt, memory};
 ghost use Rattle.volume.specs.Store.{after};
 ghost use Rattle.volume.specs.Recover.{scanFinding, recovered, imageView};
 use answer::Answer;
+use geometry::Geometry;
 use scan::Found;
 use state::Outcome;
 use state::State;
@@ -19,26 +20,25 @@ pub fn by_scan(
     places: &mut [u32],
     numbers: &mut [u32],
     used: &mut [u8],
-    n: u32,
-    l: u32,
+    g: Geometry,
     allowance: u32,
 ) -> Outcome
-    requires { ⌜ geometryFits n l ≡ true ⌝ }
-    requires { ⌜ length (now image) ≡ sectorBytes * n ⌝ }
-    requires { ⌜ length (now map) ≡ l ⌝ }
-    requires { ⌜ length (now places) ≡ piecesFor l ⌝ }
-    requires { ⌜ length (now numbers) ≡ piecesFor l ⌝ }
-    requires { ⌜ length (now used) ≡ usedBytes n ⌝ }
-    ensures { λ r. ⌜ after r (memory (now (image .exit)) (now (map .exit)) (now (places .exit)) (now (numbers .exit)) (now (used .exit))) ≡ recovered n l allowance (memory (now (image .entry)) (now (map .entry)) (now (places .entry)) (now (numbers .entry)) (now (used .entry))) (scanFinding n l (imageView n l (sectorAt (now (image .entry)))) (sectorAt (now (image .entry)) 0)) ⌝ }
+    requires { ⌜ geometryFits g ≡ true ⌝ }
+    requires { ⌜ length (now image) ≡ sectorBytes * g .n ⌝ }
+    requires { ⌜ length (now map) ≡ g .l ⌝ }
+    requires { ⌜ length (now places) ≡ piecesFor (g .l) ⌝ }
+    requires { ⌜ length (now numbers) ≡ piecesFor (g .l) ⌝ }
+    requires { ⌜ length (now used) ≡ usedBytes (g .n) ⌝ }
+    ensures { λ r. ⌜ after r (memory (now (image .exit)) (now (map .exit)) (now (places .exit)) (now (numbers .exit)) (now (used .exit))) ≡ recovered g allowance (memory (now (image .entry)) (now (map .entry)) (now (places .entry)) (now (numbers .entry)) (now (used .entry))) (scanFinding g (imageView g (sectorAt (now (image .entry)))) (sectorAt (now (image .entry)) 0)) ⌝ }
 {
     let mut above = [0u8; 8192];
-    let found = scan::scan(image, n, l, map, places, numbers, used, &mut above);
+    let found = scan::scan(image, g, map, places, numbers, used, &mut above);
     match found {
-        Found::Missing(refusal) => {
+        Found::Missing(loss) => {
             lent::zero_tables(map, places, numbers, used);
             Outcome {
-                answer: Answer::Refused(refusal),
-                state: State::lost(n, l),
+                answer: Answer::Lost(loss),
+                state: State::lost(g),
             }
         }
         Found::Log { tail, number } => resume::after_scan(
@@ -47,8 +47,7 @@ pub fn by_scan(
             places,
             numbers,
             used,
-            n,
-            l,
+            g,
             tail,
             number,
             &above,

@@ -11,6 +11,7 @@ ghost use Rattle.volume.specs.Store.{storesBelow, after, performed};
 ghost use Rattle.volume.specs.Format.{blankStore};
 ghost use Rattle.volume.specs.Recover.{parkSectorCleared, isBlank, recoveryAction};
 use answer::Answer;
+use geometry::Geometry;
 use power::allowance::Power;
 use state::Outcome;
 use state::State;
@@ -22,15 +23,14 @@ pub fn after_walk(
     places: &mut [u32],
     numbers: &mut [u32],
     used: &mut [u8],
-    n: u32,
-    l: u32,
+    g: Geometry,
     tail: u32,
     number: u32,
     read: u32,
     allowance: u32,
 ) -> Outcome
     requires { ⌜ sectorBytes ≤ length (now image) ⌝ }
-    ensures { λ r. ⌜ after r (memory (now (image .exit)) (now (map .exit)) (now (places .exit)) (now (numbers .exit)) (now (used .exit))) ≡ performed allowance (recoveryAction n l (record { tables = tablesOf (now (map .entry)) (now (places .entry)) (now (numbers .entry)) (now (used .entry)); tail = tail; number = number }) (Walked read) (parkSectorCleared (isBlank (sectorAt (now (image .entry)) 0)))) (memory (now (image .entry)) (now (map .entry)) (now (places .entry)) (now (numbers .entry)) (now (used .entry))) ⌝ }
+    ensures { λ r. ⌜ after r (memory (now (image .exit)) (now (map .exit)) (now (places .exit)) (now (numbers .exit)) (now (used .exit))) ≡ performed allowance (recoveryAction g (record { tables = tablesOf (now (map .entry)) (now (places .entry)) (now (numbers .entry)) (now (used .entry)); tail = tail; number = number }) (Walked read) (parkSectorCleared (isBlank (sectorAt (now (image .entry)) 0)))) (memory (now (image .entry)) (now (map .entry)) (now (places .entry)) (now (numbers .entry)) (now (used .entry))) ⌝ }
 {
     let blank = blocks::is_blank(images::sector(image, 0));
     let power = clear::clear_park(image, blank, allowance);
@@ -38,17 +38,17 @@ pub fn after_walk(
         Power::Failed => {
             lent::zero_tables(map, places, numbers, used);
             Outcome {
-                answer: Answer::PowerFailed { stores: allowance },
-                state: State::lost(n, l),
+                answer: Answer::power_failed(allowance),
+                state: State::lost(g),
             }
         }
-        Power::Left(left) => Outcome {
-            answer: Answer::Walked {
-                read,
-                stores: allowance - left,
-            },
-            state: State::running(n, l, tail, number),
-        },
+        Power::Left(left) => {
+            let stores = allowance - left;
+            Outcome {
+                answer: Answer::walked(read, stores),
+                state: State::running(g, tail, number),
+            }
+        }
     }
 }
 
@@ -59,33 +59,32 @@ pub fn after_scan(
     places: &mut [u32],
     numbers: &mut [u32],
     used: &mut [u8],
-    n: u32,
-    l: u32,
+    g: Geometry,
     tail: u32,
     number: u32,
     above: &[u8],
     allowance: u32,
 ) -> Outcome
-    requires { ⌜ 1 ≤ n ⌝ }
-    requires { ⌜ length (now image) ≡ sectorBytes * n ⌝ }
-    requires { ⌜ n ≤ 8 * length (now above) ⌝ }
-    ensures { λ r. ⌜ after r (memory (now (image .exit)) (now (map .exit)) (now (places .exit)) (now (numbers .exit)) (now (used .exit))) ≡ performed allowance (recoveryAction n l (record { tables = tablesOf (now (map .entry)) (now (places .entry)) (now (numbers .entry)) (now (used .entry)); tail = tail; number = number }) (Scanned n) (storesBelow (bitAt (now (above .entry))) blankStore n ++ parkSectorCleared (isBlank (sectorAt (now (image .entry)) 0) || bitAt (now (above .entry)) 0))) (memory (now (image .entry)) (now (map .entry)) (now (places .entry)) (now (numbers .entry)) (now (used .entry))) ⌝ }
+    requires { ⌜ 1 ≤ g .n ⌝ }
+    requires { ⌜ length (now image) ≡ sectorBytes * g .n ⌝ }
+    requires { ⌜ g .n ≤ 8 * length (now above) ⌝ }
+    ensures { λ r. ⌜ after r (memory (now (image .exit)) (now (map .exit)) (now (places .exit)) (now (numbers .exit)) (now (used .exit))) ≡ performed allowance (recoveryAction g (record { tables = tablesOf (now (map .entry)) (now (places .entry)) (now (numbers .entry)) (now (used .entry)); tail = tail; number = number }) (Scanned (g .n)) (storesBelow (bitAt (now (above .entry))) blankStore (g .n) ++ parkSectorCleared (isBlank (sectorAt (now (image .entry)) 0) || bitAt (now (above .entry)) 0))) (memory (now (image .entry)) (now (map .entry)) (now (places .entry)) (now (numbers .entry)) (now (used .entry))) ⌝ }
 {
-    let power = clear::clear_all(image, n, above, allowance);
+    let power = clear::clear_all(image, g.n, above, allowance);
     match power {
         Power::Failed => {
             lent::zero_tables(map, places, numbers, used);
             Outcome {
-                answer: Answer::PowerFailed { stores: allowance },
-                state: State::lost(n, l),
+                answer: Answer::power_failed(allowance),
+                state: State::lost(g),
             }
         }
-        Power::Left(left) => Outcome {
-            answer: Answer::Scanned {
-                read: n,
-                stores: allowance - left,
-            },
-            state: State::running(n, l, tail, number),
-        },
+        Power::Left(left) => {
+            let stores = allowance - left;
+            Outcome {
+                answer: Answer::scanned(g.n, stores),
+                state: State::running(g, tail, number),
+            }
+        }
     }
 }

@@ -8,9 +8,10 @@ use mathlib.Core.Option.{none, some}
 use native.Mathlib.Omega.{arith}
 use lib.Dec.{ltb}
 use borrow.Author.Tests.{eq-eqb, ne-eqb, eqb-true, not-true, not-false}
+use Rattle.geometry.specs.declared.Geometry.{Geometry}
 use Rattle.geometry.specs.Geometry.{piecesFor, pieceOf, indexOf}
 use Rattle.answer.specs.declared.Answer.the-variants.{Scanned}
-use Rattle.answer.specs.declared.Refusal.the-variants.{NoLog, DamagedLog}
+use Rattle.answer.specs.declared.Loss.the-variants.{NoLog, DamagedLog}
 use Rattle.layout.specs.Bounded.{at, anyBelow, best, distinct, isZero, listFrom, tabled, gathered}
 use Rattle.layout.specs.Word.{wordsOf}
 use Rattle.layout.specs.MapSector.{View, entryWords, fields}
@@ -33,42 +34,42 @@ pub tables-same : (l : ℕ) (entry entry′ place place′ number number′ : �
 tables-same l entry entry′ place place′ number number′ e f g = rw (e, f, g) refl
 
 -- Tables made of live sectors that are all signed.
-module _ (n l : ℕ) (image : ℕ → List ℕ) (live : ℕ → ℕ) (places numbers : List ℕ) (are : places ≡ listFrom live 0 (piecesFor l))
-    (numbered : (p : ℕ) → p < piecesFor l → at numbers p ≡ numberIn (imageView n l image (live p)))
-    (long : numbers ≡ listFrom (at numbers) 0 (piecesFor l))
-    (signed : (p : ℕ) → p < piecesFor l → imageView n l image (live p) ≡ some (fields (wordsOf (image (live p))))) where
-  place-is : at places ≡ tabled 0 (piecesFor l) live
+module _ (g : Geometry) (image : ℕ → List ℕ) (live : ℕ → ℕ) (places numbers : List ℕ) (are : places ≡ listFrom live 0 (piecesFor (g .l)))
+    (numbered : (p : ℕ) → p < piecesFor (g .l) → at numbers p ≡ numberIn (imageView g image (live p)))
+    (long : numbers ≡ listFrom (at numbers) 0 (piecesFor (g .l)))
+    (signed : (p : ℕ) → p < piecesFor (g .l) → imageView g image (live p) ≡ some (fields (wordsOf (image (live p))))) where
+  place-is : at places ≡ tabled 0 (piecesFor (g .l)) live
   unfolding tabled
   place-is = ap (λ (xs : List ℕ). at xs) are
 
-  at-place : (p : ℕ) → p < piecesFor l → tabled 0 (piecesFor l) live p ≡ live p
+  at-place : (p : ℕ) → p < piecesFor (g .l) → tabled 0 (piecesFor (g .l)) live p ≡ live p
   unfolding tabled
-  at-place p h = listed live (piecesFor l) p h
+  at-place p h = listed live (piecesFor (g .l)) p h
 
-  number-is : at numbers ≡ tabled 0 (piecesFor l) (λ p. numberIn (imageView n l image (tabled 0 (piecesFor l) live p)))
+  number-is : at numbers ≡ tabled 0 (piecesFor (g .l)) (λ p. numberIn (imageView g image (tabled 0 (piecesFor (g .l)) live p)))
   unfolding tabled
   number-is =
       ap (λ (xs : List ℕ). at xs)
-      (long ∙ listFrom-same (at numbers) (λ p. numberIn (imageView n l image (tabled 0 (piecesFor l) live p))) 0 (piecesFor l)
-      (λ k a b. numbered k (omega arith) ∙ ap (λ (x : ℕ). numberIn (imageView n l image x)) (sym (at-place k (omega arith)))))
+      (long ∙ listFrom-same (at numbers) (λ p. numberIn (imageView g image (tabled 0 (piecesFor (g .l)) live p))) 0 (piecesFor (g .l))
+      (λ k a b. numbered k (omega arith) ∙ ap (λ (x : ℕ). numberIn (imageView g image x)) (sym (at-place k (omega arith)))))
 
-  entry-is : at (mapFrom image places l) ≡ tabled 0 l (λ b. entryIn (indexOf b) (imageView n l image (tabled 0 (piecesFor l) live (pieceOf b))))
+  entry-is : at (mapFrom image places (g .l)) ≡ tabled 0 (g .l) (λ b. entryIn (indexOf b) (imageView g image (tabled 0 (piecesFor (g .l)) live (pieceOf b))))
   unfolding tabled mapFrom entryIn
   entry-is =
       ap (λ (xs : List ℕ). at xs)
       (listFrom-same (λ b. at (entryWords (wordsOf (image (at places (pieceOf b))))) (indexOf b))
-      (λ b. entryIn (indexOf b) (imageView n l image (tabled 0 (piecesFor l) live (pieceOf b)))) 0 l
+      (λ b. entryIn (indexOf b) (imageView g image (tabled 0 (piecesFor (g .l)) live (pieceOf b)))) 0 (g .l)
       (λ k a b.
-      let h : pieceOf k < piecesFor l = omega arith in
-      let e : tabled 0 (piecesFor l) live (pieceOf k) ≡ live (pieceOf k) = at-place (pieceOf k) h in
+      let h : pieceOf k < piecesFor (g .l) = omega arith in
+      let e : tabled 0 (piecesFor (g .l)) live (pieceOf k) ≡ live (pieceOf k) = at-place (pieceOf k) h in
       ap (λ (x : ℕ). at (entryWords (wordsOf (image x))) (indexOf k)) (ap (λ (f : ℕ → ℕ). f (pieceOf k)) place-is ∙ e)
-      ∙ sym (ap (λ (x : ℕ). entryIn (indexOf k) (imageView n l image x)) e ∙ ap (entryIn (indexOf k)) (signed (pieceOf k) h))))
+      ∙ sym (ap (λ (x : ℕ). entryIn (indexOf k) (imageView g image x)) e ∙ ap (entryIn (indexOf k)) (signed (pieceOf k) h))))
 
-  pub live-tables : tablesNamed l (mapFrom image places l) places numbers ≡ tablesFrom l (imageView n l image) live
+  pub live-tables : tablesNamed (g .l) (mapFrom image places (g .l)) places numbers ≡ tablesFrom (g .l) (imageView g image) live
   unfolding tablesFrom
   live-tables =
-      tables-same l (at (mapFrom image places l)) (tabled 0 l (λ b. entryIn (indexOf b) (imageView n l image (tabled 0 (piecesFor l) live (pieceOf b)))))
-      (at places) (tabled 0 (piecesFor l) live) (at numbers) (tabled 0 (piecesFor l) (λ p. numberIn (imageView n l image (tabled 0 (piecesFor l) live p))))
+      tables-same (g .l) (at (mapFrom image places (g .l))) (tabled 0 (g .l) (λ b. entryIn (indexOf b) (imageView g image (tabled 0 (piecesFor (g .l)) live (pieceOf b)))))
+      (at places) (tabled 0 (piecesFor (g .l)) live) (at numbers) (tabled 0 (piecesFor (g .l)) (λ p. numberIn (imageView g image (tabled 0 (piecesFor (g .l)) live p))))
       entry-is place-is number-is
 
 -- The used map in place of the definition's.
@@ -91,121 +92,121 @@ module _ (d a c : Bool) where
       twice true = refl
       twice false = refl
 
-module _ (n l : ℕ) (image : ℕ → List ℕ) (bits : ℕ → Bool) (marked : bits ≡ signedAt n l image) (c : ℕ) where
+module _ (g : Geometry) (image : ℕ → List ℕ) (bits : ℕ → Bool) (marked : bits ≡ signedAt g image) (c : ℕ) where
   abbrev view : View
-  view = imageView n l image
+  view = imageView g image
 
   abbrev live : ℕ → ℕ
-  live p = scanPlace n view c p
+  live p = scanPlace (g .n) view c p
 
-  place-view : (p : ℕ) → best (pieceAt bits image c p) n ≡ live p
+  place-view : (p : ℕ) → best (pieceAt bits image c p) (g .n) ≡ live p
   unfolding scanPlace
-  place-view p = ap (λ (f : ℕ → ℕ). best f n) (pieces-view n l image bits marked c p)
+  place-view p = ap (λ (f : ℕ → ℕ). best f (g .n)) (pieces-view g image bits marked c p)
 
   -- A piece has no sector.
   Lost : Bool
-  Lost = anyBelow (λ p. isZero (pieceNumber c p (view (live p)))) (piecesFor l)
+  Lost = anyBelow (λ p. isZero (pieceNumber c p (view (live p)))) (piecesFor (g .l))
 
-  module _ (map places numbers : List ℕ) (p : places ≡ livePlaces bits image c n (piecesFor l)) (q : numbers ≡ liveNumbers bits image c n (piecesFor l))
-      (m : map ≡ mapFrom image places l) where
-    places-are : places ≡ listFrom live 0 (piecesFor l)
+  module _ (map places numbers : List ℕ) (p : places ≡ livePlaces bits image c (g .n) (piecesFor (g .l))) (q : numbers ≡ liveNumbers bits image c (g .n) (piecesFor (g .l)))
+      (m : map ≡ mapFrom image places (g .l)) where
+    places-are : places ≡ listFrom live 0 (piecesFor (g .l))
     unfolding livePlaces
     places-are =
-        p ∙ listFrom-same (λ p. best (pieceAt bits image c p) n) live 0 (piecesFor l) (λ k a b. place-view k)
+        p ∙ listFrom-same (λ p. best (pieceAt bits image c p) (g .n)) live 0 (piecesFor (g .l)) (λ k a b. place-view k)
 
-    numbers-are : numbers ≡ listFrom (λ p. pieceNumber c p (view (live p))) 0 (piecesFor l)
+    numbers-are : numbers ≡ listFrom (λ p. pieceNumber c p (view (live p))) 0 (piecesFor (g .l))
     unfolding liveNumbers
     numbers-are =
-        q ∙ listFrom-same (λ p. pieceAt bits image c p (best (pieceAt bits image c p) n)) (λ p. pieceNumber c p (view (live p))) 0 (piecesFor l)
-        (λ k a b. ap (pieceAt bits image c k) (place-view k) ∙ piece-view n l image bits marked c k (live k))
+        q ∙ listFrom-same (λ p. pieceAt bits image c p (best (pieceAt bits image c p) (g .n))) (λ p. pieceNumber c p (view (live p))) 0 (piecesFor (g .l))
+        (λ k a b. ap (pieceAt bits image c k) (place-view k) ∙ piece-view g image bits marked c k (live k))
 
-    at-number : (k : ℕ) → k < piecesFor l → at numbers k ≡ pieceNumber c k (view (live k))
-    at-number k h = ap (λ (xs : List ℕ). at xs k) numbers-are ∙ listed (λ p. pieceNumber c p (view (live p))) (piecesFor l) k h
+    at-number : (k : ℕ) → k < piecesFor (g .l) → at numbers k ≡ pieceNumber c k (view (live k))
+    at-number k h = ap (λ (xs : List ℕ). at xs k) numbers-are ∙ listed (λ p. pieceNumber c p (view (live p))) (piecesFor (g .l)) k h
 
     abbrev Tabled : Tables
-    Tabled = tablesNamed l map places numbers
+    Tabled = tablesNamed (g .l) map places numbers
 
     -- Live numbers are from 1, so tables with a piece lost are not sound.
-    lost-fails : (tail : ℕ) → Lost ≡ true → consistent n l Tabled tail c ≡ false
+    lost-fails : (tail : ℕ) → Lost ≡ true → consistent g Tabled tail c ≡ false
     unfolding Lost
     lost-fails tail e =
-        let s = anyBelow-at (λ p. isZero (pieceNumber c p (view (live p)))) (piecesFor l) e in
-        ⊎-elim (λ (z : consistent n l Tabled tail c ≡ true).
-        let one : 1 ≤ at numbers (s .0) = sound n l Tabled tail c z .from1 (s .0) (s .1) in
+        let s = anyBelow-at (λ p. isZero (pieceNumber c p (view (live p)))) (piecesFor (g .l)) e in
+        ⊎-elim (λ (z : consistent g Tabled tail c ≡ true).
+        let one : 1 ≤ at numbers (s .0) = sound g Tabled tail c z .from1 (s .0) (s .1) in
         let none : at numbers (s .0) ≡ 0 = at-number (s .0) (s .1) ∙ eqb-true (pieceNumber c (s .0) (view (live (s .0)))) 0 (s .2) in
         absurd (omega arith))
-        (λ (z : consistent n l Tabled tail c ≡ false). z) (bool? (consistent n l Tabled tail c))
+        (λ (z : consistent g Tabled tail c ≡ false). z) (bool? (consistent g Tabled tail c))
 
-    whole : Lost ≡ false → (k : ℕ) → k < piecesFor l → pieceNumber c k (view (live k)) ≡ 0 → ⊥
+    whole : Lost ≡ false → (k : ℕ) → k < piecesFor (g .l) → pieceNumber c k (view (live k)) ≡ 0 → ⊥
     unfolding Lost
     whole e k h z =
-        true≢false (sym (anyBelow-is (λ p. isZero (pieceNumber c p (view (live p)))) (piecesFor l) k h (eq-eqb (pieceNumber c k (view (live k))) 0 z)) ∙ e)
+        true≢false (sym (anyBelow-is (λ p. isZero (pieceNumber c p (view (live p)))) (piecesFor (g .l)) k h (eq-eqb (pieceNumber c k (view (live k))) 0 z)) ∙ e)
 
-    whole-tables : Lost ≡ false → Tabled ≡ scannedLog n l view c .tables
+    whole-tables : Lost ≡ false → Tabled ≡ scannedLog g view c .tables
     unfolding scannedLog
     whole-tables e =
-        ap (λ (xs : List ℕ). tablesNamed l xs places numbers) m
-        ∙ live-tables n l image live places numbers places-are
+        ap (λ (xs : List ℕ). tablesNamed (g .l) xs places numbers) m
+        ∙ live-tables g image live places numbers places-are
         (λ k h. at-number k h ∙ piece-number c k (view (live k)) (whole e k h))
-        (numbers-are ∙ listFrom-same (λ p. pieceNumber c p (view (live p))) (at numbers) 0 (piecesFor l) (λ k a b. sym (at-number k (omega arith))))
-        (λ k h. piece-signed n l image c k (live k) (whole e k h))
+        (numbers-are ∙ listFrom-same (λ p. pieceNumber c p (view (live p))) (at numbers) 0 (piecesFor (g .l)) (λ k a b. sym (at-number k (omega arith))))
+        (λ k h. piece-signed g image c k (live k) (whole e k h))
 
-    module _ (d : Bool) (same : d ≡ distinct (gathered (λ k. not (isZero (numberAt bits image k))) (numberAt bits image) [] n)) (tail : ℕ)
-        (newest : tail ≡ newestClosing n view) where
+    module _ (d : Bool) (same : d ≡ distinct (gathered (λ k. not (isZero (numberAt bits image k))) (numberAt bits image) [] (g .n))) (tail : ℕ)
+        (newest : tail ≡ newestClosing (g .n) view) where
       abbrev Damaged : Bool
-      Damaged = scanDamaged n l view c (scannedLog n l view c)
+      Damaged = scanDamaged g view c (scannedLog g view c)
 
-      distinct-is : d ≡ distinct (signedNumbers view n)
-      distinct-is = same ∙ ap distinct (numbers-view n l image bits marked n)
+      distinct-is : d ≡ distinct (signedNumbers view (g .n))
+      distinct-is = same ∙ ap distinct (numbers-view g image bits marked (g .n))
 
-      module _ (used : List ℕ) (r : Bool) (e : not d ≡ false) (f : r ≡ consistent n l Tabled tail c)
-          (g : r ≡ true → bitAt used ≡ usedBy (namedBy l (at map) (at places))) where
-        sure : distinct (signedNumbers view n) ≡ true
+      module _ (used : List ℕ) (r : Bool) (e : not d ≡ false) (f : r ≡ consistent g Tabled tail c)
+          (u : r ≡ true → bitAt used ≡ usedBy (namedBy (g .l) (at map) (at places))) where
+        sure : distinct (signedNumbers view (g .n)) ≡ true
         sure = sym distinct-is ∙ not-false d e
 
         answer : r ≡ not Damaged
         unfolding scanDamaged Lost scannedLog
         answer =
             ⊎-elim (λ (z : Lost ≡ true).
-            f ∙ lost-fails tail z ∙ piece-lost (distinct (signedNumbers view n)) Lost (consistent n l (scannedLog n l view c .tables) (newestClosing n view) c) sure z)
+            f ∙ lost-fails tail z ∙ piece-lost (distinct (signedNumbers view (g .n))) Lost (consistent g (scannedLog g view c .tables) (newestClosing (g .n) view) c) sure z)
             (λ (z : Lost ≡ false).
-            f ∙ ap (λ (t : Tables). consistent n l t tail c) (whole-tables z)
-            ∙ ap (λ (x : ℕ). consistent n l (scannedLog n l view c .tables) x c) newest
-            ∙ last-decides (distinct (signedNumbers view n)) Lost (consistent n l (scannedLog n l view c .tables) (newestClosing n view) c) sure z) (bool? Lost)
+            f ∙ ap (λ (t : Tables). consistent g t tail c) (whole-tables z)
+            ∙ ap (λ (x : ℕ). consistent g (scannedLog g view c .tables) x c) newest
+            ∙ last-decides (distinct (signedNumbers view (g .n))) Lost (consistent g (scannedLog g view c .tables) (newestClosing (g .n) view) c) sure z) (bool? Lost)
 
-        pub tables-decide : (r ≡ not Damaged) × (r ≡ true → tablesOf map places numbers used ≡ scannedLog n l view c .tables)
+        pub tables-decide : (r ≡ not Damaged) × (r ≡ true → tablesOf map places numbers used ≡ scannedLog g view c .tables)
         tables-decide = (
           answer,
           λ (z : r ≡ true).
-              used-same l map places numbers used (g z)
+              used-same (g .l) map places numbers used (u z)
               ∙ ⊎-elim (λ (y : Lost ≡ true). clash r z (f ∙ lost-fails tail y)) whole-tables (bool? Lost),
         )
 
-  pub distinct-fails : (d : Bool) → d ≡ distinct (gathered (λ k. not (isZero (numberAt bits image k))) (numberAt bits image) [] n) → not d ≡ true → (t : Tables)
-      → (false ≡ not (scanDamaged n l view c (scannedLog n l view c))) × (false ≡ true → t ≡ scannedLog n l view c .tables)
+  pub distinct-fails : (d : Bool) → d ≡ distinct (gathered (λ k. not (isZero (numberAt bits image k))) (numberAt bits image) [] (g .n)) → not d ≡ true → (t : Tables)
+      → (false ≡ not (scanDamaged g view c (scannedLog g view c))) × (false ≡ true → t ≡ scannedLog g view c .tables)
   unfolding scanDamaged
   distinct-fails d e f t = (
-    not-distinct (distinct (signedNumbers view n)) (anyBelow (λ p. isZero (pieceNumber c p (view (scanPlace n view c p)))) (piecesFor l))
-        (isConsistent n l (scannedLog n l view c)) (ap distinct (sym (numbers-view n l image bits marked n)) ∙ sym e ∙ not-true d f),
+    not-distinct (distinct (signedNumbers view (g .n))) (anyBelow (λ p. isZero (pieceNumber c p (view (scanPlace (g .n) view c p)))) (piecesFor (g .l)))
+        (isConsistent g (scannedLog g view c)) (ap distinct (sym (numbers-view g image bits marked (g .n))) ∙ sym e ∙ not-true d f),
     λ z. absurd (true≢false (sym z)),
   )
 
-  pub place-inside : (p : ℕ) (places : List ℕ) → 0 < n → places ≡ livePlaces bits image c n (piecesFor l) → p < piecesFor l → at places p < n
+  pub place-inside : (p : ℕ) (places : List ℕ) → 0 < g .n → places ≡ livePlaces bits image c (g .n) (piecesFor (g .l)) → p < piecesFor (g .l) → at places p < g .n
   unfolding livePlaces
   place-inside p places pos e h =
-      subst (λ (x : ℕ). x < n) (sym (ap (λ (xs : List ℕ). at xs p) e ∙ listed (λ p. best (pieceAt bits image c p) n) (piecesFor l) p h))
-      (best-below (pieceAt bits image c p) n pos)
+      subst (λ (x : ℕ). x < g .n) (sym (ap (λ (xs : List ℕ). at xs p) e ∙ listed (λ p. best (pieceAt bits image c p) (g .n)) (piecesFor (g .l)) p h))
+      (best-below (pieceAt bits image c p) (g .n) pos)
 
   -- What the code leaves, under the names of the definition.
-  pub are-places : (m : ℕ) (places : List ℕ) → m ≡ piecesFor l → places ≡ listFrom (λ p. best (pieceAt bits image c p) n) 0 m
-      → places ≡ livePlaces bits image c n (piecesFor l)
+  pub are-places : (m : ℕ) (places : List ℕ) → m ≡ piecesFor (g .l) → places ≡ listFrom (λ p. best (pieceAt bits image c p) (g .n)) 0 m
+      → places ≡ livePlaces bits image c (g .n) (piecesFor (g .l))
   unfolding livePlaces
-  are-places m places e f = f ∙ ap (listFrom (λ p. best (pieceAt bits image c p) n) 0) e
+  are-places m places e f = f ∙ ap (listFrom (λ p. best (pieceAt bits image c p) (g .n)) 0) e
 
-  pub are-numbers : (m : ℕ) (numbers : List ℕ) → m ≡ piecesFor l → numbers ≡ listFrom (λ p. pieceAt bits image c p (best (pieceAt bits image c p) n)) 0 m
-      → numbers ≡ liveNumbers bits image c n (piecesFor l)
+  pub are-numbers : (m : ℕ) (numbers : List ℕ) → m ≡ piecesFor (g .l) → numbers ≡ listFrom (λ p. pieceAt bits image c p (best (pieceAt bits image c p) (g .n))) 0 m
+      → numbers ≡ liveNumbers bits image c (g .n) (piecesFor (g .l))
   unfolding liveNumbers
-  are-numbers m numbers e f = f ∙ ap (listFrom (λ p. pieceAt bits image c p (best (pieceAt bits image c p) n)) 0) e
+  are-numbers m numbers e f = f ∙ ap (listFrom (λ p. pieceAt bits image c p (best (pieceAt bits image c p) (g .n))) 0) e
 
 pub is-map : (image : ℕ → List ℕ) (places map : List ℕ) (m l : ℕ) → m ≡ l
     → map ≡ listFrom (λ b. at (entryWords (wordsOf (image (at places (pieceOf b))))) (indexOf b)) 0 m → map ≡ mapFrom image places l
@@ -213,59 +214,59 @@ unfolding mapFrom
 is-map image places map m l e f = f ∙ ap (listFrom (λ b. at (entryWords (wordsOf (image (at places (pieceOf b))))) (indexOf b)) 0) e
 
 -- What the scan answers.
-module _ (n l : ℕ) (image : ℕ → List ℕ) (bits : ℕ → Bool) (marked : bits ≡ signedAt n l image) (tail c : ℕ)
-    (newest : tail ≡ best (closingAt bits image) n) (number : c ≡ closingAt bits image tail) where
+module _ (g : Geometry) (image : ℕ → List ℕ) (bits : ℕ → Bool) (marked : bits ≡ signedAt g image) (tail c : ℕ)
+    (newest : tail ≡ best (closingAt bits image) (g .n)) (number : c ≡ closingAt bits image tail) where
   abbrev seen : View
-  seen = imageView n l image
+  seen = imageView g image
 
-  pub tail-newest : tail ≡ newestClosing n seen
+  pub tail-newest : tail ≡ newestClosing (g .n) seen
   unfolding newestClosing
-  tail-newest = newest ∙ ap (λ (f : ℕ → ℕ). best f n) (closings-view n l image bits marked)
+  tail-newest = newest ∙ ap (λ (f : ℕ → ℕ). best f (g .n)) (closings-view g image bits marked)
 
-  c-is : closedUpTo n seen ≡ c
+  c-is : closedUpTo (g .n) seen ≡ c
   unfolding closedUpTo
-  c-is = ap (λ (k : ℕ). closingNumber (seen k)) (sym tail-newest) ∙ sym (closing-view n l image bits marked tail) ∙ sym number
+  c-is = ap (λ (k : ℕ). closingNumber (seen k)) (sym tail-newest) ∙ sym (closing-view g image bits marked tail) ∙ sym number
 
   abbrev Whole : ℕ → Finding
-  Whole c = found (scannedLog n l seen c) (Scanned n) (scanStores n seen (image 0) c)
+  Whole c = found (scannedLog g seen c) (Scanned (g .n)) (scanStores (g .n) seen (image 0) c)
 
   abbrev Judged : ℕ → Finding
-  Judged c = cond (isZero c) (missing NoLog) (cond (scanDamaged n l seen c (scannedLog n l seen c)) (missing DamagedLog) (Whole c))
+  Judged c = cond (isZero c) (missing NoLog) (cond (scanDamaged g seen c (scannedLog g seen c)) (missing DamagedLog) (Whole c))
 
-  finding-is : scanFinding n l seen (image 0) ≡ Judged c
+  finding-is : scanFinding g seen (image 0) ≡ Judged c
   unfolding scanFinding
   finding-is = ap Judged c-is
 
   abbrev pub Answered : Found → Tables → (ℕ → Bool) → Type 0
-  Answered r t above = (scanFound r n seen (image 0) t ≡ scanFinding n l seen (image 0)) × scanAbove r seen above
+  Answered r t above = (scanFound r (g .n) seen (image 0) t ≡ scanFinding g seen (image 0)) × scanAbove r seen above
 
   pub scan-none : c ≡ 0 → (t : Tables) (above : ℕ → Bool) → Answered (Missing NoLog) t above
   unfolding scanFound scanAbove
   scan-none z t above = (
-    sym (finding-is ∙ cond-true (isZero c) (missing NoLog) (cond (scanDamaged n l seen c (scannedLog n l seen c)) (missing DamagedLog) (Whole c)) (eq-eqb c 0 z)),
+    sym (finding-is ∙ cond-true (isZero c) (missing NoLog) (cond (scanDamaged g seen c (scannedLog g seen c)) (missing DamagedLog) (Whole c)) (eq-eqb c 0 z)),
     refl,
   )
 
   module _ (d : c ≡ 0 → ⊥) (r : Bool) (t : Tables)
-      (e : (r ≡ not (scanDamaged n l seen c (scannedLog n l seen c))) × (r ≡ true → t ≡ scannedLog n l seen c .tables)) where
-    judged-is : scanFinding n l seen (image 0) ≡ cond (scanDamaged n l seen c (scannedLog n l seen c)) (missing DamagedLog) (Whole c)
+      (e : (r ≡ not (scanDamaged g seen c (scannedLog g seen c))) × (r ≡ true → t ≡ scannedLog g seen c .tables)) where
+    judged-is : scanFinding g seen (image 0) ≡ cond (scanDamaged g seen c (scannedLog g seen c)) (missing DamagedLog) (Whole c)
     judged-is =
-        finding-is ∙ cond-false (isZero c) (missing NoLog) (cond (scanDamaged n l seen c (scannedLog n l seen c)) (missing DamagedLog) (Whole c)) (ne-eqb c 0 d)
+        finding-is ∙ cond-false (isZero c) (missing NoLog) (cond (scanDamaged g seen c (scannedLog g seen c)) (missing DamagedLog) (Whole c)) (ne-eqb c 0 d)
 
     pub scan-damaged : not r ≡ true → (above : ℕ → Bool) → Answered (Missing DamagedLog) t above
     unfolding scanFound scanAbove
     scan-damaged f above = (
-      sym (judged-is ∙ cond-true (scanDamaged n l seen c (scannedLog n l seen c)) (missing DamagedLog) (Whole c)
-          (not-false (scanDamaged n l seen c (scannedLog n l seen c)) (sym (e .0) ∙ not-true r f))),
+      sym (judged-is ∙ cond-true (scanDamaged g seen c (scannedLog g seen c)) (missing DamagedLog) (Whole c)
+          (not-false (scanDamaged g seen c (scannedLog g seen c)) (sym (e .0) ∙ not-true r f))),
       refl,
     )
 
-    pub scan-finds : not r ≡ false → (above : ℕ → Bool) → above ≡ below (λ k. ltb c (numberAt bits image k)) n → Answered (Log tail c) t above
+    pub scan-finds : not r ≡ false → (above : ℕ → Bool) → above ≡ below (λ k. ltb c (numberAt bits image k)) (g .n) → Answered (Log tail c) t above
     unfolding scanFound scanAbove scannedLog
     scan-finds f above u = (
-      ap (λ (x : Tables). found (record { tables = x; tail = tail; number = c }) (Scanned n) (scanStores n seen (image 0) c)) (e .1 (not-false r f))
-          ∙ ap (λ (k : ℕ). found (record { tables = scannedLog n l seen c .tables; tail = k; number = c }) (Scanned n) (scanStores n seen (image 0) c)) tail-newest
-          ∙ sym (judged-is ∙ cond-false (scanDamaged n l seen c (scannedLog n l seen c)) (missing DamagedLog) (Whole c)
-          (not-true (scanDamaged n l seen c (scannedLog n l seen c)) (sym (e .0) ∙ not-false r f))),
-      u ∙ above-view n l image bits marked c,
+      ap (λ (x : Tables). found (record { tables = x; tail = tail; number = c }) (Scanned (g .n)) (scanStores (g .n) seen (image 0) c)) (e .1 (not-false r f))
+          ∙ ap (λ (k : ℕ). found (record { tables = scannedLog g seen c .tables; tail = k; number = c }) (Scanned (g .n)) (scanStores (g .n) seen (image 0) c)) tail-newest
+          ∙ sym (judged-is ∙ cond-false (scanDamaged g seen c (scannedLog g seen c)) (missing DamagedLog) (Whole c)
+          (not-true (scanDamaged g seen c (scannedLog g seen c)) (sym (e .0) ∙ not-false r f))),
+      u ∙ above-view g image bits marked c,
     )

@@ -14,9 +14,9 @@ use Rattle.scan.specs.declared.Found.the-variants.{Log, Missing}
 unfoldable pub scanFound : Found → ℕ → View → List ℕ → Tables → Finding
 scanFound (Log tail number) n view sector0 t =
     found (record { tables = t; tail = tail; number = number }) (Scanned n) (scanStores n view sector0 number)
-scanFound (Missing refusal) n view sector0 t = missing refusal
+scanFound (Missing loss) n view sector0 t = missing loss
 
 -- Where a log was found, the bits are those of the uncommitted sectors.
 unfoldable pub scanAbove : Found → View → (ℕ → Bool) → Type 0
 scanAbove (Log tail number) view bits = bits ≡ isUncommitted view number
-scanAbove (Missing refusal) view bits = bits ≡ bits
+scanAbove (Missing loss) view bits = bits ≡ bits

@@ -1,8 +1,9 @@
 // A line for each sector of an image.
 ghost use mathlib.Core.Path.{_≡_};
-ghost use Prim.Native.Nat.{_≤_, _<_, _*_, _+_};
+ghost use Prim.Native.Nat.{_≤_, _<_, _+_};
 ghost use lib.ListN.{length};
-ghost use Rattle.geometry.specs.Geometry.{sectorBytes, branchRoom};
+ghost use Rattle.geometry.specs.Geometry.{sectorBytes};
+use geometry::Geometry;
 use wording::say;
 
 fn say_branch(s: &[u8], i: usize)
@@ -50,9 +51,9 @@ fn say_park(s: &[u8])
 }
 
 // What a sector is: the park record counts in sector 0 alone.
-fn say_kind(s: &[u8], k: u32, n: u32, l: u32)
+fn say_kind(s: &[u8], k: u32, g: Geometry)
     requires { ⌜ length (now s) ≡ sectorBytes ⌝ }
-    requires { ⌜ 1 ≤ n ⌝ }
+    requires { ⌜ 1 ≤ g .n ⌝ }
 {
     if blocks::is_blank(s) {
         say::say(b" blank");
@@ -64,19 +65,19 @@ fn say_kind(s: &[u8], k: u32, n: u32, l: u32)
             return;
         }
     }
-    if map_sector::is_valid(s, n, l) {
+    if map_sector::is_valid(s, g) {
         say_map(s);
         return;
     }
     say::say(b" data");
 }
 
-// The line of sector k of a volume with n sectors and l blocks.
-pub fn say_sector(s: &[u8], k: u32, n: u32, l: u32) {
+// The line of sector k of a volume.
+pub fn say_sector(s: &[u8], k: u32, g: Geometry) {
     say::say_count(b"sector ", k);
     if s.len() == 512 {
-        if 1 <= n {
-            say_kind(s, k, n, l);
+        if 1 <= g.n {
+            say_kind(s, k, g);
         }
     }
     say::say(b"\n");

@@ -6,13 +6,12 @@ use mathlib.Core.Bool.{Bool, true, false, cond, not, _&&_, _||_}
 use mathlib.Core.List.{List}
 use native.Mathlib.Numerals.{add-one}
 use native.Mathlib.Omega.{arith}
-use lib.ListN.{length, getD, set}
-use lib.Seq.{getD-set-same, getD-set-other}
+use lib.ListN.{length, set}
 use lib.Dec.{eqb, ltb}
 use borrow.Author.Tests.{eq-eqb, ne-eqb, lt-ltb, le-ltb}
 use Rattle.layout.specs.Bounded.{at, anyBelow, updated, updates}
 use Rattle.layout.specs.Entry.{isEmpty, sectorOf}
-use Rattle.laws.proofs.Bounded.{lt?, eq?}
+use Rattle.laws.proofs.Bounded.{lt?, eq?, at-set}
 use Rattle.pieces.specs.Arrays.{without}
 
 -- An entry's sector freed.
@@ -108,12 +107,6 @@ module _ (bits : ℕ → Bool) (taken : List ℕ) where
       either false false false = refl
 
 -- A word stored in a table.
-pub at-set : (xs : List ℕ) (i v : ℕ) → i < length xs → at (set xs i v) ≡ updated (at xs) i v
-at-set xs i v h =
-    fun-ext (λ k.
-    ⊎-elim (λ (e : k ≡ i). ap (λ (x : ℕ). getD (set xs i v) x 0) e ∙ getD-set-same xs i v 0 h ∙ rw (eq-eqb k i e) refl)
-    (λ (d : k ≡ i → ⊥). getD-set-other xs i k v 0 d ∙ rw (ne-eqb k i d) refl) (eq? k i))
-
 pub changed-none : (map blocks news : List ℕ) → at map ≡ updates (at map) (at blocks) (at news) 0
 unfolding updates
 changed-none map blocks news = refl

@@ -9,6 +9,7 @@ use native.Mathlib.Omega.{arith}
 use lib.ListN.{length, List·getD-eq-default}
 use lib.Dec.{eqb}
 use borrow.Author.Tests.{eqb-true, eq-eqb, ne-eqb}
+use Rattle.geometry.specs.declared.Geometry.{Geometry}
 use Rattle.state.specs.declared.State.{State}
 use Rattle.geometry.specs.Geometry.{piecesFor, usedBytes}
 use Rattle.layout.specs.Bounded.{at, anyBelow, countBelow, elem, updates}
@@ -24,9 +25,9 @@ alike true b f g = sym (f refl)
 alike false true f g = g refl
 alike false false f g = refl
 
-module _ (n l tail number : ℕ) (mp pl nu us blocks news taken written : List ℕ) (count : ℕ)
-    (some : 1 ≤ n) (size : length us ≡ usedBytes n)
-    (s : Sound n l (tablesOf mp pl nu us) tail number) (g : Settling n l number blocks news taken count written) where
+module _ (g : Geometry) (tail number : ℕ) (mp pl nu us blocks news taken written : List ℕ) (count : ℕ)
+    (some : 1 ≤ g .n) (size : length us ≡ usedBytes (g .n))
+    (s : Sound g (tablesOf mp pl nu us) tail number) (gg : Settling g number blocks news taken count written) where
   abbrev entry′ : ℕ → ℕ
   entry′ = updates (at mp) (at blocks) (at news) (length blocks)
 
@@ -34,13 +35,13 @@ module _ (n l tail number : ℕ) (mp pl nu us blocks news taken written : List �
   place′ p = cond (flagged written p) (at taken (count + countBelow (flagged written) p)) (at pl p)
 
   abbrev before : List ℕ
-  before = namedBy l (at mp) (at pl)
+  before = namedBy (g .l) (at mp) (at pl)
 
   abbrev after : List ℕ
-  after = namedBy l entry′ place′
+  after = namedBy (g .l) entry′ place′
 
   entry-named : (i : ℕ) → i < length blocks → entry′ (at blocks i) ≡ at news i
-  entry-named i h = updates-at (at mp) (at blocks) (at news) (length blocks) i h (g .apart)
+  entry-named i h = updates-at (at mp) (at blocks) (at news) (length blocks) i h (gg .apart)
 
   entry-other : (b : ℕ) → ((i : ℕ) → i < length blocks → at blocks i ≡ b → ⊥) → entry′ b ≡ at mp b
   entry-other b d = updates-other (at mp) (at blocks) (at news) (length blocks) b d
@@ -53,24 +54,24 @@ module _ (n l tail number : ℕ) (mp pl nu us blocks news taken written : List �
       inr (λ i h f. clash (anyBelow (λ i. eqb (at blocks i) b) (length blocks)) (anyBelow-is (λ i. eqb (at blocks i) b) (length blocks) i h (eq-eqb (at blocks i) b f)) e))
       (bool? (anyBelow (λ i. eqb (at blocks i) b) (length blocks)))
 
-  rank-below : (p : ℕ) → p < piecesFor l → flagged written p ≡ true → count + countBelow (flagged written) p < length taken
-  rank-below p h e = let b = count-before (flagged written) p (piecesFor l) h e in let t = g .taken-all in omega arith
+  rank-below : (p : ℕ) → p < piecesFor (g .l) → flagged written p ≡ true → count + countBelow (flagged written) p < length taken
+  rank-below p h e = let b = count-before (flagged written) p (piecesFor (g .l)) h e in let t = gg .taken-all in omega arith
 
   -- Each sector taken is named: by its block, or by its piece.
   new-named : (j : ℕ) → j < length taken → elem (at taken j) after ≡ true
   new-named j h =
       ⊎-elim (λ (z : j < count).
-      let few = g .few in
+      let few = gg .few in
       let here = entry-named j (omega arith) in
-      subst (λ (x : ℕ). elem x after ≡ true) (ap sectorOf here ∙ g .names j z)
-      (named-elem l entry′ place′ (block (at blocks j)) (g .inside j (omega arith), ap isEmpty here ∙ g .full j z)))
+      subst (λ (x : ℕ). elem x after ≡ true) (ap sectorOf here ∙ gg .names j z)
+      (named-elem (g .l) entry′ place′ (block (at blocks j)) (gg .inside j (omega arith), ap isEmpty here ∙ gg .full j z)))
       (λ (z : count ≤ j).
-      let t = g .taken-all in
-      let w = count-nth (flagged written) (piecesFor l) (j - count) (omega arith) in
+      let t = gg .taken-all in
+      let w = count-nth (flagged written) (piecesFor (g .l)) (j - count) (omega arith) in
       let r = w .3 in
       subst (λ (x : ℕ). elem x after ≡ true)
       (cond-true (flagged written (w .0)) _ (at pl (w .0)) (w .2) ∙ ap (at taken) (let q : count + countBelow (flagged written) (w .0) ≡ j = omega arith in q))
-      (named-elem l entry′ place′ (piece (w .0)) (w .1)))
+      (named-elem (g .l) entry′ place′ (piece (w .0)) (w .1)))
       (lt? j count)
 
   -- A name that the commit does not touch.
@@ -78,16 +79,16 @@ module _ (n l tail number : ℕ) (mp pl nu us blocks news taken written : List �
   Kept (piece p) = flagged written p ≡ false
   Kept (block b) = (i : ℕ) → i < length blocks → at blocks i ≡ b → ⊥
 
-  kept-after : (x : Name) → Kept x → Named l (at mp) (at pl) x → elem (sectorNamed l (at mp) (at pl) x) after ≡ true
+  kept-after : (x : Name) → Kept x → Named (g .l) (at mp) (at pl) x → elem (sectorNamed (g .l) (at mp) (at pl) x) after ≡ true
   unfolding Kept
-  kept-after (piece p) k h = subst (λ (y : ℕ). elem y after ≡ true) (cond-false (flagged written p) _ (at pl p) k) (named-elem l entry′ place′ (piece p) h)
+  kept-after (piece p) k h = subst (λ (y : ℕ). elem y after ≡ true) (cond-false (flagged written p) _ (at pl p) k) (named-elem (g .l) entry′ place′ (piece p) h)
   kept-after (block b) k h =
       let e = entry-other b k in
-      subst (λ (y : ℕ). elem y after ≡ true) (ap sectorOf e) (named-elem l entry′ place′ (block b) (h .0, ap isEmpty e ∙ h .1))
+      subst (λ (y : ℕ). elem y after ≡ true) (ap sectorOf e) (named-elem (g .l) entry′ place′ (block b) (h .0, ap isEmpty e ∙ h .1))
 
   -- What names a sector afterwards that was not taken, named it before and is kept.
-  was-named : (k : ℕ) → ((j : ℕ) → j < length taken → at taken j ≡ k → ⊥) → (x : Name) → Named l entry′ place′ x → sectorNamed l entry′ place′ x ≡ k
-      → Kept x × Named l (at mp) (at pl) x × (sectorNamed l (at mp) (at pl) x ≡ k)
+  was-named : (k : ℕ) → ((j : ℕ) → j < length taken → at taken j ≡ k → ⊥) → (x : Name) → Named (g .l) entry′ place′ x → sectorNamed (g .l) entry′ place′ x ≡ k
+      → Kept x × Named (g .l) (at mp) (at pl) x × (sectorNamed (g .l) (at mp) (at pl) x ≡ k)
   unfolding Kept
   was-named k old (piece p) h e =
       ⊎-elim (λ (w : flagged written p ≡ true).
@@ -97,28 +98,28 @@ module _ (n l tail number : ℕ) (mp pl nu us blocks news taken written : List �
       ⊎-elim (λ w.
       let here = ap entry′ (sym (w .2)) ∙ entry-named (w .0) (w .1) in
       ⊎-elim (λ (z : w .0 < count).
-      let few = g .few in
-      let room = g .taken-all in
-      absurd (old (w .0) (omega arith) (sym (g .names (w .0) z) ∙ ap sectorOf (sym here) ∙ e)))
-      (λ (z : count ≤ w .0). absurd (clash (isEmpty (entry′ b)) (ap isEmpty (here ∙ g .emptied (w .0) z (w .1))) (h .1))) (lt? (w .0) count))
+      let few = gg .few in
+      let room = gg .taken-all in
+      absurd (old (w .0) (omega arith) (sym (gg .names (w .0) z) ∙ ap sectorOf (sym here) ∙ e)))
+      (λ (z : count ≤ w .0). absurd (clash (isEmpty (entry′ b)) (ap isEmpty (here ∙ gg .emptied (w .0) z (w .1))) (h .1))) (lt? (w .0) count))
       (λ d. (d, (h .0, ap isEmpty (sym (entry-other b d)) ∙ h .1), ap sectorOf (sym (entry-other b d)) ∙ e)) (named? b)
 
   -- The used map before, at every sector.
   was-used : (k : ℕ) → bitAt us k ≡ usedBy before k
   unfolding bitAt usedBy
   was-used k =
-      ⊎-elim (λ (h : k < 8 * usedBytes n). s .used k h)
-      (λ (h : 8 * usedBytes n ≤ k).
+      ⊎-elim (λ (h : k < 8 * usedBytes (g .n)). s .used k h)
+      (λ (h : 8 * usedBytes (g .n) ≤ k).
       (ap (λ (x : ℕ). eqb (x / 2 ^ (k % 8) % 2) 1) (List·getD-eq-default us 0 {n = k / 8} (omega arith))
       ∙ ap (λ (x : ℕ). eqb (x % 2) 1) (zero-div (2 ^ (k % 8))))
       ∙ sym
       (or-none (eqb k 0) (elem k before) (ne-eqb k 0 (λ (z : k ≡ 0). omega arith))
       (not-elem k before (λ (e : elem k before ≡ true).
-      let w = elem-named l (at mp) (at pl) k e in
+      let w = elem-named (g .l) (at mp) (at pl) k e in
       let high = s .high (w .0) (w .1) in
       let q = w .2 in
       omega arith))))
-      (lt? k (8 * usedBytes n))
+      (lt? k (8 * usedBytes (g .n)))
 
   abbrev full : ℕ → Bool
   full i = not (isEmpty (at mp (at blocks i)))
@@ -127,20 +128,20 @@ module _ (n l tail number : ℕ) (mp pl nu us blocks news taken written : List �
   sector i = sectorOf (at mp (at blocks i))
 
   -- A superseded sector is not named afterwards.
-  gone : (k : ℕ) → ((j : ℕ) → j < length taken → at taken j ≡ k → ⊥) → (x : Name) → Named l (at mp) (at pl) x → sectorNamed l (at mp) (at pl) x ≡ k
+  gone : (k : ℕ) → ((j : ℕ) → j < length taken → at taken j ≡ k → ⊥) → (x : Name) → Named (g .l) (at mp) (at pl) x → sectorNamed (g .l) (at mp) (at pl) x ≡ k
       → (Kept x → ⊥) → usedBy after k ≡ false
   unfolding usedBy
   gone k old x h e lost =
       let low = s .low x h in
       or-none (eqb k 0) (elem k after) (ne-eqb k 0 (λ (z : k ≡ 0). omega arith))
       (not-elem k after (λ (f : elem k after ≡ true).
-      let w = elem-named l entry′ place′ k f in
+      let w = elem-named (g .l) entry′ place′ k f in
       let v = was-named k old (w .0) (w .1) (w .2) in
       lost (subst Kept (s .once (w .0) x (v .1) h (v .2 ∙ sym e)) (v .0))))
 
   -- One that was neither taken nor superseded is used as before.
   stays : (k : ℕ) → ((j : ℕ) → j < length taken → at taken j ≡ k → ⊥)
-      → ((i : ℕ) → i < length blocks → full i ≡ true → sector i ≡ k → ⊥) → ((p : ℕ) → p < piecesFor l → flagged written p ≡ true → at pl p ≡ k → ⊥)
+      → ((i : ℕ) → i < length blocks → full i ≡ true → sector i ≡ k → ⊥) → ((p : ℕ) → p < piecesFor (g .l) → flagged written p ≡ true → at pl p ≡ k → ⊥)
       → usedBy before k ≡ usedBy after k
   unfolding usedBy Kept
   stays k old d1 d2 =
@@ -148,18 +149,18 @@ module _ (n l tail number : ℕ) (mp pl nu us blocks news taken written : List �
       (λ e.
       ⊎-elim (λ (z : eqb k 0 ≡ true). or-l (eqb k 0) (elem k after) z)
       (λ (z : elem k before ≡ true).
-      let w = elem-named l (at mp) (at pl) k z in
+      let w = elem-named (g .l) (at mp) (at pl) k z in
       or-r (eqb k 0) (elem k after) (subst (λ (x : ℕ). elem x after ≡ true) (w .2) (kept-after (w .0) (kept (w .0) (w .1) (w .2)) (w .1))))
       (or-cases (eqb k 0) (elem k before) e))
       (λ e.
       ⊎-elim (λ (z : eqb k 0 ≡ true). or-l (eqb k 0) (elem k before) z)
       (λ (z : elem k after ≡ true).
-      let w = elem-named l entry′ place′ k z in
+      let w = elem-named (g .l) entry′ place′ k z in
       let v = was-named k old (w .0) (w .1) (w .2) in
-      or-r (eqb k 0) (elem k before) (subst (λ (x : ℕ). elem x before ≡ true) (v .2) (named-elem l (at mp) (at pl) (w .0) (v .1))))
+      or-r (eqb k 0) (elem k before) (subst (λ (x : ℕ). elem x before ≡ true) (v .2) (named-elem (g .l) (at mp) (at pl) (w .0) (v .1))))
       (or-cases (eqb k 0) (elem k after) e))
     where
-      kept : (x : Name) → Named l (at mp) (at pl) x → sectorNamed l (at mp) (at pl) x ≡ k → Kept x
+      kept : (x : Name) → Named (g .l) (at mp) (at pl) x → sectorNamed (g .l) (at mp) (at pl) x ≡ k → Kept x
       kept (piece p) h e =
           ⊎-elim (λ (w : flagged written p ≡ true). absurd (d2 p h w e)) (λ (w : flagged written p ≡ false). w) (bool? (flagged written p))
       kept (block b) h e =
@@ -172,7 +173,7 @@ module _ (n l tail number : ℕ) (mp pl nu us blocks news taken written : List �
   by-block k = anyBelow (λ i. full i && eqb k (sector i)) (length blocks)
 
   abbrev by-piece : ℕ → Bool
-  by-piece k = anyBelow (λ p. flagged written p && eqb k (at pl p)) (piecesFor l)
+  by-piece k = anyBelow (λ p. flagged written p && eqb k (at pl p)) (piecesFor (g .l))
 
   not-taken : (k : ℕ) → taken? k ≡ false → (j : ℕ) → j < length taken → at taken j ≡ k → ⊥
   not-taken k e j h f = clash (taken? k) (anyBelow-is (λ i. eqb k (at taken i)) (length taken) j h (eq-eqb k (at taken j) (sym f))) e
@@ -192,11 +193,11 @@ module _ (n l tail number : ℕ) (mp pl nu us blocks news taken written : List �
       let b = at blocks (w .0) in
       rw (e, a) (cut-1 (bitAt us k) (by-piece k)
       ∙ sym
-      (gone k old (block b) (g .inside (w .0) (w .1), not-of (isEmpty (at mp b)) (and-l (full (w .0)) (eqb k (sector (w .0))) (w .2)))
+      (gone k old (block b) (gg .inside (w .0) (w .1), not-of (isEmpty (at mp b)) (and-l (full (w .0)) (eqb k (sector (w .0))) (w .2)))
       (sym (eqb-true k (sector (w .0)) (and-r (full (w .0)) (eqb k (sector (w .0))) (w .2)))) (λ (d : Kept (block b)). d (w .0) (w .1) refl))))
       (λ (a : by-block k ≡ false).
       ⊎-elim (λ (c : by-piece k ≡ true).
-      let w = anyBelow-at (λ p. flagged written p && eqb k (at pl p)) (piecesFor l) c in
+      let w = anyBelow-at (λ p. flagged written p && eqb k (at pl p)) (piecesFor (g .l)) c in
       rw (e, a, c) (cut-2 (bitAt us k)
       ∙ sym
       (gone k old (piece (w .0)) (w .1) (sym (eqb-true k (at pl (w .0)) (and-r (flagged written (w .0)) (eqb k (at pl (w .0))) (w .2))))
@@ -205,7 +206,7 @@ module _ (n l tail number : ℕ) (mp pl nu us blocks news taken written : List �
       rw (e, a, c) (same (bitAt us k) ∙ was-used k
       ∙ stays k old
       (λ i h f q. clash (by-block k) (anyBelow-is (λ i. full i && eqb k (sector i)) (length blocks) i h (and-i (full i) (eqb k (sector i)) f (eq-eqb k (sector i) (sym q)))) a)
-      (λ p h f q. clash (by-piece k) (anyBelow-is (λ p. flagged written p && eqb k (at pl p)) (piecesFor l) p h (and-i (flagged written p) (eqb k (at pl p)) f (eq-eqb k (at pl p) (sym q)))) c)))
+      (λ p h f q. clash (by-piece k) (anyBelow-is (λ p. flagged written p && eqb k (at pl p)) (piecesFor (g .l)) p h (and-i (flagged written p) (eqb k (at pl p)) f (eq-eqb k (at pl p) (sym q)))) c)))
       (bool? (by-piece k)))
       (bool? (by-block k)))
       (bool? (taken? k))
@@ -224,7 +225,7 @@ module _ (n l tail number : ℕ) (mp pl nu us blocks news taken written : List �
 
   -- The bits as the code leaves them.
   pub used-after : (bits1 bits2 bits3 : ℕ → Bool) → bits1 ≡ without (bitAt us) full sector (length blocks)
-      → length pl ≡ piecesFor l → bits2 ≡ without bits1 (flagged written) (at pl) (length pl)
+      → length pl ≡ piecesFor (g .l) → bits2 ≡ without bits1 (flagged written) (at pl) (length pl)
       → bits3 ≡ (λ k. bits2 k || taken? k) → bits3 ≡ usedBy after
   unfolding without
   used-after bits1 bits2 bits3 e len f h =
@@ -233,11 +234,11 @@ module _ (n l tail number : ℕ) (mp pl nu us blocks news taken written : List �
       ap (λ (x : ℕ → Bool). x k || taken? k) (f ∙ ap {B = ℕ → Bool} (λ (x : ℕ). without bits1 (flagged written) (at pl) x) len) ∙ ap (λ (x : ℕ → Bool). (x k && not (by-piece k)) || taken? k) e ∙ at-sector k)
 
 -- The bits that a change of the tables touches are in the used map.
-module _ (n l tail number : ℕ) (mp pl nu us : List ℕ) (some : 1 ≤ n) (s : Sound n l (tablesOf mp pl nu us) tail number) where
-  pub entry-bit : (size : ℕ) → size ≡ usedBytes n → length mp ≡ l → (b : ℕ) → b < length mp → isEmpty (at mp b) ≡ false → sectorOf (at mp b) < 8 * size
+module _ (g : Geometry) (tail number : ℕ) (mp pl nu us : List ℕ) (some : 1 ≤ g .n) (s : Sound g (tablesOf mp pl nu us) tail number) where
+  pub entry-bit : (size : ℕ) → size ≡ usedBytes (g .n) → length mp ≡ g .l → (b : ℕ) → b < length mp → isEmpty (at mp b) ≡ false → sectorOf (at mp b) < 8 * size
   entry-bit size e len b h f = let z = s .high (block b) (subst (λ (x : ℕ). b < x) len h, f) in omega arith
 
-  pub place-bit : (size : ℕ) → size ≡ usedBytes n → length pl ≡ piecesFor l → (p : ℕ) → p < length pl → at pl p < 8 * size
+  pub place-bit : (size : ℕ) → size ≡ usedBytes (g .n) → length pl ≡ piecesFor (g .l) → (p : ℕ) → p < length pl → at pl p < 8 * size
   place-bit size e len p h = let z = s .high (piece p) (subst (λ (x : ℕ). p < x) len h) in omega arith
 
 pub taken-bit : (n size : ℕ) (taken : List ℕ) → size ≡ usedBytes n → ((i : ℕ) → i < length taken → at taken i < n) → (i : ℕ) → i < length taken → at taken i < 8 * size
@@ -250,7 +251,7 @@ pub settled-tables : (s : State) (mp pl nu us blocks news taken written : List �
     → number ≡ (λ p. cond (flagged written p) (suc (s .number + countBelow (flagged written) p)) (at nu p))
     → bits
     ≡ usedBy
-    (namedBy (s .l) (updates (at mp) (at blocks) (at news) (length blocks))
+    (namedBy (s .geometry .l) (updates (at mp) (at blocks) (at news) (length blocks))
     (λ p. cond (flagged written p) (at taken (count + countBelow (flagged written) p)) (at pl p)))
     → _≡_ {A = Tables} (record { entry = entry; place = place; number = number; isUsed = bits })
     (committedTables s (tablesOf mp pl nu us) (planOf [] written 0 count taken) (changeOf blocks news count))

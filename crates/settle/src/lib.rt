@@ -126,13 +126,13 @@ pub fn settle(
     count: usize,
     written: &[u8],
 )
-    requires { ⌜ geometryFits (s .n) (s .l) ≡ true ⌝ }
-    requires { ⌜ length (now map) ≡ s .l ⌝ }
-    requires { ⌜ length (now places) ≡ piecesFor (s .l) ⌝ }
-    requires { ⌜ length (now numbers) ≡ piecesFor (s .l) ⌝ }
-    requires { ⌜ length (now used) ≡ usedBytes (s .n) ⌝ }
-    requires { ⌜ consistent (s .n) (s .l) (tablesOf (now map) (now places) (now numbers) (now used)) (s .tail) (s .number) ≡ true ⌝ }
-    requires { ⌜ Settling (s .n) (s .l) (s .number) (now blocks) (now news) (now taken) count (now written) ⌝ }
+    requires { ⌜ geometryFits (s .geometry) ≡ true ⌝ }
+    requires { ⌜ length (now map) ≡ s .geometry .l ⌝ }
+    requires { ⌜ length (now places) ≡ piecesFor (s .geometry .l) ⌝ }
+    requires { ⌜ length (now numbers) ≡ piecesFor (s .geometry .l) ⌝ }
+    requires { ⌜ length (now used) ≡ usedBytes (s .geometry .n) ⌝ }
+    requires { ⌜ consistent (s .geometry) (tablesOf (now map) (now places) (now numbers) (now used)) (s .tail) (s .number) ≡ true ⌝ }
+    requires { ⌜ Settling (s .geometry) (s .number) (now blocks) (now news) (now taken) count (now written) ⌝ }
     ensures { λ _. ⌜ tablesOf (now (map .exit)) (now (places .exit)) (now (numbers .exit)) (now (used .exit)) ≡ committedTables s (tablesOf (now (map .entry)) (now (places .entry)) (now (numbers .entry)) (now (used .entry))) (planOf [] (now (written .entry)) 0 count (now (taken .entry))) (changeOf (now (blocks .entry)) (now (news .entry)) count) ⌝ }
 {
     free_blocks(used, map, blocks);

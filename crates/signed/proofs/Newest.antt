@@ -12,9 +12,10 @@ use lib.Dec.{eqb, leb, ltb}
 use borrow.Author.Tests.{lt-ltb, le-ltb, eq-eqb, ne-eqb, le-leb, lt-leb}
 use Rattle.layout.specs.Bounded.{at, best, listFrom}
 use Rattle.layout.specs.Word.{wordsOf}
+use Rattle.laws.proofs.Filling.{zeros-get}
 use Rattle.laws.proofs.Bounded.{lt?, eq?, bool?, cond-true, cond-false, length-listFrom, listFrom-at}
 use Rattle.signed.specs.Signed.{numberAt, closingAt, pieceAt}
-use Rattle.signed.proofs.SignedLaws.{zeros-get}
+use Rattle.signed.proofs.SignedLaws.{}
 
 -- What a sector says as a closing sector.
 module _ (bits : ℕ → Bool) (image : ℕ → List ℕ) (k : ℕ) (s : List ℕ) (e : s ≡ image k) (r : Bool) (f : r ≡ eqb (at (wordsOf s) 5) 1) where

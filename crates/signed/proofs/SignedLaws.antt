@@ -1,5 +1,5 @@
 -- Bits set one after the other, and what marked sectors say.
-use Prim.Native.Nat.{ℕ, zero, suc, _+_, _/_, _%_, _^_, _≤_, _<_}
+use Prim.Native.Nat.{ℕ, suc, _+_, _/_, _%_, _^_, _≤_, _<_}
 use mathlib.Core.Path.{_≡_, refl, sym, _∙_, ap, fun-ext}
 use mathlib.Core.Logic.{⊎-elim}
 use mathlib.Core.Bool.{Bool, true, false}
@@ -7,13 +7,15 @@ use mathlib.Core.List.{List}
 use native.Mathlib.Nat.{zero-div}
 use native.Mathlib.Numerals.{add-one}
 use native.Mathlib.Omega.{arith}
-use lib.ListN.{getD, replicate}
+use lib.ListN.{replicate}
 use lib.Dec.{eqb, ltb}
 use borrow.Author.Tests.{eq-eqb, ne-eqb, lt-ltb, le-ltb}
+use Rattle.geometry.specs.declared.Geometry.{Geometry}
 use Rattle.layout.specs.Bounded.{at, updated}
 use Rattle.layout.specs.Word.{wordsOf}
 use Rattle.layout.specs.MapSector.{valid}
 use Rattle.volume.specs.Tables.{bitAt}
+use Rattle.laws.proofs.Filling.{zeros-get}
 use Rattle.laws.proofs.Bounded.{lt?, eq?, cond-true, cond-false}
 use Rattle.signed.specs.Signed.{below, isSigned, signedAt, numberAt}
 
@@ -40,11 +42,6 @@ unfolding below
 below-none test = fun-ext (λ j. rw (le-ltb j 0 (omega arith)) refl)
 
 -- Zeros.
-pub zeros-get : (n k : ℕ) → _≡_ {A = ℕ} (getD (replicate n 0) k 0) 0
-zeros-get zero k = refl
-zeros-get (suc n) zero = refl
-zeros-get (suc n) (suc k) = zeros-get n k
-
 pub marks-none : (test : ℕ → Bool) (us : List ℕ) (n : ℕ) → us ≡ replicate n 0 → bitAt us ≡ below test 0
 unfolding bitAt
 marks-none test us n e =
@@ -61,13 +58,13 @@ pub marks-hit : (test : ℕ → Bool) (k : ℕ) (bits after : ℕ → Bool) → 
     → after ≡ below test (k + 1)
 marks-hit test k bits after e t u = u ∙ ap (λ (f : ℕ → Bool). updated f k true) e ∙ below-hit test k t
 
-pub is-signed : (n l : ℕ) (image : ℕ → List ℕ) (k : ℕ) (s : List ℕ) (r v : Bool) → s ≡ image k → r ≡ valid n l s (wordsOf s) → r ≡ v → isSigned n l image k ≡ v
+pub is-signed : (g : Geometry) (image : ℕ → List ℕ) (k : ℕ) (s : List ℕ) (r v : Bool) → s ≡ image k → r ≡ valid g s (wordsOf s) → r ≡ v → isSigned g image k ≡ v
 unfolding isSigned
-is-signed n l image k s r v e f g = ap (λ (x : List ℕ). valid n l x (wordsOf x)) (sym e) ∙ sym f ∙ g
+is-signed g image k s r v e f u = ap (λ (x : List ℕ). valid g x (wordsOf x)) (sym e) ∙ sym f ∙ u
 
-pub signed-all : (n l : ℕ) (image : ℕ → List ℕ) (k : ℕ) (bits : ℕ → Bool) → k ≡ n → bits ≡ below (isSigned n l image) k → bits ≡ signedAt n l image
+pub signed-all : (g : Geometry) (image : ℕ → List ℕ) (k : ℕ) (bits : ℕ → Bool) → k ≡ g .n → bits ≡ below (isSigned g image) k → bits ≡ signedAt g image
 unfolding signedAt
-signed-all n l image k bits e h = h ∙ ap (below (isSigned n l image)) e
+signed-all g image k bits e h = h ∙ ap (below (isSigned g image)) e
 
 module _ (bits : ℕ → Bool) (image : ℕ → List ℕ) (k : ℕ) (b : Bool) (e : b ≡ bits k) where
   pub number-none : b ≡ false → 0 ≡ numberAt bits image k

@@ -9,6 +9,7 @@ use native.Mathlib.Omega.{arith}
 use lib.ListN.{take, drop}
 use lib.Dec.{eqb, leb, ltb}
 use borrow.Author.Tests.{lt-ltb, le-ltb, ltb-true, leb-true}
+use Rattle.geometry.specs.declared.Geometry.{Geometry}
 use Rattle.geometry.specs.Geometry.{within, piecesFor, branchRoom, entriesPerPiece}
 use Rattle.layout.specs.Bounded.{at, all, isZero, gathered}
 use Rattle.layout.specs.Word.{wordsOf, wordSum, startsWith}
@@ -47,69 +48,69 @@ none-of : (b : Bool) → cond {A = ℕ} b 0 0 ≡ 0
 none-of true = refl
 none-of false = refl
 
-module _ (n l : ℕ) (image : ℕ → List ℕ) where
+module _ (g : Geometry) (image : ℕ → List ℕ) where
   abbrev pub Seen : View
-  Seen = imageView n l image
+  Seen = imageView g image
 
-  pub inside : (k : ℕ) → signedAt n l image k ≡ true → k < n
+  pub inside : (k : ℕ) → signedAt g image k ≡ true → k < g .n
   unfolding signedAt below
-  inside k e = ltb-true k n (and-l (ltb k n) (isSigned n l image k) e)
+  inside k e = ltb-true k (g .n) (and-l (ltb k (g .n)) (isSigned g image k) e)
 
-  pub is-valid : (k : ℕ) → signedAt n l image k ≡ true → valid n l (image k) (wordsOf (image k)) ≡ true
+  pub is-valid : (k : ℕ) → signedAt g image k ≡ true → valid g (image k) (wordsOf (image k)) ≡ true
   unfolding signedAt below isSigned
-  is-valid k e = and-r (ltb k n) (isSigned n l image k) e
+  is-valid k e = and-r (ltb k (g .n)) (isSigned g image k) e
 
-  pub view-signed : (k : ℕ) → signedAt n l image k ≡ true → Seen k ≡ some (fields (wordsOf (image k)))
+  pub view-signed : (k : ℕ) → signedAt g image k ≡ true → Seen k ≡ some (fields (wordsOf (image k)))
   unfolding decoded
-  view-signed k e = view-at n l image k (inside k e) ∙ cond-true (valid n l (image k) (wordsOf (image k))) (some (fields (wordsOf (image k)))) none (is-valid k e)
+  view-signed k e = view-at g image k (inside k e) ∙ cond-true (valid g (image k) (wordsOf (image k))) (some (fields (wordsOf (image k)))) none (is-valid k e)
 
-  pub view-unsigned : (k : ℕ) → signedAt n l image k ≡ false → Seen k ≡ none
+  pub view-unsigned : (k : ℕ) → signedAt g image k ≡ false → Seen k ≡ none
   unfolding signedAt below isSigned decoded imageView
   view-unsigned k e =
-      ⊎-elim (λ (h : k < n).
-      view-at n l image k h
-      ∙ cond-false (valid n l (image k) (wordsOf (image k))) (some (fields (wordsOf (image k)))) none
-      (ap (λ (b : Bool). b && valid n l (image k) (wordsOf (image k))) (sym (lt-ltb k n h)) ∙ e))
-      (λ (h : n ≤ k). tabled-past none n (λ j. decoded n l (image j)) k h) (lt? k n)
+      ⊎-elim (λ (h : k < g .n).
+      view-at g image k h
+      ∙ cond-false (valid g (image k) (wordsOf (image k))) (some (fields (wordsOf (image k)))) none
+      (ap (λ (b : Bool). b && valid g (image k) (wordsOf (image k))) (sym (lt-ltb k (g .n) h)) ∙ e))
+      (λ (h : g .n ≤ k). tabled-past none (g .n) (λ j. decoded g (image j)) k h) (lt? k (g .n))
 
   -- A signed sector's piece is one of the pieces.
-  pub signed-piece : (k : ℕ) → signedAt n l image k ≡ true → at (wordsOf (image k)) 4 < piecesFor l
+  pub signed-piece : (k : ℕ) → signedAt g image k ≡ true → at (wordsOf (image k)) 4 < piecesFor (g .l)
   unfolding valid
   signed-piece k e =
       let ws = wordsOf (image k) in
-      ltb-true (at ws 4) (piecesFor l)
-      (fifth (startsWith mapMark (image k)) (isZero (wordSum ws)) (leb 1 (at ws 2)) (isZero (at ws 3)) (ltb (at ws 4) (piecesFor l)) (leb (at ws 5) 1)
-      (leb (at ws 6) branchRoom) (eqb (at ws 7) l) (branchesFit n (at ws 6) (branchWords ws))
-      (all isZero (drop (l - entriesPerPiece * at ws 4) (entryWords ws))) (is-valid k e))
+      ltb-true (at ws 4) (piecesFor (g .l))
+      (fifth (startsWith mapMark (image k)) (isZero (wordSum ws)) (leb 1 (at ws 2)) (isZero (at ws 3)) (ltb (at ws 4) (piecesFor (g .l))) (leb (at ws 5) 1)
+      (leb (at ws 6) branchRoom) (eqb (at ws 7) (g .l)) (branchesFit (g .n) (at ws 6) (branchWords ws))
+      (all isZero (drop (g .l - entriesPerPiece * at ws 4) (entryWords ws))) (is-valid k e))
 
   -- Its branches are sectors from 1 to n - 1.
-  pub signed-count : (k : ℕ) → signedAt n l image k ≡ true → at (wordsOf (image k)) 6 ≤ branchRoom
+  pub signed-count : (k : ℕ) → signedAt g image k ≡ true → at (wordsOf (image k)) 6 ≤ branchRoom
   unfolding valid
   signed-count k e =
       let ws = wordsOf (image k) in
       leb-true (at ws 6) branchRoom
-      (seventh (startsWith mapMark (image k)) (isZero (wordSum ws)) (leb 1 (at ws 2)) (isZero (at ws 3)) (ltb (at ws 4) (piecesFor l)) (leb (at ws 5) 1)
-      (leb (at ws 6) branchRoom) (eqb (at ws 7) l) (branchesFit n (at ws 6) (branchWords ws))
-      (all isZero (drop (l - entriesPerPiece * at ws 4) (entryWords ws))) (is-valid k e))
+      (seventh (startsWith mapMark (image k)) (isZero (wordSum ws)) (leb 1 (at ws 2)) (isZero (at ws 3)) (ltb (at ws 4) (piecesFor (g .l))) (leb (at ws 5) 1)
+      (leb (at ws 6) branchRoom) (eqb (at ws 7) (g .l)) (branchesFit (g .n) (at ws 6) (branchWords ws))
+      (all isZero (drop (g .l - entriesPerPiece * at ws 4) (entryWords ws))) (is-valid k e))
 
-  pub signed-branches : (k : ℕ) → signedAt n l image k ≡ true → all (within 1 (n - 1)) (take (at (wordsOf (image k)) 6) (branchWords (wordsOf (image k)))) ≡ true
+  pub signed-branches : (k : ℕ) → signedAt g image k ≡ true → all (within 1 (g .n - 1)) (take (at (wordsOf (image k)) 6) (branchWords (wordsOf (image k)))) ≡ true
   unfolding valid branchesFit
   signed-branches k e =
       let ws = wordsOf (image k) in
-      and-l (all (within 1 (n - 1)) (take (at ws 6) (branchWords ws))) (all isZero (drop (at ws 6) (branchWords ws)))
-      (ninth (startsWith mapMark (image k)) (isZero (wordSum ws)) (leb 1 (at ws 2)) (isZero (at ws 3)) (ltb (at ws 4) (piecesFor l)) (leb (at ws 5) 1)
-      (leb (at ws 6) branchRoom) (eqb (at ws 7) l) (branchesFit n (at ws 6) (branchWords ws))
-      (all isZero (drop (l - entriesPerPiece * at ws 4) (entryWords ws))) (is-valid k e))
+      and-l (all (within 1 (g .n - 1)) (take (at ws 6) (branchWords ws))) (all isZero (drop (at ws 6) (branchWords ws)))
+      (ninth (startsWith mapMark (image k)) (isZero (wordSum ws)) (leb 1 (at ws 2)) (isZero (at ws 3)) (ltb (at ws 4) (piecesFor (g .l))) (leb (at ws 5) 1)
+      (leb (at ws 6) branchRoom) (eqb (at ws 7) (g .l)) (branchesFit (g .n) (at ws 6) (branchWords ws))
+      (all isZero (drop (g .l - entriesPerPiece * at ws 4) (entryWords ws))) (is-valid k e))
 
-  module _ (bits : ℕ → Bool) (e : bits ≡ signedAt n l image) where
-    at-bit : (k : ℕ) → bits k ≡ signedAt n l image k
+  module _ (bits : ℕ → Bool) (e : bits ≡ signedAt g image) where
+    at-bit : (k : ℕ) → bits k ≡ signedAt g image k
     at-bit k = ap (λ (f : ℕ → Bool). f k) e
 
     -- By cases of a sector: signed, or not.
     by-sign : (P : Bool → Option MapSector → Type 0) (k : ℕ) → P true (some (fields (wordsOf (image k)))) → P false none → P (bits k) (Seen k)
     by-sign P k on off =
-        ⊎-elim (λ (z : signedAt n l image k ≡ true). rw (at-bit k ∙ z, view-signed k z) on)
-        (λ (z : signedAt n l image k ≡ false). rw (at-bit k ∙ z, view-unsigned k z) off) (bool? (signedAt n l image k))
+        ⊎-elim (λ (z : signedAt g image k ≡ true). rw (at-bit k ∙ z, view-signed k z) on)
+        (λ (z : signedAt g image k ≡ false). rw (at-bit k ∙ z, view-unsigned k z) off) (bool? (signedAt g image k))
 
     pub number-view : (k : ℕ) → numberAt bits image k ≡ numberIn (Seen k)
     unfolding numberAt numberIn
@@ -127,9 +128,9 @@ module _ (n l : ℕ) (image : ℕ → List ℕ) where
         by-sign (λ b o. cond (eqb (at (wordsOf (image k)) 4) p && leb (cond b (at (wordsOf (image k)) 2) 0) c) (cond b (at (wordsOf (image k)) 2) 0) 0 ≡ pieceNumber c p o)
         k refl (none-of (eqb (at (wordsOf (image k)) 4) p && leb 0 c))
 
-    past : (k : ℕ) → n ≤ k → numberIn (Seen k) ≡ 0
+    past : (k : ℕ) → g .n ≤ k → numberIn (Seen k) ≡ 0
     unfolding numberIn imageView
-    past k h = ap numberIn (tabled-past none n (λ j. decoded n l (image j)) k h)
+    past k h = ap numberIn (tabled-past none (g .n) (λ j. decoded g (image j)) k h)
 
     -- The same of all sectors.
     pub closings-view : closingAt bits image ≡ (λ k. closingNumber (Seen k))
@@ -142,18 +143,18 @@ module _ (n l : ℕ) (image : ℕ → List ℕ) where
     unfolding signedNumbers
     numbers-view m = ap (λ (f : ℕ → ℕ). gathered (λ k. not (isZero (f k))) f [] m) (fun-ext {f = numberAt bits image} {g = λ k. numberIn (Seen k)} number-view)
 
-    pub above-view : (c : ℕ) → below (λ k. ltb c (numberAt bits image k)) n ≡ isUncommitted Seen c
+    pub above-view : (c : ℕ) → below (λ k. ltb c (numberAt bits image k)) (g .n) ≡ isUncommitted Seen c
     unfolding below
     above-view c = fun-ext (λ k.
-        ⊎-elim (λ (h : k < n). rw (lt-ltb k n h) (ap (ltb c) (number-view k)))
-        (λ (h : n ≤ k). rw (le-ltb k n h) (sym (ap (ltb c) (past k h) ∙ le-ltb c 0 (omega arith)))) (lt? k n))
+        ⊎-elim (λ (h : k < g .n). rw (lt-ltb k (g .n) h) (ap (ltb c) (number-view k)))
+        (λ (h : g .n ≤ k). rw (le-ltb k (g .n) h) (sym (ap (ltb c) (past k h) ∙ le-ltb c 0 (omega arith)))) (lt? k (g .n)))
 
   -- A sector with a number for a piece is signed, and that is its number.
   pub piece-signed : (c p k : ℕ) → (pieceNumber c p (Seen k) ≡ 0 → ⊥) → Seen k ≡ some (fields (wordsOf (image k)))
   unfolding pieceNumber
   piece-signed c p k d =
-      ⊎-elim (λ (z : signedAt n l image k ≡ true). view-signed k z)
-      (λ (z : signedAt n l image k ≡ false). absurd (d (ap (pieceNumber c p) (view-unsigned k z)))) (bool? (signedAt n l image k))
+      ⊎-elim (λ (z : signedAt g image k ≡ true). view-signed k z)
+      (λ (z : signedAt g image k ≡ false). absurd (d (ap (pieceNumber c p) (view-unsigned k z)))) (bool? (signedAt g image k))
 
 pub piece-number : (c p : ℕ) (o : Option MapSector) → (pieceNumber c p o ≡ 0 → ⊥) → pieceNumber c p o ≡ numberIn o
 unfolding pieceNumber numberIn

@@ -3,6 +3,7 @@ use Prim.Native.Nat.{ℕ}
 use mathlib.Core.Bool.{Bool, cond, _&&_}
 use mathlib.Core.List.{List}
 use lib.Dec.{eqb, leb, ltb}
+use Rattle.geometry.specs.declared.Geometry.{Geometry}
 use Rattle.layout.specs.Bounded.{at}
 use Rattle.layout.specs.Word.{wordsOf}
 use Rattle.layout.specs.MapSector.{valid}
@@ -12,12 +13,12 @@ unfoldable pub below : (ℕ → Bool) → ℕ → ℕ → Bool
 below test n k = ltb k n && test k
 
 -- Sector k of an image is signed.
-unfoldable pub isSigned : ℕ → ℕ → (ℕ → List ℕ) → ℕ → Bool
-isSigned n l image k = valid n l (image k) (wordsOf (image k))
+unfoldable pub isSigned : Geometry → (ℕ → List ℕ) → ℕ → Bool
+isSigned g image k = valid g (image k) (wordsOf (image k))
 
 -- The signed sectors of an image of n sectors.
-unfoldable pub signedAt : ℕ → ℕ → (ℕ → List ℕ) → ℕ → Bool
-signedAt n l image = below (isSigned n l image) n
+unfoldable pub signedAt : Geometry → (ℕ → List ℕ) → ℕ → Bool
+signedAt g image = below (isSigned g image) (g .n)
 
 -- A sector's number where its bit is set and 0 where not; that number where the sector is closing; and where it is of piece p and
 -- numbered up to c.

@@ -7,19 +7,20 @@ ghost use Rattle.geometry.specs.Geometry.{sectorBytes};
 ghost use Rattle.layout.specs.Bounded.{best};
 ghost use Rattle.volume.specs.Tables.{sectorAt, bitAt};
 ghost use Rattle.signed.specs.Signed.{below, signedAt, numberAt, closingAt};
+use geometry::Geometry;
 
 // Marks the signed sectors. Each sector is summed once.
-pub fn mark_signed(image: &[u8], n: u32, l: u32, marks: &mut [u8])
-    requires { ⌜ length (now image) ≡ sectorBytes * n ⌝ }
-    requires { ⌜ 1 ≤ n ⌝ }
-    requires { ⌜ n ≤ 8 * length (now marks) ⌝ }
+pub fn mark_signed(image: &[u8], g: Geometry, marks: &mut [u8])
+    requires { ⌜ length (now image) ≡ sectorBytes * g .n ⌝ }
+    requires { ⌜ 1 ≤ g .n ⌝ }
+    requires { ⌜ g .n ≤ 8 * length (now marks) ⌝ }
     requires { ⌜ now marks ≡ replicate (length (now marks)) 0 ⌝ }
-    ensures { λ _. ⌜ bitAt (now (marks .exit)) ≡ signedAt n l (sectorAt (now (image .entry))) ⌝ }
+    ensures { λ _. ⌜ bitAt (now (marks .exit)) ≡ signedAt g (sectorAt (now (image .entry))) ⌝ }
 {
     let mut k: u32 = 0;
-    'sectors: while k < n {
+    'sectors: while k < g.n {
         let s = images::sector(image, k as usize);
-        if !map_sector::is_valid(s, n, l) {
+        if !map_sector::is_valid(s, g) {
             k += 1;
             continue 'sectors;
         }

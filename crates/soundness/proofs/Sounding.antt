@@ -6,6 +6,7 @@ use mathlib.Core.List.{List, []}
 use native.Mathlib.Omega.{arith}
 use lib.Dec.{eqb, leb}
 use borrow.Author.Tests.{leb-true, le-leb, lt-leb}
+use Rattle.geometry.specs.declared.Geometry.{Geometry}
 use Rattle.geometry.specs.Geometry.{within, piecesFor, mostBlocks, mostSectors, usedBytes, geometryFits}
 use Rattle.layout.specs.Bounded.{at, allBelow, best, all, distinct, always, gathered}
 use Rattle.volume.specs.Tables.{tablesOf, bitAt, namedBy, usedBy, freeSectors, consistent}
@@ -28,59 +29,59 @@ module _ (a b c d e f g : Bool) where
   rest-decides p q r = rw (p, q, r) refl
 
 -- The sizes that a geometry gives.
-module _ (n l : ℕ) (h : geometryFits n l ≡ true) where
-  low : within 1 mostBlocks l ≡ true
-  low = and-l (within 1 mostBlocks l) (within (2 * piecesFor l + 2) mostSectors n) h
+module _ (g : Geometry) (h : geometryFits g ≡ true) where
+  low : within 1 mostBlocks (g .l) ≡ true
+  low = and-l (within 1 mostBlocks (g .l)) (within (2 * piecesFor (g .l) + 2) mostSectors (g .n)) h
 
-  high : within (2 * piecesFor l + 2) mostSectors n ≡ true
-  high = and-r (within 1 mostBlocks l) (within (2 * piecesFor l + 2) mostSectors n) h
+  high : within (2 * piecesFor (g .l) + 2) mostSectors (g .n) ≡ true
+  high = and-r (within 1 mostBlocks (g .l)) (within (2 * piecesFor (g .l) + 2) mostSectors (g .n)) h
 
-  pub blocks-some : 1 ≤ l
-  blocks-some = leb-true 1 l (and-l (leb 1 l) (leb l mostBlocks) low)
+  pub blocks-some : 1 ≤ g .l
+  blocks-some = leb-true 1 (g .l) (and-l (leb 1 (g .l)) (leb (g .l) mostBlocks) low)
 
-  pub blocks-most : l ≤ mostBlocks
-  blocks-most = leb-true l mostBlocks (and-r (leb 1 l) (leb l mostBlocks) low)
+  pub blocks-most : g .l ≤ mostBlocks
+  blocks-most = leb-true (g .l) mostBlocks (and-r (leb 1 (g .l)) (leb (g .l) mostBlocks) low)
 
-  pub sectors-some : 2 * piecesFor l + 2 ≤ n
-  sectors-some = leb-true (2 * piecesFor l + 2) n (and-l (leb (2 * piecesFor l + 2) n) (leb n mostSectors) high)
+  pub sectors-some : 2 * piecesFor (g .l) + 2 ≤ g .n
+  sectors-some = leb-true (2 * piecesFor (g .l) + 2) (g .n) (and-l (leb (2 * piecesFor (g .l) + 2) (g .n)) (leb (g .n) mostSectors) high)
 
-  pub sectors-most : n ≤ mostSectors
-  sectors-most = leb-true n mostSectors (and-r (leb (2 * piecesFor l + 2) n) (leb n mostSectors) high)
+  pub sectors-most : g .n ≤ mostSectors
+  sectors-most = leb-true (g .n) mostSectors (and-r (leb (2 * piecesFor (g .l) + 2) (g .n)) (leb (g .n) mostSectors) high)
 
-module _ (n l : ℕ) (map places numbers used : List ℕ) (tail number : ℕ) where
+module _ (g : Geometry) (map places numbers used : List ℕ) (tail number : ℕ) where
   abbrev Names : List ℕ
-  Names = namedBy l (at map) (at places)
+  Names = namedBy (g .l) (at map) (at places)
 
   abbrev Fits : Bool
-  Fits = all (within 1 (n - 1)) Names && distinct Names
+  Fits = all (within 1 (g .n - 1)) Names && distinct Names
 
   abbrev Bits : Bool
-  Bits = allBelow (λ k. Bool·beq (bitAt used k) (usedBy Names k)) (8 * usedBytes n)
+  Bits = allBelow (λ k. Bool·beq (bitAt used k) (usedBy Names k)) (8 * usedBytes (g .n))
 
   abbrev Room : Bool
-  Room = leb (piecesFor l) (freeSectors n (bitAt used))
+  Room = leb (piecesFor (g .l)) (freeSectors (g .n) (bitAt used))
 
   abbrev D : Bool
-  D = distinct (gathered always (at numbers) [] (piecesFor l))
+  D = distinct (gathered always (at numbers) [] (piecesFor (g .l)))
 
   abbrev E : Bool
-  E = allBelow (λ q. leb 1 (at numbers q)) (piecesFor l)
+  E = allBelow (λ q. leb 1 (at numbers q)) (piecesFor (g .l))
 
   abbrev F : Bool
-  F = eqb tail (at places (best (at numbers) (piecesFor l)))
+  F = eqb tail (at places (best (at numbers) (piecesFor (g .l))))
 
   abbrev G : Bool
-  G = eqb number (at numbers (best (at numbers) (piecesFor l)))
+  G = eqb number (at numbers (best (at numbers) (piecesFor (g .l))))
 
   abbrev Whole : Bool
-  Whole = consistent n l (tablesOf map places numbers used) tail number
+  Whole = consistent g (tablesOf map places numbers used) tail number
 
-  module _ (marks : ℕ → Bool) (r : Bool) (h : Left n Names r marks) where
+  module _ (marks : ℕ → Bool) (r : Bool) (h : Left (g .n) Names r marks) where
     pub names-fail : not r ≡ true → false ≡ Whole
     unfolding consistent
     names-fail e = first-fails Fits Bits Room D E F G (sym (h .0) ∙ not-of r e)
 
-    module _ (e : not r ≡ false) (s : Bool) (len : ℕ) (long : len ≡ usedBytes n)
+    module _ (e : not r ≡ false) (s : Bool) (len : ℕ) (long : len ≡ usedBytes (g .n))
         (t : s ≡ allBelow (λ k. Bool·beq (bitAt used k) (marks k)) (8 * len)) where
       fits : Fits ≡ true
       fits = sym (h .0) ∙ not-false r e
@@ -95,17 +96,17 @@ module _ (n l : ℕ) (map places numbers used : List ℕ) (tail number : ℕ) wh
       unfolding consistent
       bits-fail f = second-fails Fits Bits Room D E F G fits (sym compared ∙ not-of s f)
 
-      module _ (f : not s ≡ false) (free p : ℕ) (counted : free ≡ freeSectors n (bitAt used)) (pieces : p ≡ piecesFor l) where
+      module _ (f : not s ≡ false) (free p : ℕ) (counted : free ≡ freeSectors (g .n) (bitAt used)) (pieces : p ≡ piecesFor (g .l)) where
         bits : Bits ≡ true
         bits = sym compared ∙ not-false s f
 
         pub room-fails : free < p → false ≡ Whole
         unfolding consistent
-        room-fails g =
-            third-fails Fits Bits Room D E F G fits bits (lt-leb (piecesFor l) (freeSectors n (bitAt used)) (omega arith))
+        room-fails w =
+            third-fails Fits Bits Room D E F G fits bits (lt-leb (piecesFor (g .l)) (freeSectors (g .n) (bitAt used)) (omega arith))
 
-        pub numbers-decide : p ≤ free → (u : Bool) (m : ℕ) → m ≡ piecesFor l → u ≡ Agree (at places) (at numbers) m tail number → u ≡ Whole
+        pub numbers-decide : p ≤ free → (u : Bool) (m : ℕ) → m ≡ piecesFor (g .l) → u ≡ Agree (at places) (at numbers) m tail number → u ≡ Whole
         unfolding consistent
-        numbers-decide g u m same v =
+        numbers-decide w u m same v =
             v ∙ ap (λ (x : ℕ). Agree (at places) (at numbers) x tail number) same
-            ∙ rest-decides Fits Bits Room D E F G fits bits (le-leb (piecesFor l) (freeSectors n (bitAt used)) (omega arith))
+            ∙ rest-decides Fits Bits Room D E F G fits bits (le-leb (piecesFor (g .l)) (freeSectors (g .n) (bitAt used)) (omega arith))

@@ -25,8 +25,7 @@ fn bits_agree(used: &[u8], marks: &[u8]) -> bool
 
 // Whether the tables are sound. The sectors that they name are marked in a used map of their own, which is then compared.
 pub fn is_consistent(
-    n: u32,
-    l: u32,
+    g: Geometry,
     map: &[u32],
     places: &[u32],
     numbers: &[u32],
@@ -34,21 +33,21 @@ pub fn is_consistent(
     tail: u32,
     number: u32,
 ) -> bool
-    requires { ⌜ geometryFits n l ≡ true ⌝ }
-    requires { ⌜ length (now map) ≡ l ⌝ }
-    requires { ⌜ length (now places) ≡ piecesFor l ⌝ }
-    requires { ⌜ length (now numbers) ≡ piecesFor l ⌝ }
-    requires { ⌜ length (now used) ≡ usedBytes n ⌝ }
-    ensures { λ r. ⌜ r ≡ consistent n l (tablesOf (now (map .entry)) (now (places .entry)) (now (numbers .entry)) (now (used .entry))) tail number ⌝ }
+    requires { ⌜ geometryFits g ≡ true ⌝ }
+    requires { ⌜ length (now map) ≡ g .l ⌝ }
+    requires { ⌜ length (now places) ≡ piecesFor (g .l) ⌝ }
+    requires { ⌜ length (now numbers) ≡ piecesFor (g .l) ⌝ }
+    requires { ⌜ length (now used) ≡ usedBytes (g .n) ⌝ }
+    ensures { λ r. ⌜ r ≡ consistent g (tablesOf (now (map .entry)) (now (places .entry)) (now (numbers .entry)) (now (used .entry))) tail number ⌝ }
 {
     let mut marks = [0u8; 8192];
-    if !names::mark_names(&mut marks, n, l, map, places) {
+    if !names::mark_names(&mut marks, g, map, places) {
         return false;
     }
     if !bits_agree(used, &marks) {
         return false;
     }
-    if bits::count_free(used, n) < Geometry::pieces_for(l) {
+    if bits::count_free(used, g.n) < Geometry::pieces_for(g.l) {
         return false;
     }
     numbers::numbers_agree(places, numbers, tail, number)

@@ -2,6 +2,7 @@
 ghost use mathlib.Core.Path.{_≡_};
 ghost use Rattle.state.specs.State.{parkedState, cutState, committedState, freshState, lostState, isRunning, isReadable};
 use answer::Answer;
+use geometry::Geometry;
 
 pub enum Phase {
     Running,
@@ -11,8 +12,7 @@ pub enum Phase {
 }
 
 pub struct State {
-    pub n: u32,
-    pub l: u32,
+    pub geometry: Geometry,
     // The sector of the newest closed commit's closing map sector, and its number.
     pub tail: u32,
     pub number: u32,
@@ -21,25 +21,23 @@ pub struct State {
 
 impl State {
     // Running, as an accepted format or recovery leaves it.
-    pub fn running(n: u32, l: u32, tail: u32, number: u32) -> State
-        ensures { λ r. ⌜ r ≡ freshState n l tail number ⌝ }
+    pub fn running(g: Geometry, tail: u32, number: u32) -> State
+        ensures { λ r. ⌜ r ≡ freshState g tail number ⌝ }
     {
         State {
-            n,
-            l,
+            geometry: g,
             tail,
             number,
             phase: Phase::Running,
         }
     }
 
-    // Nothing but N and L is known: a format or a recovery did not come to its end.
-    pub fn lost(n: u32, l: u32) -> State
-        ensures { λ r. ⌜ r ≡ lostState n l ⌝ }
+    // Nothing but the geometry is known: a format or a recovery did not come to its end.
+    pub fn lost(g: Geometry) -> State
+        ensures { λ r. ⌜ r ≡ lostState g ⌝ }
     {
         State {
-            n,
-            l,
+            geometry: g,
             tail: 0,
             number: 0,
             phase: Phase::Cut,
@@ -49,9 +47,9 @@ impl State {
     pub fn parked(self) -> State
         ensures { λ r. ⌜ r ≡ parkedState self ⌝ }
     {
+        let geometry = self.geometry;
         State {
-            n: self.n,
-            l: self.l,
+            geometry,
             tail: self.tail,
             number: self.number,
             phase: Phase::Parked,
@@ -61,9 +59,9 @@ impl State {
     pub fn cut(self) -> State
         ensures { λ r. ⌜ r ≡ cutState self ⌝ }
     {
+        let geometry = self.geometry;
         State {
-            n: self.n,
-            l: self.l,
+            geometry,
             tail: self.tail,
             number: self.number,
             phase: Phase::Cut,
@@ -74,9 +72,9 @@ impl State {
     pub fn committed(self, tail: u32, number: u32) -> State
         ensures { λ r. ⌜ r ≡ committedState self tail number ⌝ }
     {
+        let geometry = self.geometry;
         State {
-            n: self.n,
-            l: self.l,
+            geometry,
             tail,
             number,
             phase: Phase::Running,

@@ -66,13 +66,13 @@ module _ (s : State) (map blocks news taken branches written : List ℕ) (count 
   pub member-stored : (p j : ℕ) (image image′ : ℕ → List ℕ) → j ≡ countBelow (flagged written) p
       → image′
       ≡ updated image (at taken (count + j))
-      (encoded (s .l)
+      (encoded (s .geometry .l)
       (record {
         number = suc (s .number + j);
         piece = p;
         closing = eqb (suc j) members;
         branches = cond (isZero j) branches (at taken (count + (j - 1)) ∷ []);
-        entries = pieceEntries (s .l) (updates (at map) (at blocks) (at news) (length blocks)) p;
+        entries = pieceEntries (s .geometry .l) (updates (at map) (at blocks) (at news) (length blocks)) p;
       }))
       → image′ ≡ updated image (stores p .sector) (stores p .bytes)
   unfolding memberStore memberPlace rank member committedTables changedEntries
@@ -80,13 +80,13 @@ module _ (s : State) (map blocks news taken branches written : List ℕ) (count 
       u
       ∙ ap (λ (x : ℕ).
       updated image (at taken (count + x))
-      (encoded (s .l)
+      (encoded (s .geometry .l)
       (record {
         number = suc (s .number + x);
         piece = p;
         closing = eqb (suc x) members;
         branches = cond (isZero x) branches (at taken (count + (x - 1)) ∷ []);
-        entries = pieceEntries (s .l) (updates (at map) (at blocks) (at news) (length blocks)) p;
+        entries = pieceEntries (s .geometry .l) (updates (at map) (at blocks) (at news) (length blocks)) p;
       })))
       e
 
@@ -113,7 +113,7 @@ module _ (s : State) (map blocks bytes news taken branches written : List ℕ) (
   datas = storesBelow always (blockStore taken bytes) count
 
   abbrev member-list : List Store
-  member-list = storesBelow (flagged written) (stores s map blocks news taken branches written count members) (piecesFor (s .l))
+  member-list = storesBelow (flagged written) (stores s map blocks news taken branches written count members) (piecesFor (s .geometry .l))
 
   pub data-fails : (image : ℕ → List ℕ) → Failed ≡ powered (countBelow always count) allowance → image ≡ applied (take allowance datas) before
       → (Failed ≡ powered (length (datas ++ member-list)) allowance) × (image ≡ applied (take allowance (datas ++ member-list)) before)
@@ -121,10 +121,10 @@ module _ (s : State) (map blocks bytes news taken branches written : List ℕ) (
       first-fails datas member-list before image allowance (e ∙ ap (λ (k : ℕ). powered k allowance) (sym (below-length always (blockStore taken bytes) count))) i
 
   pub members-run : (image mid : ℕ → List ℕ) (left : ℕ) (p : Power) → Left left ≡ powered (countBelow always count) allowance
-      → mid ≡ applied (take allowance datas) before → p ≡ powered (countBelow (flagged written) (piecesFor (s .l))) left
+      → mid ≡ applied (take allowance datas) before → p ≡ powered (countBelow (flagged written) (piecesFor (s .geometry .l))) left
       → image ≡ applied (take left member-list) mid
       → (p ≡ powered (length (datas ++ member-list)) allowance) × (image ≡ applied (take allowance (datas ++ member-list)) before)
   members-run image mid left p e m f i =
       second-runs datas member-list before image allowance left mid p
       (e ∙ ap (λ (k : ℕ). powered k allowance) (sym (below-length always (blockStore taken bytes) count))) m
-      (f ∙ ap (λ (k : ℕ). powered k left) (sym (below-length (flagged written) (stores s map blocks news taken branches written count members) (piecesFor (s .l))))) i
+      (f ∙ ap (λ (k : ℕ). powered k left) (sym (below-length (flagged written) (stores s map blocks news taken branches written count members) (piecesFor (s .geometry .l))))) i

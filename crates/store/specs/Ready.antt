@@ -11,13 +11,13 @@ use Rattle.pieces.specs.Arrays.{flagged}
 -- The named blocks are below L, and each has its entry; as many sectors are taken as are stored, and they are below N; the
 -- first member's branches fit; each member's piece is flagged; and the numbers suffice.
 pub record Ready (s : State) (map blocks entries taken : List ℕ) (dataSectors : ℕ) (branches written : List ℕ) (members : ℕ) : Type 0 where
-  pub whole : length map ≡ s .l
+  pub whole : length map ≡ s .geometry .l
   pub enough : length blocks ≤ length entries
-  pub inside : (i : ℕ) → i < length blocks → at blocks i < s .l
-  pub below : (i : ℕ) → i < length taken → at taken i < s .n
+  pub inside : (i : ℕ) → i < length blocks → at blocks i < s .geometry .l
+  pub below : (i : ℕ) → i < length taken → at taken i < s .geometry .n
   pub taken-all : dataSectors + members ≡ length taken
   pub room : length branches ≤ branchRoom
   pub numbers : s .number + members < 2 ^ 32
-  pub most : piecesFor (s .l) ≤ 256
-  pub flags : piecesFor (s .l) ≤ length written
-  pub counted : members ≡ countBelow (flagged written) (piecesFor (s .l))
+  pub most : piecesFor (s .geometry .l) ≤ 256
+  pub flags : piecesFor (s .geometry .l) ≤ length written
+  pub counted : members ≡ countBelow (flagged written) (piecesFor (s .geometry .l))

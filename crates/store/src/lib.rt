@@ -61,19 +61,19 @@ fn store_member(
     p: u32,
     j: u32,
 )
-    requires { ⌜ length (now image) ≡ sectorBytes * s .n ⌝ }
-    requires { ⌜ length (now map) ≡ s .l ⌝ }
+    requires { ⌜ length (now image) ≡ sectorBytes * s .geometry .n ⌝ }
+    requires { ⌜ length (now map) ≡ s .geometry .l ⌝ }
     requires { ⌜ length (now blocks) ≤ length (now news) ⌝ }
-    requires { ⌜ ((i : ℕ) → i < length (now blocks) → at (now blocks) i < s .l) ⌝ }
-    requires { ⌜ ((i : ℕ) → i < length (now taken) → at (now taken) i < s .n) ⌝ }
+    requires { ⌜ ((i : ℕ) → i < length (now blocks) → at (now blocks) i < s .geometry .l) ⌝ }
+    requires { ⌜ ((i : ℕ) → i < length (now taken) → at (now taken) i < s .geometry .n) ⌝ }
     requires { ⌜ count + members ≡ length (now taken) ⌝ }
     requires { ⌜ length (now branches) ≤ branchRoom ⌝ }
     requires { ⌜ s .number + members < 2 ^ 32 ⌝ }
     requires { ⌜ j < members ⌝ }
     requires { ⌜ p < 256 ⌝ }
-    ensures { λ _. ⌜ sectorAt (now (image .exit)) ≡ updated (sectorAt (now (image .entry))) (at (now (taken .entry)) (count + j)) (encoded (s .l) (record { number = suc (s .number + j); piece = p; closing = eqb (suc j) members; branches = cond (isZero j) (now (branches .entry)) (at (now (taken .entry)) (count + (j - 1)) ∷ []); entries = pieceEntries (s .l) (updates (at (now (map .entry))) (at (now (blocks .entry))) (at (now (news .entry))) (length (now (blocks .entry)))) p })) ⌝ }
+    ensures { λ _. ⌜ sectorAt (now (image .exit)) ≡ updated (sectorAt (now (image .entry))) (at (now (taken .entry)) (count + j)) (encoded (s .geometry .l) (record { number = suc (s .number + j); piece = p; closing = eqb (suc j) members; branches = cond (isZero j) (now (branches .entry)) (at (now (taken .entry)) (count + (j - 1)) ∷ []); entries = pieceEntries (s .geometry .l) (updates (at (now (map .entry))) (at (now (blocks .entry))) (at (now (news .entry))) (length (now (blocks .entry)))) p })) ⌝ }
 {
-    let l = s.l;
+    let l = s.geometry.l;
     let first = s.number + 1;
     let mut entries = [0u32; 96];
     entries::changed_piece(map, l, p, blocks, news, &mut entries);
@@ -110,11 +110,11 @@ fn store_members(
     members: u32,
     allowance: u32,
 ) -> Power
-    requires { ⌜ length (now image) ≡ sectorBytes * s .n ⌝ }
+    requires { ⌜ length (now image) ≡ sectorBytes * s .geometry .n ⌝ }
     requires { ⌜ Ready s (now map) (now blocks) (now news) (now taken) count (now branches) (now written) members ⌝ }
-    ensures { λ r. ⌜ (r ≡ powered (countBelow (flagged (now (written .entry))) (piecesFor (s .l))) allowance) × (sectorAt (now (image .exit)) ≡ applied (take allowance (storesBelow (flagged (now (written .entry))) (memberStore s (tablesOf (now (map .entry)) [] [] []) (planOf (now (branches .entry)) (now (written .entry)) members count (now (taken .entry))) (changeOf (now (blocks .entry)) (now (news .entry)) count)) (piecesFor (s .l)))) (sectorAt (now (image .entry)))) ⌝ }
+    ensures { λ r. ⌜ (r ≡ powered (countBelow (flagged (now (written .entry))) (piecesFor (s .geometry .l))) allowance) × (sectorAt (now (image .exit)) ≡ applied (take allowance (storesBelow (flagged (now (written .entry))) (memberStore s (tablesOf (now (map .entry)) [] [] []) (planOf (now (branches .entry)) (now (written .entry)) members count (now (taken .entry))) (changeOf (now (blocks .entry)) (now (news .entry)) count)) (piecesFor (s .geometry .l)))) (sectorAt (now (image .entry)))) ⌝ }
 {
-    let pieces = Geometry::pieces_for(s.l);
+    let pieces = Geometry::pieces_for(s.geometry.l);
     let mut left = allowance;
     let mut j: u32 = 0;
     let mut p: u32 = 0;
@@ -161,12 +161,12 @@ pub fn store(
     members: u32,
     allowance: u32,
 ) -> Power
-    requires { ⌜ length (now image) ≡ sectorBytes * s .n ⌝ }
+    requires { ⌜ length (now image) ≡ sectorBytes * s .geometry .n ⌝ }
     requires { ⌜ Ready s (now map) (now blocks) (now news) (now taken) count (now branches) (now written) members ⌝ }
     requires { ⌜ length (now bytes) ≡ sectorBytes * count ⌝ }
-    ensures { λ r. ⌜ (r ≡ powered (length (storesBelow always (blockStore (now (taken .entry)) (now (bytes .entry))) count ++ storesBelow (flagged (now (written .entry))) (memberStore s (tablesOf (now (map .entry)) [] [] []) (planOf (now (branches .entry)) (now (written .entry)) members count (now (taken .entry))) (changeOf (now (blocks .entry)) (now (news .entry)) count)) (piecesFor (s .l)))) allowance) × (sectorAt (now (image .exit)) ≡ applied (take allowance (storesBelow always (blockStore (now (taken .entry)) (now (bytes .entry))) count ++ storesBelow (flagged (now (written .entry))) (memberStore s (tablesOf (now (map .entry)) [] [] []) (planOf (now (branches .entry)) (now (written .entry)) members count (now (taken .entry))) (changeOf (now (blocks .entry)) (now (news .entry)) count)) (piecesFor (s .l)))) (sectorAt (now (image .entry)))) ⌝ }
+    ensures { λ r. ⌜ (r ≡ powered (length (storesBelow always (blockStore (now (taken .entry)) (now (bytes .entry))) count ++ storesBelow (flagged (now (written .entry))) (memberStore s (tablesOf (now (map .entry)) [] [] []) (planOf (now (branches .entry)) (now (written .entry)) members count (now (taken .entry))) (changeOf (now (blocks .entry)) (now (news .entry)) count)) (piecesFor (s .geometry .l)))) allowance) × (sectorAt (now (image .exit)) ≡ applied (take allowance (storesBelow always (blockStore (now (taken .entry)) (now (bytes .entry))) count ++ storesBelow (flagged (now (written .entry))) (memberStore s (tablesOf (now (map .entry)) [] [] []) (planOf (now (branches .entry)) (now (written .entry)) members count (now (taken .entry))) (changeOf (now (blocks .entry)) (now (news .entry)) count)) (piecesFor (s .geometry .l)))) (sectorAt (now (image .entry)))) ⌝ }
 {
-    let stored = store_data(image, s.n, taken, bytes, count, allowance);
+    let stored = store_data(image, s.geometry.n, taken, bytes, count, allowance);
     match stored {
         Power::Failed => Power::Failed,
         Power::Left(left) => store_members(

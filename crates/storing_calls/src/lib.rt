@@ -1,4 +1,5 @@
 // The calls that may store, by name: programs choose one here, and pass on what it is lent.
+use geometry::Settings;
 use state::Outcome;
 use state::State;
 
@@ -10,7 +11,7 @@ pub enum Storing {
     Recover,
 }
 
-// `argument` is the L of a format or a recover, and the head of a write or a drop.
+// A format or a recover is given the settings, a write or a drop the head.
 pub fn perform(
     call: Storing,
     s: State,
@@ -19,13 +20,14 @@ pub fn perform(
     places: &mut [u32],
     numbers: &mut [u32],
     used: &mut [u8],
-    argument: u32,
+    settings: Settings,
+    head: u32,
     blocks: &[u32],
     bytes: &[u8],
     stores: u32,
 ) -> Outcome {
     match call {
-        Storing::Format => format::format(s, image, map, places, numbers, used, argument, stores),
+        Storing::Format => format::format(s, image, map, places, numbers, used, settings, stores),
         Storing::Write => write::write(
             s,
             image,
@@ -33,22 +35,12 @@ pub fn perform(
             places,
             numbers,
             used,
-            argument,
+            head,
             blocks,
             bytes,
             stores,
         ),
-        Storing::Drop => write::drop(
-            s,
-            image,
-            map,
-            places,
-            numbers,
-            used,
-            argument,
-            blocks,
-            stores,
-        ),
+        Storing::Drop => write::drop(s, image, map, places, numbers, used, head, blocks, stores),
         Storing::Park => park::park(s, image, map, places, numbers, used, stores),
         Storing::Recover => recover::recover(
             s,
@@ -57,7 +49,7 @@ pub fn perform(
             places,
             numbers,
             used,
-            argument,
+            settings,
             stores,
         ),
     }

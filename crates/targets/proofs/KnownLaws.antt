@@ -8,6 +8,7 @@ use native.Mathlib.Omega.{arith}
 use lib.ListN.{length}
 use lib.Dec.{eqb}
 use borrow.Author.Tests.{eq-eqb, ne-eqb}
+use Rattle.geometry.specs.declared.Geometry.{Geometry}
 use Rattle.layout.specs.Bounded.{updated}
 use Rattle.volume.specs.Tables.{bitAt}
 use Rattle.laws.proofs.Bounded.{eq?, cond-true, cond-false}
@@ -18,12 +19,12 @@ off : (b : Bool) → (b && false) ≡ false
 off true = refl
 off false = refl
 
-module _ (n l : ℕ) (image : ℕ → List ℕ) (seen good : List ℕ) (known : Known n l image seen good) (k : ℕ) where
-  good-at : (j : ℕ) → bitAt good j ≡ (bitAt seen j && isSigned n l image j)
+module _ (g : Geometry) (image : ℕ → List ℕ) (seen good : List ℕ) (known : Known g image seen good) (k : ℕ) where
+  good-at : (j : ℕ) → bitAt good j ≡ (bitAt seen j && isSigned g image j)
   good-at j = ap (λ (f : ℕ → Bool). f j) (known .told)
 
-  pub seen-answers : (b r : Bool) → b ≡ bitAt seen k → b ≡ true → r ≡ bitAt good k → (r ≡ isSigned n l image k) × Known n l image seen good
-  seen-answers b r e f g = (g ∙ good-at k ∙ ap (λ (x : Bool). x && isSigned n l image k) (sym e ∙ f), known)
+  pub seen-answers : (b r : Bool) → b ≡ bitAt seen k → b ≡ true → r ≡ bitAt good k → (r ≡ isSigned g image k) × Known g image seen good
+  seen-answers b r e f w = (w ∙ good-at k ∙ ap (λ (x : Bool). x && isSigned g image k) (sym e ∙ f), known)
 
   module _ (seen′ : List ℕ) (long : length seen′ ≡ length seen) (u : bitAt seen′ ≡ updated (bitAt seen) k true) where
     seen-at : (j : ℕ) → bitAt seen′ j ≡ cond (eqb j k) true (bitAt seen j)
@@ -35,7 +36,7 @@ module _ (n l : ℕ) (image : ℕ → List ℕ) (seen good : List ℕ) (known : 
     seen-other : (j : ℕ) → (j ≡ k → ⊥) → bitAt seen′ j ≡ bitAt seen j
     seen-other j d = seen-at j ∙ cond-false (eqb j k) true (bitAt seen j) (ne-eqb j k d)
 
-    pub known-bad : isSigned n l image k ≡ false → Known n l image seen′ good
+    pub known-bad : isSigned g image k ≡ false → Known g image seen′ good
     known-bad e =
         let a = known .seenRoom in
         record {
@@ -43,13 +44,13 @@ module _ (n l : ℕ) (image : ℕ → List ℕ) (seen good : List ℕ) (known : 
           goodRoom = known .goodRoom;
           told = fun-ext (λ j.
               ⊎-elim (λ (z : j ≡ k).
-              good-at j ∙ ap (λ (x : Bool). bitAt seen j && x) (ap (isSigned n l image) z ∙ e) ∙ off (bitAt seen j)
-              ∙ sym (ap (λ (x : Bool). bitAt seen′ j && x) (ap (isSigned n l image) z ∙ e) ∙ off (bitAt seen′ j)))
-              (λ (d : j ≡ k → ⊥). good-at j ∙ ap (λ (x : Bool). x && isSigned n l image j) (sym (seen-other j d))) (eq? j k));
+              good-at j ∙ ap (λ (x : Bool). bitAt seen j && x) (ap (isSigned g image) z ∙ e) ∙ off (bitAt seen j)
+              ∙ sym (ap (λ (x : Bool). bitAt seen′ j && x) (ap (isSigned g image) z ∙ e) ∙ off (bitAt seen′ j)))
+              (λ (d : j ≡ k → ⊥). good-at j ∙ ap (λ (x : Bool). x && isSigned g image j) (sym (seen-other j d))) (eq? j k));
         }
 
-    pub known-good : isSigned n l image k ≡ true → (good′ : List ℕ) → length good′ ≡ length good → bitAt good′ ≡ updated (bitAt good) k true
-        → Known n l image seen′ good′
+    pub known-good : isSigned g image k ≡ true → (good′ : List ℕ) → length good′ ≡ length good → bitAt good′ ≡ updated (bitAt good) k true
+        → Known g image seen′ good′
     known-good e good′ long′ v =
         let a = known .seenRoom in
         let b = known .goodRoom in
@@ -60,7 +61,7 @@ module _ (n l : ℕ) (image : ℕ → List ℕ) (seen good : List ℕ) (known : 
               ap (λ (f : ℕ → Bool). f j) v
               ∙ ⊎-elim (λ (z : j ≡ k).
               rw (eq-eqb j k z)
-              (sym (ap (λ (x : Bool). x && isSigned n l image j) (seen-here j z) ∙ ap (isSigned n l image) z ∙ e)))
+              (sym (ap (λ (x : Bool). x && isSigned g image j) (seen-here j z) ∙ ap (isSigned g image) z ∙ e)))
               (λ (d : j ≡ k → ⊥).
-              rw (ne-eqb j k d) (good-at j ∙ ap (λ (x : Bool). x && isSigned n l image j) (sym (seen-other j d)))) (eq? j k));
+              rw (ne-eqb j k d) (good-at j ∙ ap (λ (x : Bool). x && isSigned g image j) (sym (seen-other j d)))) (eq? j k));
         }

@@ -4,6 +4,7 @@ use mathlib.Core.Path.{_≡_}
 use mathlib.Core.Bool.{_&&_}
 use mathlib.Core.List.{List}
 use lib.ListN.{length}
+use Rattle.geometry.specs.declared.Geometry.{Geometry}
 use Rattle.layout.specs.Bounded.{at}
 use Rattle.layout.specs.MapSector.{View}
 use Rattle.volume.specs.Tables.{bitAt}
@@ -11,10 +12,10 @@ use Rattle.volume.specs.Recover.{Walk, waitingNumber}
 use Rattle.signed.specs.Signed.{isSigned}
 
 -- Of the sectors seen so far it is known which are signed.
-pub record Known (n l : ℕ) (image : ℕ → List ℕ) (seen good : List ℕ) : Type 0 where
-  pub seenRoom : n ≤ 8 * length seen
-  pub goodRoom : n ≤ 8 * length good
-  pub told : bitAt good ≡ (λ k. bitAt seen k && isSigned n l image k)
+pub record Known (g : Geometry) (image : ℕ → List ℕ) (seen good : List ℕ) : Type 0 where
+  pub seenRoom : g .n ≤ 8 * length seen
+  pub goodRoom : g .n ≤ 8 * length good
+  pub told : bitAt good ≡ (λ k. bitAt seen k && isSigned g image k)
 
 -- The sectors that wait, and the one taken of each piece that is done.
 abbrev pub walkOf : List ℕ → List ℕ → Walk

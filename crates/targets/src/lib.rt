@@ -11,21 +11,22 @@ ghost use Rattle.volume.specs.Commit.{branchesIn};
 ghost use Rattle.volume.specs.Recover.{imageView, numberIn, targetWaits, targetsRead};
 ghost use Rattle.signed.specs.Signed.{isSigned, signedAt};
 ghost use Rattle.targets.specs.Waiting.{Known, walkOf, Waits};
+use geometry::Geometry;
 use log_tables::live;
 
 // Whether sector k is signed. That is found when it is first seen, and kept.
-fn is_signed(seen: &mut [u8], good: &mut [u8], image: &[u8], n: u32, l: u32, k: u32) -> bool
-    requires { ⌜ length (now image) ≡ sectorBytes * n ⌝ }
-    requires { ⌜ k < n ⌝ }
-    requires { ⌜ Known n l (sectorAt (now image)) (now seen) (now good) ⌝ }
-    ensures { λ r. ⌜ (r ≡ isSigned n l (sectorAt (now (image .entry))) k) × Known n l (sectorAt (now (image .entry))) (now (seen .exit)) (now (good .exit)) ⌝ }
+fn is_signed(seen: &mut [u8], good: &mut [u8], image: &[u8], g: Geometry, k: u32) -> bool
+    requires { ⌜ length (now image) ≡ sectorBytes * g .n ⌝ }
+    requires { ⌜ k < g .n ⌝ }
+    requires { ⌜ Known g (sectorAt (now image)) (now seen) (now good) ⌝ }
+    ensures { λ r. ⌜ (r ≡ isSigned g (sectorAt (now (image .entry))) k) × Known g (sectorAt (now (image .entry))) (now (seen .exit)) (now (good .exit)) ⌝ }
 {
     if bits::is_set(seen, k as usize) {
         return bits::is_set(good, k as usize);
     }
     bits::set_bit(seen, k as usize);
     let s = images::sector(image, k as usize);
-    if !map_sector::is_valid(s, n, l) {
+    if !map_sector::is_valid(s, g) {
         return false;
     }
     bits::set_bit(good, k as usize);
@@ -64,19 +65,18 @@ fn read_target(
     numbers: &mut [u32],
     taken: &[u32],
     image: &[u8],
-    n: u32,
-    l: u32,
+    g: Geometry,
     holder: u32,
     target: u32,
 )
-    requires { ⌜ length (now image) ≡ sectorBytes * n ⌝ }
+    requires { ⌜ length (now image) ≡ sectorBytes * g .n ⌝ }
     requires { ⌜ 1 ≤ target ⌝ }
-    requires { ⌜ target < n ⌝ }
-    requires { ⌜ Known n l (sectorAt (now image)) (now seen) (now good) ⌝ }
-    requires { ⌜ Waits (piecesFor l) (imageView n l (sectorAt (now image))) (now waiting) (now numbers) (now taken) ⌝ }
-    ensures { λ _. ⌜ (walkOf (now (waiting .exit)) (now (taken .entry)) ≡ targetWaits (imageView n l (sectorAt (now (image .entry)))) holder (walkOf (now (waiting .entry)) (now (taken .entry))) target (imageView n l (sectorAt (now (image .entry))) target)) × Known n l (sectorAt (now (image .entry))) (now (seen .exit)) (now (good .exit)) × Waits (piecesFor l) (imageView n l (sectorAt (now (image .entry)))) (now (waiting .exit)) (now (numbers .exit)) (now (taken .entry)) ⌝ }
+    requires { ⌜ target < g .n ⌝ }
+    requires { ⌜ Known g (sectorAt (now image)) (now seen) (now good) ⌝ }
+    requires { ⌜ Waits (piecesFor (g .l)) (imageView g (sectorAt (now image))) (now waiting) (now numbers) (now taken) ⌝ }
+    ensures { λ _. ⌜ (walkOf (now (waiting .exit)) (now (taken .entry)) ≡ targetWaits (imageView g (sectorAt (now (image .entry)))) holder (walkOf (now (waiting .entry)) (now (taken .entry))) target (imageView g (sectorAt (now (image .entry))) target)) × Known g (sectorAt (now (image .entry))) (now (seen .exit)) (now (good .exit)) × Waits (piecesFor (g .l)) (imageView g (sectorAt (now (image .entry)))) (now (waiting .exit)) (now (numbers .exit)) (now (taken .entry)) ⌝ }
 {
-    if !is_signed(seen, good, image, n, l, target) {
+    if !is_signed(seen, good, image, g, target) {
         return;
     }
     let s = images::sector(image, target as usize);
@@ -99,15 +99,14 @@ pub fn read_targets(
     numbers: &mut [u32],
     taken: &[u32],
     image: &[u8],
-    n: u32,
-    l: u32,
+    g: Geometry,
     k: u32,
 )
-    requires { ⌜ length (now image) ≡ sectorBytes * n ⌝ }
-    requires { ⌜ signedAt n l (sectorAt (now image)) k ≡ true ⌝ }
-    requires { ⌜ Known n l (sectorAt (now image)) (now seen) (now good) ⌝ }
-    requires { ⌜ Waits (piecesFor l) (imageView n l (sectorAt (now image))) (now waiting) (now numbers) (now taken) ⌝ }
-    ensures { λ _. ⌜ (walkOf (now (waiting .exit)) (now (taken .entry)) ≡ targetsRead (imageView n l (sectorAt (now (image .entry)))) (numberIn (imageView n l (sectorAt (now (image .entry))) k)) (walkOf (now (waiting .entry)) (now (taken .entry))) (branchesIn (imageView n l (sectorAt (now (image .entry))) k))) × Known n l (sectorAt (now (image .entry))) (now (seen .exit)) (now (good .exit)) × Waits (piecesFor l) (imageView n l (sectorAt (now (image .entry)))) (now (waiting .exit)) (now (numbers .exit)) (now (taken .entry)) ⌝ }
+    requires { ⌜ length (now image) ≡ sectorBytes * g .n ⌝ }
+    requires { ⌜ signedAt g (sectorAt (now image)) k ≡ true ⌝ }
+    requires { ⌜ Known g (sectorAt (now image)) (now seen) (now good) ⌝ }
+    requires { ⌜ Waits (piecesFor (g .l)) (imageView g (sectorAt (now image))) (now waiting) (now numbers) (now taken) ⌝ }
+    ensures { λ _. ⌜ (walkOf (now (waiting .exit)) (now (taken .entry)) ≡ targetsRead (imageView g (sectorAt (now (image .entry)))) (numberIn (imageView g (sectorAt (now (image .entry))) k)) (walkOf (now (waiting .entry)) (now (taken .entry))) (branchesIn (imageView g (sectorAt (now (image .entry))) k))) × Known g (sectorAt (now (image .entry))) (now (seen .exit)) (now (good .exit)) × Waits (piecesFor (g .l)) (imageView g (sectorAt (now (image .entry)))) (now (waiting .exit)) (now (numbers .exit)) (now (taken .entry)) ⌝ }
 {
     let s = images::sector(image, k as usize);
     let holder = map_sector::number_of(s);
@@ -122,8 +121,7 @@ pub fn read_targets(
             numbers,
             taken,
             image,
-            n,
-            l,
+            g,
             holder,
             target,
         );

@@ -14,15 +14,6 @@ fn storing(call: u32) -> Storing {
     }
 }
 
-// The head of a write or a drop, the L of a format or a recover.
-fn argument(b: &[u32; board::SIZE]) -> u32 {
-    match cells::get(b, board::CALL) {
-        1 => cells::get(b, board::HEAD),
-        2 => cells::get(b, board::HEAD),
-        _ => cells::get(b, board::BLOCK_COUNT),
-    }
-}
-
 // The call that stands on the board.
 fn call(
     b: &[u32; board::SIZE],
@@ -54,7 +45,8 @@ fn call(
             places,
             numbers,
             used,
-            argument(b),
+            trial_lent::settings_of(b),
+            cells::get(b, board::HEAD),
             blocks,
             bytes,
             cells::get(b, board::ALLOWED),

@@ -42,23 +42,23 @@ pub const FIRST_CALL: u32 = 32110;
 
 pub const FIRST_AT: u32 = 32111;
 
-pub const FIRST_LINE: u32 = 32124;
-
-// How often each number, 0 to 10, was answered.
-pub const ANSWERED: u32 = 32112;
+pub const FIRST_LINE: u32 = 32112;
 
 // Power cuts in folds.
-pub const FOLD_CUTS: u32 = 32125;
+pub const FOLD_CUTS: u32 = 32113;
 
-pub const COUNT_WORDS: u32 = 28;
+// How often each number was answered; there is room for 0 to 17.
+pub const ANSWERED: u32 = 32114;
+
+pub const COUNT_WORDS: u32 = 32;
 
 // The block that is named next.
-pub const CURSOR: u32 = 32128;
+pub const CURSOR: u32 = 32132;
 
 // Of a script: the bytes that a call is lent too many, and the line.
-pub const BYTES_MORE: u32 = 32129;
+pub const BYTES_MORE: u32 = 32133;
 
-pub const LINE: u32 = 32130;
+pub const LINE: u32 = 32134;
 
 // The seeds of the blocks of a write.
 pub const SEEDS: u32 = 32136;

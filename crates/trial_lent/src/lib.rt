@@ -1,5 +1,7 @@
 // What the code is lent is made from the board, and what it leaves is held to what stands there afterwards.
 ghost use Prim.Native.Nat.{_≤_};
+use geometry::Geometry;
+use geometry::Settings;
 use reference_board::board;
 use state::Outcome;
 use state::Phase;
@@ -22,10 +24,20 @@ fn phase_number(phase: Phase) -> u32 {
     }
 }
 
+// What a format or a recover is given.
+pub fn settings_of(b: &[u32; board::SIZE]) -> Settings {
+    Settings {
+        l: board::get(b, board::BLOCK_COUNT, 0),
+    }
+}
+
 pub fn state_of(b: &[u32; board::SIZE]) -> State {
-    State {
+    let geometry = Geometry {
         n: board::get(b, board::STATE_N, 0),
         l: board::get(b, board::STATE_L, 0),
+    };
+    State {
+        geometry,
         tail: board::get(b, board::TAIL, 0),
         number: board::get(b, board::NUMBER, 0),
         phase: phase_of(board::get(b, board::PHASE, 0)),
@@ -194,10 +206,11 @@ fn same_out(bytes: &[u8], b: &[u32; board::SIZE]) -> bool {
 }
 
 fn same_state(s: State, b: &[u32; board::SIZE]) -> bool {
-    if s.n != board::get(b, board::STATE_N, 0) {
+    let g = s.geometry;
+    if g.n != board::get(b, board::STATE_N, 0) {
         return false;
     }
-    if s.l != board::get(b, board::STATE_L, 0) {
+    if g.l != board::get(b, board::STATE_L, 0) {
         return false;
     }
     if s.tail != board::get(b, board::TAIL, 0) {
@@ -216,7 +229,8 @@ pub fn answer_differs(done: Outcome, b: &[u32; board::SIZE]) -> u32 {
     if answer.number() != board::get(b, board::ANSWER, 0) {
         return 1;
     }
-    if answer.stores() != board::get(b, board::STORES, 0) {
+    let cost = answer.cost();
+    if cost.stores != board::get(b, board::STORES, 0) {
         return 2;
     }
     if answer.way() != board::get(b, board::WAY, 0) {

@@ -66,7 +66,7 @@ fn say_answered(b: &[u32; board::SIZE], number: u32) {
 // How often each number was answered.
 fn say_answers(b: &[u32; board::SIZE]) {
     say::say_count(b" calls, answered 0 x ", cells::answered(b, 0));
-    for number in 1..11u32 {
+    for number in 1..18u32 {
         say_answered(b, number);
     }
 }

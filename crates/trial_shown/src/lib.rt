@@ -40,7 +40,7 @@ fn shows_block(
     if answer.number() != 0 {
         return false;
     }
-    is_content(&out, board::get(b, cells::DISK, block), s.l)
+    is_content(&out, board::get(b, cells::DISK, block), s.geometry.l)
 }
 
 // Whether a block is one of those that are written, or the last.
@@ -64,7 +64,7 @@ fn shows_blocks(
     used: &[u8],
     spread: u32,
 ) -> bool {
-    let l = s.l;
+    let l = s.geometry.l;
     for block in 0..l {
         if is_chosen(block, spread, l) {
             if !shows_block(b, s, image, map, places, numbers, used, block) {

@@ -1,15 +1,18 @@
 // The refusals of a commit.
 ghost use mathlib.Core.Path.{_≡_};
-ghost use mathlib.Core.Bool.{not};
+ghost use mathlib.Core.Bool.{true, not};
+ghost use mathlib.Core.List.{[]};
 ghost use Prim.Native.Nat.{_+_, _≤_};
 ghost use lib.ListN.{length};
 ghost use lib.Dec.{ltb};
 ghost use Rattle.geometry.specs.Geometry.{piecesFor};
-ghost use Rattle.answer.specs.declared.Verdict.the-variants.{Pass};
 ghost use Rattle.volume.specs.Tables.{bitAt, memory, freeSectors};
-ghost use Rattle.volume.specs.Refusals.{judged};
+ghost use Rattle.answer.specs.Answer.{given, standing};
+ghost use Rattle.volume.specs.Refusals.{firstOf, judged};
+ghost use Rattle.volume.specs.Format.{tablesFit};
 ghost use Rattle.volume.specs.Placing.{base};
-ghost use Rattle.volume.specs.Calls.{commitChecks};
+ghost use Rattle.volume.specs.Calls.{stateFits, commitChecks};
+ghost use Rattle.checks.specs.Left.{lent};
 use answer::Refusal;
 use answer::Verdict;
 use geometry::Geometry;
@@ -18,7 +21,69 @@ use state::State;
 // A tail with a greater number leaves too few numbers for another commit.
 const GREATEST: u32 = 4_294_967_039;
 
-// The refusals of a commit, in their order. A drop needs no sectors of its own: P are always free.
+// The refusals that what a commit is handed can meet, in their order. They go by lengths alone.
+fn given_verdict(
+    s: State,
+    image: usize,
+    map: usize,
+    places: usize,
+    numbers: usize,
+    used: usize,
+    head: u32,
+    blocks: &[u32],
+    fit: bool,
+) -> Verdict
+    ensures { λ r. ⌜ r ≡ firstOf given (commitChecks base s (lent image map places numbers used) head (now (blocks .entry)) fit true) ⌝ }
+{
+    if !checks::state_fits(s, image) {
+        return Verdict::Refuse(Refusal::Size);
+    }
+    let g = s.geometry;
+    if !checks::tables_fit(g, map, places, numbers, used) {
+        return Verdict::Refuse(Refusal::BufferLength);
+    }
+    if !fit {
+        return Verdict::Refuse(Refusal::BufferLength);
+    }
+    if !block_numbers::blocks_fit(g, head, blocks) {
+        return Verdict::Refuse(Refusal::BlockNumbers);
+    }
+    Verdict::Pass
+}
+
+// Those that follow from how the volume stands. A drop needs no sectors of its own: P are always free.
+fn standing_verdict(
+    s: State,
+    image: &[u8],
+    map: &[u32],
+    places: &[u32],
+    numbers: &[u32],
+    used: &[u8],
+    count: usize,
+) -> Verdict
+    requires { ⌜ stateFits s (memory (now image) (now map) (now places) (now numbers) (now used)) ≡ true ⌝ }
+    requires { ⌜ tablesFit (memory (now image) (now map) (now places) (now numbers) (now used)) (s .geometry) ≡ true ⌝ }
+    requires { ⌜ count ≤ 64 ⌝ }
+    ensures { λ r. ⌜ r ≡ firstOf standing (commitChecks base s (memory (now (image .entry)) (now (map .entry)) (now (places .entry)) (now (numbers .entry)) (now (used .entry))) 0 [] true (not (ltb (freeSectors (s .geometry .n) (bitAt (now (used .entry)))) (count + piecesFor (s .geometry .l))))) ⌝ }
+{
+    if !s.is_running() {
+        return Verdict::Refuse(Refusal::WrongPhase);
+    }
+    if !live_sectors::tables_agree(s, image, map, places, numbers, used) {
+        return Verdict::Refuse(Refusal::Inconsistent);
+    }
+    let g = s.geometry;
+    let pieces = Geometry::pieces_for(g.l) as usize;
+    if (bits::count_free(used, g.n) as usize) < count + pieces {
+        return Verdict::Refuse(Refusal::NoRoom);
+    }
+    if GREATEST < s.number {
+        return Verdict::Refuse(Refusal::NumbersUsedUp);
+    }
+    Verdict::Pass
+}
+
+// The refusals of a commit, in their order.
 pub fn commit_verdict(
     s: State,
     image: &[u8],
@@ -32,34 +97,21 @@ pub fn commit_verdict(
     count: usize,
 ) -> Verdict
     requires { ⌜ count ≤ length (now blocks) ⌝ }
-    ensures { λ r. ⌜ r ≡ judged (commitChecks base s (memory (now (image .entry)) (now (map .entry)) (now (places .entry)) (now (numbers .entry)) (now (used .entry))) head (now (blocks .entry)) fit (not (ltb (freeSectors (s .n) (bitAt (now (used .entry)))) (count + piecesFor (s .l))))) ⌝ }
+    ensures { λ r. ⌜ r ≡ judged (commitChecks base s (memory (now (image .entry)) (now (map .entry)) (now (places .entry)) (now (numbers .entry)) (now (used .entry))) head (now (blocks .entry)) fit (not (ltb (freeSectors (s .geometry .n) (bitAt (now (used .entry)))) (count + piecesFor (s .geometry .l))))) ⌝ }
 {
-    if !checks::state_fits(s, image.len()) {
-        return Verdict::Refuse(Refusal::Size);
+    let given = given_verdict(
+        s,
+        image.len(),
+        map.len(),
+        places.len(),
+        numbers.len(),
+        used.len(),
+        head,
+        blocks,
+        fit,
+    );
+    match given {
+        Verdict::Refuse(refusal) => Verdict::Refuse(refusal),
+        Verdict::Pass => standing_verdict(s, image, map, places, numbers, used, count),
     }
-    let n = s.n;
-    let l = s.l;
-    if !checks::tables_fit(n, l, map.len(), places.len(), numbers.len(), used.len()) {
-        return Verdict::Refuse(Refusal::BufferLength);
-    }
-    if !fit {
-        return Verdict::Refuse(Refusal::BufferLength);
-    }
-    if !block_numbers::blocks_fit(n, l, head, blocks) {
-        return Verdict::Refuse(Refusal::BlockNumbers);
-    }
-    if !s.is_running() {
-        return Verdict::Refuse(Refusal::WrongPhase);
-    }
-    if !live_sectors::tables_agree(s, image, map, places, numbers, used) {
-        return Verdict::Refuse(Refusal::Inconsistent);
-    }
-    let pieces = Geometry::pieces_for(l) as usize;
-    if (bits::count_free(used, n) as usize) < count + pieces {
-        return Verdict::Refuse(Refusal::NoRoom);
-    }
-    if GREATEST < s.number {
-        return Verdict::Refuse(Refusal::NumbersUsedUp);
-    }
-    Verdict::Pass
 }

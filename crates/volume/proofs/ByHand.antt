@@ -4,6 +4,7 @@ use mathlib.Core.Bool.{Bool, true}
 use mathlib.Core.List.{List, []}
 use lib.ListN.{replicate}
 use Rattle.answer.specs.declared.Answer.the-variants.{Accepted}
+use Rattle.answer.specs.Answer.{storesAlone}
 use Rattle.layout.specs.Bounded.{updated}
 use Rattle.layout.specs.MapSector.{encoded}
 use Rattle.layout.specs.Entry.{blank}
@@ -14,7 +15,7 @@ use Rattle.layout.proofs.Conditions.{signed}
 use Rattle.volume.proofs.Rows.{Call}
 
 unfoldable pub overwritten : ℕ → List ℕ → Call
-overwritten k bytes s m = after (record { answer = Accepted 0; state = s }) (memoryWith m (updated (m .image) k bytes) (m .tables))
+overwritten k bytes s m = after (record { answer = Accepted (storesAlone 0); state = s }) (memoryWith m (updated (m .image) k bytes) (m .tables))
 
 unfoldable pub blankAt : ℕ → Call
 blankAt k = overwritten k blank
@@ -31,7 +32,7 @@ parkedAt number tail = overwritten 0 (parkRecord (record { number = number; tail
 -- Volume A with another number on its one map sector.
 unfoldable pub numbered : ℕ → Call
 numbered number s m =
-    after (record { answer = Accepted 0; state = freshState (s .n) (s .l) (s .tail) number })
+    after (record { answer = Accepted (storesAlone 0); state = freshState (s .geometry) (s .tail) number })
     (memoryWith m
     (updated (m .image) 1
     (encoded 2 (record { number = number; piece = 0; closing = true; branches = []; entries = replicate 96 0 })))

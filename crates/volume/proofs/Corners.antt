@@ -400,7 +400,9 @@ formatCut =
     }
 
 unfoldable pub corners : List Table
-unfolding wraps reachedAlready supersededLater higherBranch roomExactly refusal1 refusal2 refusal3 refusal4 refusal5 refusal8 refusal9 dataFirst refusal10 recoveryCut recoveredAgain newestFirst firstRead doneAlready closingRecycled signedParkSector refusal7 formatCut overwritten blankAt copied signedAt parkedAt numbered signed
+unfolding wraps reachedAlready supersededLater higherBranch roomExactly refusal1 refusal2 refusal3 refusal4 refusal5 refusal8 refusal9 dataFirst
+    refusal10 recoveryCut recoveredAgain newestFirst firstRead doneAlready closingRecycled signedParkSector refusal7 formatCut overwritten blankAt
+    copied signedAt parkedAt numbered signed
 corners =
     volumeB (wraps ∷ reachedAlready ∷ supersededLater ∷ higherBranch ∷ roomExactly ∷ refusal1 ∷ refusal2 ∷ refusal3 ∷ refusal4 ∷ refusal5 ∷ refusal8 ∷ refusal9 ∷ dataFirst ∷ refusal10 ∷ recoveryCut ∷ recoveredAgain ∷ newestFirst ∷ firstRead ∷ doneAlready ∷ closingRecycled ∷ signedParkSector ∷ [])
     ∷ volumeA (refusal7 ∷ [])

@@ -7,6 +7,7 @@ use mathlib.Core.List.{List, [], _∷_, map}
 use mathlib.Core.Option.{some}
 use lib.ListN.{length}
 use lib.Dec.{leb}
+use Rattle.geometry.proofs.Sized.{sized}
 use Rattle.state.specs.State.{freshState}
 use Rattle.layout.specs.Bounded.{anyBelow, countBelow, best, elem, listFrom, tabled}
 use Rattle.layout.specs.MapSector.{View}
@@ -35,7 +36,7 @@ limitGives : Pieces → Planned
 unfolding anyBelow countBelow best elem listFrom tabled firstFree placedUpTo placeOf touches branchesIn olderKey listing branchesFor planned dropChange apart noBranches
 limitGives r =
     let n = 2 * r .pieces + 2 in
-    let plan = planned base (freshState n (96 * r .pieces) (r .pieces) (r .pieces)) (apart (r .pieces)) noBranches 0 (dropChange (0 ∷ [])) in
+    let plan = planned base (freshState (sized n (96 * r .pieces)) (r .pieces) (r .pieces)) (apart (r .pieces)) noBranches 0 (dropChange (0 ∷ [])) in
     record { fold = plan .fold; branches = length (plan .branches); members = plan .members }
 
 limits : List Pieces

@@ -4,6 +4,7 @@ use mathlib.Core.Path.{_≡_, refl}
 use mathlib.Core.List.{List, [], _∷_, map}
 use lib.ListN.{replicate}
 use Rattle.answer.specs.declared.Answer.the-variants.{Accepted}
+use Rattle.answer.specs.Answer.{storesAlone}
 use Rattle.layout.specs.Bounded.{updated}
 use Rattle.answer.specs.Answer.{numberOf}
 use Rattle.volume.specs.Store.{after, memoryWith}
@@ -26,7 +27,7 @@ readGives r =
 -- The entry of block 5 changed by hand.
 entryIs : ℕ → Call
 entryIs word s m =
-    after (record { answer = Accepted 0; state = s })
+    after (record { answer = Accepted (storesAlone 0); state = s })
     (memoryWith m (m .image)
     (record {
       entry = updated (m .tables .entry) 5 word;

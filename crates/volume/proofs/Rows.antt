@@ -10,19 +10,21 @@ use Rattle.state.specs.declared.State.{State}
 use Rattle.state.specs.declared.Phase.the-variants.{Cut}
 use Rattle.layout.specs.Bounded.{at, allBelow, anyBelow, countBelow, best, all, elem, distinct, same, listFrom, tabled, gathered, updates}
 use Rattle.geometry.specs.Geometry.{piecesFor, usedBytes}
+use Rattle.geometry.proofs.Sized.{sized, asked}
 use Rattle.layout.specs.Word.{wordsOf, bytesOf, wordSum, startsWith, balanced}
 use Rattle.layout.specs.MapSector.{MapSector, mapMark, kindOf, encoded, branchesFit, valid, decoded}
 use Rattle.layout.specs.Entry.{complemented, needsFlip, stored, entryFor, restored, isEmpty}
 use Rattle.layout.specs.ParkRecord.{parkRecord, isParkRecord, parkedIn}
 use Rattle.volume.specs.Tables.{Memory, sectorAt, bitAt, memory, namedBy, usedBy, freeSectors, consistent, pieceEntries, saysPiece, liveValid}
-use Rattle.volume.specs.Refusals.{judged}
-use Rattle.answer.specs.Answer.{numberOf, storesOf, wayOf, readsOf}
+use Rattle.volume.specs.Refusals.{applies, firstOf, judged}
+use Rattle.answer.specs.Answer.{numberOf, costOf, wayOf, readsOf}
 use Rattle.volume.specs.Store.{After, applied, storesBelow, performed}
 use Rattle.volume.specs.Format.{formatStores, formatTables, formatAction, imageFits, tablesFit, sizeChecks, formatOf}
 use Rattle.volume.specs.Placing.{firstFree, placedUpTo, placeOf}
-use Rattle.volume.specs.Commit.{touches, branchesIn, olderKey, listing, branchesFor, planned, rank, memberPlace, changedEntries, committedTables, member, dataStore, memberStore, commitStores, commitAction}
+use Rattle.volume.specs.Commit.{touches, branchesIn, olderKey, listing, branchesFor, planned, rank, memberPlace, changedEntries, committedTables, member, dataStore, memberStore, commitStores, planAction, commitAction}
 use Rattle.volume.specs.Calls.{stateFits, blocksFit, tablesAgree, commitChecks, commitOf, writeChange, dropChange, roomFor, writeBy, dropBy, writeOf, dropOf, entryReadable, readChecks, blockOf, readJudged, readOf, parkChecks, parkAction, parkOf}
-use Rattle.volume.specs.Recover.{numberIn, pieceIn, entryIn, closingNumber, pieceNumber, tablesFrom, targetWaits, targetsRead, walkStep, walkedFor, walkFrom, branchCount, walkedLog, walkComplete, walkFinding, newestClosing, closedUpTo, scanPlace, signedNumbers, scannedLog, scanDamaged, scanStores, scanFinding, walkStarts, findingFrom, recovered, imageView, recoverOf}
+use Rattle.volume.specs.Recover.{numberIn, pieceIn, entryIn, closingNumber, pieceNumber, tablesFrom, targetWaits, targetsRead, walkStep, walkedFor, walkFrom, branchCount, walkedLog, walkComplete}
+use Rattle.volume.specs.Recover.{walkFinding, newestClosing, closedUpTo, scanPlace, signedNumbers, scannedLog, scanDamaged, scanStores, scanFinding, walkStarts, findingFrom, recovered, imageView, recoverOf}
 
 -- A call with its arguments.
 abbrev pub Call : Type 0
@@ -71,7 +73,7 @@ unfolding memory lent sectorAt bitAt
 lent-contents = (refl, refl)
 
 anyState : State
-anyState = record { n = 1; l = 2; tail = 3; number = 4; phase = Cut }
+anyState = record { geometry = sized 1 2; tail = 3; number = 4; phase = Cut }
 
 pub record Formatted : Type 0 where
   pub n : ℕ
@@ -82,7 +84,7 @@ pub record Formatted : Type 0 where
 unfoldable pub formatted : Formatted → After
 unfolding held lent anyState
 formatted f =
-    let fresh = formatOf anyState (lent (f .n) (f .l)) (f .l) (f .stores) in
+    let fresh = formatOf anyState (lent (f .n) (f .l)) (asked (f .l)) (f .stores) in
     record { outcome = fresh .outcome; memory = held (fresh .memory) }
 
 unfoldable pub outcomeOf : Formatted → List Call → After
@@ -103,7 +105,7 @@ resultOf a =
     let answer = a .outcome .answer in
     record {
       answer = numberOf answer;
-      stores = storesOf answer;
+      stores = costOf answer .stores;
       way = wayOf answer;
       reads = readsOf answer;
       tail = a .outcome .state .tail;
@@ -144,14 +146,24 @@ seen k (some m) = k ∷ m .number ∷ kindOf (m .closing) ∷ m .branches
 -- What stands at the live place of a piece.
 unfoldable pub liveSector : Formatted → Memory → ℕ → List ℕ
 unfolding seen
-liveSector f m p = let k = m .tables .place p in seen k (decoded (f .n) (f .l) (m .image k))
+liveSector f m p = let k = m .tables .place p in seen k (decoded (sized (f .n) (f .l)) (m .image k))
 
 abbrev pub full : ℕ → List ℕ
 full byte = replicate 512 byte
 
 -- What a row gives on a volume that is formatted already.
 unfoldable pub givesOn : Formatted → After → Row → Report
-unfolding updates gathered allBelow anyBelow countBelow best all elem distinct same listFrom tabled wordsOf bytesOf wordSum startsWith balanced encoded branchesFit valid decoded complemented needsFlip stored entryFor restored parkRecord isParkRecord parkedIn sectorAt bitAt memory namedBy usedBy freeSectors consistent pieceEntries saysPiece liveValid judged applied storesBelow performed formatStores formatTables formatAction imageFits tablesFit sizeChecks formatOf firstFree placedUpTo placeOf touches branchesIn olderKey listing branchesFor planned rank memberPlace changedEntries committedTables member dataStore memberStore commitStores commitAction stateFits blocksFit tablesAgree commitChecks commitOf writeChange dropChange roomFor writeBy dropBy entryReadable readChecks blockOf readJudged readOf parkChecks parkAction parkOf numberIn pieceIn entryIn closingNumber pieceNumber tablesFrom targetWaits targetsRead walkStep walkedFor walkFrom branchCount walkedLog walkComplete walkFinding newestClosing closedUpTo scanPlace signedNumbers scannedLog scanDamaged scanStores scanFinding walkStarts findingFrom recovered imageView recoverOf held run liveSector freeIn entriesIn
+unfolding updates gathered allBelow anyBelow countBelow best all elem distinct same listFrom tabled wordsOf bytesOf wordSum
+    startsWith balanced encoded branchesFit valid decoded complemented needsFlip stored entryFor restored parkRecord
+    isParkRecord parkedIn sectorAt bitAt memory namedBy usedBy freeSectors consistent pieceEntries saysPiece liveValid
+    applies firstOf judged applied storesBelow performed formatStores formatTables formatAction imageFits tablesFit
+    sizeChecks formatOf firstFree placedUpTo placeOf touches branchesIn olderKey listing branchesFor planned rank
+    memberPlace changedEntries committedTables member dataStore memberStore commitStores planAction commitAction stateFits
+    blocksFit tablesAgree commitChecks commitOf writeChange dropChange roomFor writeBy dropBy entryReadable readChecks
+    blockOf readJudged readOf parkChecks parkAction parkOf numberIn pieceIn entryIn closingNumber pieceNumber tablesFrom
+    targetWaits targetsRead walkStep walkedFor walkFrom branchCount walkedLog walkComplete walkFinding newestClosing
+    closedUpTo scanPlace signedNumbers scannedLog scanDamaged scanStores scanFinding walkStarts findingFrom recovered
+    imageView recoverOf held run liveSector freeIn entriesIn
 givesOn f fresh row =
     let a = run (row .calls) fresh in
     let m = a .memory in
@@ -163,7 +175,7 @@ givesOn f fresh row =
       free = freeIn m 0 n;
       live = listFrom (liveSector (f) m) 0 (piecesFor l);
       entries = entriesIn m 0 l;
-      sectors = listFrom (λ k. let number = numberIn (decoded n l (m .image k)) in cond (startsWith mapMark (m .image k)) number 0) 0 n;
+      sectors = listFrom (λ k. let number = numberIn (decoded (sized n l) (m .image k)) in cond (startsWith mapMark (m .image k)) number 0) 0 n;
       balance = at (wordsOf (m .image (s .tail))) 1;
       block = readOf s m (row .block) (full 238) .out;
     }
@@ -204,4 +216,4 @@ abbrev pub park : ℕ → Call
 park allowance s m = parkOf s m allowance
 
 abbrev pub recover : ℕ → ℕ → Call
-recover l allowance s m = recoverOf s m l allowance
+recover l allowance s m = recoverOf s m (asked l) allowance

@@ -8,9 +8,11 @@ use Rattle.state.specs.declared.State.{State}
 use Rattle.state.specs.declared.Outcome.{Outcome}
 use Rattle.answer.specs.declared.Answer.the-variants.{Accepted, Refused}
 use Rattle.answer.specs.declared.Refusal.the-variants.{Size, BufferLength, BlockNumbers, WrongPhase, Inconsistent, NoRoom, NumbersUsedUp}
+use Rattle.answer.specs.Answer.{storesAlone}
 use Rattle.answer.specs.declared.Verdict.{Verdict}
 use Rattle.answer.specs.declared.Verdict.the-variants.{Pass, Refuse}
 use Rattle.layout.specs.Bounded.{at, all, allBelow}
+use Rattle.geometry.specs.declared.Geometry.{Geometry}
 use Rattle.geometry.specs.Geometry.{within, sectorBytes, piecesFor, geometryFits}
 use Rattle.layout.specs.MapSector.{View, decoded}
 use Rattle.layout.specs.Entry.{isEmpty, sectorOf, stored, entryFor, restored}
@@ -24,33 +26,33 @@ use Rattle.volume.specs.Placing.{Rules, base}
 use Rattle.volume.specs.Commit.{Change, commitAction}
 
 -- The sectors of an image, read as map sectors.
-abbrev pub viewOf : ℕ → ℕ → (ℕ → List ℕ) → View
-viewOf n l image = λ k. decoded n l (image k)
+abbrev pub viewOf : Geometry → (ℕ → List ℕ) → View
+viewOf g image = λ k. decoded g (image k)
 
 -- Refusal 1: N and L of the state are in range, and the image has N sectors.
 unfoldable pub stateFits : State → Memory → Bool
-stateFits s m = eqb (m .lengths .image) (sectorBytes * s .n) && geometryFits (s .n) (s .l)
+stateFits s m = eqb (m .lengths .image) (sectorBytes * s .geometry .n) && geometryFits (s .geometry)
 
 -- Refusal 3: 1 to 64 strictly ascending block numbers below L, and a head below N.
-unfoldable pub blocksFit : ℕ → ℕ → ℕ → List ℕ → Bool
-blocksFit n l head blocks =
+unfoldable pub blocksFit : Geometry → ℕ → List ℕ → Bool
+blocksFit g head blocks =
     within 1 64 (length blocks)
     && allBelow (λ i. ltb (at blocks i) (at blocks (suc i))) (length blocks - 1)
-    && all (λ b. ltb b l) blocks
-    && ltb head n
+    && all (λ b. ltb b (g .l)) blocks
+    && ltb head (g .n)
 
 -- Refusal 5: the tables are sound, and each live place is signed with its piece, number and entries.
 unfoldable pub tablesAgree : State → Memory → Bool
 tablesAgree s m =
-    consistent (s .n) (s .l) (m .tables) (s .tail) (s .number)
-    && liveValid (s .l) (m .tables) (viewOf (s .n) (s .l) (m .image))
+    consistent (s .geometry) (m .tables) (s .tail) (s .number)
+    && liveValid (s .geometry .l) (m .tables) (viewOf (s .geometry) (m .image))
 
--- The refusals of a commit, 1 to 7. A write's bytes have a length, and a write needs room; a drop passes both.
+-- The refusals of a commit. A write's bytes have a length, and a write needs room; a drop passes both.
 unfoldable pub commitChecks : Rules → State → Memory → ℕ → List ℕ → Bool → Bool → List Check
 commitChecks rules s m head blocks bytesFit hasRoom =
     record { applies = not (stateFits s m); refusal = Size }
-    ∷ record { applies = not (tablesFit m (s .n) (s .l) && bytesFit); refusal = BufferLength }
-    ∷ record { applies = not (blocksFit (s .n) (s .l) head blocks); refusal = BlockNumbers }
+    ∷ record { applies = not (tablesFit m (s .geometry) && bytesFit); refusal = BufferLength }
+    ∷ record { applies = not (blocksFit (s .geometry) head blocks); refusal = BlockNumbers }
     ∷ record { applies = not (isRunning (s .phase)); refusal = WrongPhase }
     ∷ record { applies = not (tablesAgree s m); refusal = Inconsistent }
     ∷ record { applies = not hasRoom; refusal = NoRoom }
@@ -60,7 +62,7 @@ commitChecks rules s m head blocks bytesFit hasRoom =
 unfoldable pub commitOf : Rules → State → Memory → ℕ → Change → Bool → Bool → ℕ → After
 commitOf rules s m head change bytesFit hasRoom allowance =
     unlessRefused (judged (commitChecks rules s m head (change .blocks) bytesFit hasRoom)) s m
-    (performed allowance (commitAction rules s (m .tables) (viewOf (s .n) (s .l) (m .image)) head change) m)
+    (performed allowance (commitAction rules s (m .tables) (viewOf (s .geometry) (m .image)) head change) m)
 
 -- A write stores each block, flipped where it begins with the mark, and its entry names the place.
 unfoldable pub writeChange : List ℕ → List ℕ → Change
@@ -78,7 +80,7 @@ dropChange blocks = record { blocks = blocks; dataSectors = 0; content = λ _. [
 
 -- Refusal 6: a write needs free sectors of at least its blocks + P.
 unfoldable pub roomFor : State → Memory → List ℕ → Bool
-roomFor s m blocks = not (ltb (freeSectors (s .n) (m .tables .isUsed)) (length blocks + piecesFor (s .l)))
+roomFor s m blocks = not (ltb (freeSectors (s .geometry .n) (m .tables .isUsed)) (length blocks + piecesFor (s .geometry .l)))
 
 unfoldable pub writeBy : Rules → State → Memory → ℕ → List ℕ → List ℕ → ℕ → After
 writeBy rules s m head blocks bytes allowance =
@@ -101,10 +103,10 @@ entryReadable n entry = isEmpty entry || within 1 (n - 1) (sectorOf entry)
 unfoldable pub readChecks : State → Memory → ℕ → ℕ → List Check
 readChecks s m block outLength =
     record { applies = not (stateFits s m); refusal = Size }
-    ∷ record { applies = not (tablesFit m (s .n) (s .l) && eqb outLength sectorBytes); refusal = BufferLength }
-    ∷ record { applies = not (ltb block (s .l)); refusal = BlockNumbers }
+    ∷ record { applies = not (tablesFit m (s .geometry) && eqb outLength sectorBytes); refusal = BufferLength }
+    ∷ record { applies = not (ltb block (s .geometry .l)); refusal = BlockNumbers }
     ∷ record { applies = not (isReadable (s .phase)); refusal = WrongPhase }
-    ∷ record { applies = not (entryReadable (s .n) (m .tables .entry block)); refusal = Inconsistent }
+    ∷ record { applies = not (entryReadable (s .geometry .n) (m .tables .entry block)); refusal = Inconsistent }
     ∷ []
 
 -- A block, as the tables and the image have it.
@@ -118,7 +120,7 @@ pub record ReadAfter : Type 0 where
   pub out : List ℕ
 
 unfoldable pub readJudged : Verdict → State → Memory → ℕ → List ℕ → ReadAfter
-readJudged Pass s m block out = record { outcome = record { answer = Accepted 0; state = s }; memory = m; out = blockOf m block }
+readJudged Pass s m block out = record { outcome = record { answer = Accepted (storesAlone 0); state = s }; memory = m; out = blockOf m block }
 readJudged (Refuse r) s m block out = record { outcome = record { answer = Refused r; state = s }; memory = m; out = out }
 
 unfoldable pub readOf : State → Memory → ℕ → List ℕ → ReadAfter
@@ -127,7 +129,7 @@ readOf s m block out = readJudged (judged (readChecks s m block (length out))) s
 unfoldable pub parkChecks : State → Memory → List Check
 parkChecks s m =
     record { applies = not (stateFits s m); refusal = Size }
-    ∷ record { applies = not (tablesFit m (s .n) (s .l)); refusal = BufferLength }
+    ∷ record { applies = not (tablesFit m (s .geometry)); refusal = BufferLength }
     ∷ record { applies = not (isRunning (s .phase)); refusal = WrongPhase }
     ∷ record { applies = not (tablesAgree s m); refusal = Inconsistent }
     ∷ []
@@ -137,6 +139,7 @@ unfoldable pub parkAction : State → Memory → Action
 parkAction s m =
     record {
       stores = record { sector = 0; bytes = parkRecord (record { number = s .number; tail = s .tail }) } ∷ [];
+      cost = storesAlone;
       answer = Accepted;
       state = parkedState s;
       tables = m .tables;

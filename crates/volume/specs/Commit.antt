@@ -7,6 +7,7 @@ use lib.ListN.{length}
 use lib.Dec.{eqb, ltb}
 use Rattle.state.specs.declared.State.{State}
 use Rattle.answer.specs.declared.Answer.the-variants.{Accepted}
+use Rattle.answer.specs.Answer.{storesAlone}
 use Rattle.layout.specs.Bounded.{at, anyBelow, countBelow, best, elem, isZero, listFrom, tabled, updates, always}
 use Rattle.geometry.specs.Geometry.{piecesFor, pieceOf}
 use Rattle.layout.specs.MapSector.{MapSector, View, encoded}
@@ -71,12 +72,12 @@ pub record Plan : Type 0 where
 -- If more than the limit would be listed, every piece is written and the first member has no branches.
 unfoldable pub planned : Rules → State → Tables → View → ℕ → Change → Plan
 planned rules s t view head change =
-    let pieces = piecesFor (s .l) in
-    let listed = branchesFor (s .l) t view (s .number) (change .blocks) in
+    let pieces = piecesFor (s .geometry .l) in
+    let listed = branchesFor (s .geometry .l) t view (s .number) (change .blocks) in
     let fold = ltb (rules .branchLimit) (length listed) in
     let written = tabled false pieces (λ q. fold || touches (change .blocks) q) in
     let members = countBelow written pieces in
-    let places = listFrom (placeOf rules (s .n) (t .isUsed) head) 0 (change .dataSectors + members) in
+    let places = listFrom (placeOf rules (s .geometry .n) (t .isUsed) head) 0 (change .dataSectors + members) in
     record {
       fold = fold;
       branches = cond fold [] listed;
@@ -103,7 +104,7 @@ unfoldable pub committedTables : State → Tables → Plan → Change → Tables
 committedTables s t plan change =
     let entry = changedEntries plan change (t .entry) in
     let place : ℕ → ℕ = λ p. cond (plan .written p) (memberPlace plan (rank plan p)) (t .place p) in
-    let named = namedBy (s .l) entry place in
+    let named = namedBy (s .geometry .l) entry place in
     record {
       entry = entry;
       place = place;
@@ -120,7 +121,7 @@ member s t plan change p =
       piece = p;
       closing = eqb (suc j) (plan .members);
       branches = cond (isZero j) (plan .branches) (memberPlace plan (j - 1) ∷ []);
-      entries = pieceEntries (s .l) (committedTables s t plan change .entry) p;
+      entries = pieceEntries (s .geometry .l) (committedTables s t plan change .entry) p;
     }
 
 -- The i-th data sector, and the map sector of a written piece.
@@ -130,22 +131,26 @@ dataStore plan change i = record { sector = at (plan .places) i; bytes = change 
 unfoldable pub memberStore : State → Tables → Plan → Change → ℕ → Store
 memberStore s t plan change p =
     let place = memberPlace plan (rank plan p) in
-    record { sector = place; bytes = encoded (s .l) (member s t plan change p) }
+    record { sector = place; bytes = encoded (s .geometry .l) (member s t plan change p) }
 
 -- Data in block order, then the map sectors.
 unfoldable pub commitStores : State → Tables → Plan → Change → List Store
 commitStores s t plan change =
     storesBelow always (dataStore plan change) (change .dataSectors)
-    ++ storesBelow (plan .written) (memberStore s t plan change) (piecesFor (s .l))
+    ++ storesBelow (plan .written) (memberStore s t plan change) (piecesFor (s .geometry .l))
 
-unfoldable pub commitAction : Rules → State → Tables → View → ℕ → Change → Action
-commitAction rules s t view head change =
-    let plan = planned rules s t view head change in
+-- What a planned commit does.
+unfoldable pub planAction : State → Tables → Plan → Change → Action
+planAction s t plan change =
     record {
       stores = commitStores s t plan change;
+      cost = storesAlone;
       answer = Accepted;
       state = committedState s (memberPlace plan (plan .members - 1)) (s .number + plan .members);
       tables = committedTables s t plan change;
       cutState = cutState s;
       cutTables = t;
     }
+
+unfoldable pub commitAction : Rules → State → Tables → View → ℕ → Change → Action
+commitAction rules s t view head change = planAction s t (planned rules s t view head change) change

@@ -7,8 +7,11 @@ use lib.Dec.{eqb}
 use Rattle.state.specs.declared.State.{State}
 use Rattle.answer.specs.declared.Answer.the-variants.{Accepted}
 use Rattle.answer.specs.declared.Refusal.the-variants.{Size, BufferLength}
+use Rattle.answer.specs.Answer.{storesAlone}
 use Rattle.layout.specs.Bounded.{tabled, isZero, always}
-use Rattle.geometry.specs.Geometry.{sectorBytes, piecesFor, entriesPerPiece, usedBytes, geometryFits}
+use Rattle.geometry.specs.declared.Geometry.{Geometry}
+use Rattle.geometry.specs.declared.Settings.{Settings}
+use Rattle.geometry.specs.Geometry.{sectorBytes, piecesFor, entriesPerPiece, usedBytes, geometryOf, geometryFits}
 use Rattle.layout.specs.MapSector.{MapSector, encoded}
 use Rattle.layout.specs.Entry.{blank}
 use Rattle.volume.specs.Tables.{Tables, Memory, zeroTables, namedBy, usedBy}
@@ -36,8 +39,8 @@ abbrev pub pieceStore : ℕ → ℕ → Store
 pieceStore l p = record { sector = suc p; bytes = encoded l (freshPiece l p) }
 
 -- Zeros in every sector, ascending, then the pieces.
-unfoldable pub formatStores : ℕ → ℕ → List Store
-formatStores n l = storesBelow always blankStore n ++ storesBelow always (pieceStore l) (piecesFor l)
+unfoldable pub formatStores : Geometry → List Store
+formatStores g = storesBelow always blankStore (g .n) ++ storesBelow always (pieceStore (g .l)) (piecesFor (g .l))
 
 unfoldable pub formatTables : ℕ → Tables
 formatTables l =
@@ -45,15 +48,16 @@ formatTables l =
     let named = namedBy l (λ _. 0) places in
     record { entry = λ _. 0; place = places; number = places; isUsed = usedBy named }
 
-unfoldable pub formatAction : ℕ → ℕ → Action
-formatAction n l =
-    let p = piecesFor l in
+unfoldable pub formatAction : Geometry → Action
+formatAction g =
+    let p = piecesFor (g .l) in
     record {
-      stores = formatStores n l;
+      stores = formatStores g;
+      cost = storesAlone;
       answer = Accepted;
-      state = freshState n l p p;
-      tables = formatTables l;
-      cutState = lostState n l;
+      state = freshState g p p;
+      tables = formatTables (g .l);
+      cutState = lostState g;
       cutTables = zeroTables;
     }
 
@@ -61,24 +65,29 @@ formatAction n l =
 abbrev pub sectorsIn : Memory → ℕ
 sectorsIn m = m .lengths .image / sectorBytes
 
+-- The volume that a call is to make or find in an image, by what it is given.
+abbrev pub volumeIn : Memory → Settings → Geometry
+volumeIn m settings = geometryOf (sectorsIn m) settings
+
 -- Refusal 1 of a call that takes N from the image.
-unfoldable pub imageFits : Memory → ℕ → Bool
-imageFits m l = isZero (m .lengths .image % sectorBytes) && geometryFits (sectorsIn m) l
+unfoldable pub imageFits : Memory → Settings → Bool
+imageFits m settings = isZero (m .lengths .image % sectorBytes) && geometryFits (volumeIn m settings)
 
 -- Refusal 2: the tables have their lengths.
-unfoldable pub tablesFit : Memory → ℕ → ℕ → Bool
-tablesFit m n l =
-    eqb (m .lengths .map) l
-    && eqb (m .lengths .places) (piecesFor l)
-    && eqb (m .lengths .numbers) (piecesFor l)
-    && eqb (m .lengths .used) (usedBytes n)
+unfoldable pub tablesFit : Memory → Geometry → Bool
+tablesFit m g =
+    eqb (m .lengths .map) (g .l)
+    && eqb (m .lengths .places) (piecesFor (g .l))
+    && eqb (m .lengths .numbers) (piecesFor (g .l))
+    && eqb (m .lengths .used) (usedBytes (g .n))
 
 -- The refusals of format and recover: 1 and 2. Neither looks at the state.
-unfoldable pub sizeChecks : Memory → ℕ → List Check
-sizeChecks m l =
-    record { applies = not (imageFits m l); refusal = Size }
-    ∷ record { applies = not (tablesFit m (sectorsIn m) l); refusal = BufferLength }
+unfoldable pub sizeChecks : Memory → Settings → List Check
+sizeChecks m settings =
+    record { applies = not (imageFits m settings); refusal = Size }
+    ∷ record { applies = not (tablesFit m (volumeIn m settings)); refusal = BufferLength }
     ∷ []
 
-unfoldable pub formatOf : State → Memory → ℕ → ℕ → After
-formatOf s m l allowance = unlessRefused (judged (sizeChecks m l)) s m (performed allowance (formatAction (sectorsIn m) l) m)
+unfoldable pub formatOf : State → Memory → Settings → ℕ → After
+formatOf s m settings allowance =
+    unlessRefused (judged (sizeChecks m settings)) s m (performed allowance (formatAction (volumeIn m settings)) m)

@@ -7,10 +7,14 @@ use lib.ListN.{length}
 use lib.Dec.{eqb, leb, ltb}
 use Rattle.state.specs.declared.State.{State}
 use Rattle.answer.specs.declared.Answer.{Answer}
-use Rattle.answer.specs.declared.Answer.the-variants.{Walked, Scanned, Refused}
-use Rattle.answer.specs.declared.Refusal.{Refusal}
-use Rattle.answer.specs.declared.Refusal.the-variants.{NoLog, DamagedLog}
+use Rattle.answer.specs.declared.Answer.the-variants.{Walked, Scanned, Lost}
+use Rattle.answer.specs.declared.Cost.{Cost}
+use Rattle.answer.specs.declared.Loss.{Loss}
+use Rattle.answer.specs.declared.Loss.the-variants.{NoLog, DamagedLog}
+use Rattle.answer.specs.Answer.{storesAlone}
 use Rattle.layout.specs.Bounded.{at, allBelow, anyBelow, best, all, distinct, isZero, tabled, updated, gathered}
+use Rattle.geometry.specs.declared.Geometry.{Geometry}
+use Rattle.geometry.specs.declared.Settings.{Settings}
 use Rattle.geometry.specs.Geometry.{within, piecesFor, pieceOf, indexOf}
 use Rattle.layout.specs.MapSector.{MapSector, View, decoded}
 use Rattle.layout.specs.ParkRecord.{Parked, parkedIn}
@@ -18,7 +22,7 @@ use Rattle.volume.specs.Tables.{Tables, Memory, zeroTables, namedBy, use
 use Rattle.state.specs.State.{freshState, lostState}
 use Rattle.volume.specs.Refusals.{judged}
 use Rattle.volume.specs.Store.{Store, storesBelow, After, Action, after, memoryWith, performed, unlessRefused}
-use Rattle.volume.specs.Format.{blankStore, sectorsIn, sizeChecks}
+use Rattle.volume.specs.Format.{blankStore, volumeIn, sizeChecks}
 use Rattle.volume.specs.Commit.{branchesIn}
 
 -- What a sector says as a map sector, 0 where it is not signed: its number, its piece, an entry, its number where it is closing, and
@@ -58,8 +62,8 @@ pub record Log : Type 0 where
   pub tail : ℕ
   pub number : ℕ
 
-abbrev pub isConsistent : ℕ → ℕ → Log → Bool
-isConsistent n l log = consistent n l (log .tables) (log .tail) (log .number)
+abbrev pub isConsistent : Geometry → Log → Bool
+isConsistent g log = consistent g (log .tables) (log .tail) (log .number)
 
 -- The walk: for each piece the sector that waits, and the one taken where the piece is done; 0 for none.
 pub record Walk : Type 0 where
@@ -108,8 +112,8 @@ branchCount view place (suc p) = branchCount view place p + length (branchesIn (
 
 -- A log that a walk or a scan found, the answer that goes with it, and the sectors to be zeroed.
 pub data Finding : Type 0 where
-  found : Log → (ℕ → Answer) → List Store → Finding
-  missing : Refusal → Finding
+  found : Log → (Cost → Answer) → List Store → Finding
+  missing : Loss → Finding
 
 -- Sector 0 is zero already.
 abbrev pub isBlank : List ℕ → Bool
@@ -128,14 +132,14 @@ walkedLog l view parked =
       number = parked .number;
     }
 
-unfoldable pub walkComplete : ℕ → ℕ → Log → Bool
-walkComplete n l log = allBelow (λ p. not (isZero (log .tables .place p))) (piecesFor l) && isConsistent n l log
+unfoldable pub walkComplete : Geometry → Log → Bool
+walkComplete g log = allBelow (λ p. not (isZero (log .tables .place p))) (piecesFor (g .l)) && isConsistent g log
 
-unfoldable pub walkFinding : ℕ → ℕ → View → List ℕ → Log → Finding → Finding
-walkFinding n l view sector0 log scan =
-    let reads = 2 + branchCount view (log .tables .place) (piecesFor l) in
+unfoldable pub walkFinding : Geometry → View → List ℕ → Log → Finding → Finding
+walkFinding g view sector0 log scan =
+    let reads = 2 + branchCount view (log .tables .place) (piecesFor (g .l)) in
     let walk = found log (Walked reads) (parkSectorCleared (isBlank sector0)) in
-    cond (walkComplete n l log) walk scan
+    cond (walkComplete g log) walk scan
 
 -- The scan. The newest signed closing sector, and C: its number, the highest on a signed closing sector; 0 where there is none.
 unfoldable pub newestClosing : ℕ → View → ℕ
@@ -152,20 +156,20 @@ scanPlace n view c p = best (λ k. pieceNumber c p (view k)) n
 unfoldable pub signedNumbers : View → ℕ → List ℕ
 signedNumbers view n = gathered (λ k. not (isZero (numberIn (view k)))) (λ k. numberIn (view k)) [] n
 
-unfoldable pub scannedLog : ℕ → ℕ → View → ℕ → Log
-scannedLog n l view c =
+unfoldable pub scannedLog : Geometry → View → ℕ → Log
+scannedLog g view c =
     record {
-      tables = tablesFrom l view (scanPlace n view c);
-      tail = newestClosing n view;
+      tables = tablesFrom (g .l) view (scanPlace (g .n) view c);
+      tail = newestClosing (g .n) view;
       number = c;
     }
 
 -- Two signed sectors with one number, a piece missing, or the tables not sound.
-unfoldable pub scanDamaged : ℕ → ℕ → View → ℕ → Log → Bool
-scanDamaged n l view c log =
-    not (distinct (signedNumbers view n))
-    || anyBelow (λ p. isZero (pieceNumber c p (view (scanPlace n view c p)))) (piecesFor l)
-    || not (isConsistent n l log)
+unfoldable pub scanDamaged : Geometry → View → ℕ → Log → Bool
+scanDamaged g view c log =
+    not (distinct (signedNumbers view (g .n)))
+    || anyBelow (λ p. isZero (pieceNumber c p (view (scanPlace (g .n) view c p)))) (piecesFor (g .l))
+    || not (isConsistent g log)
 
 -- A signed sector numbered above C: a member of a commit that never closed.
 abbrev pub isUncommitted : View → ℕ → ℕ → Bool
@@ -177,12 +181,12 @@ scanStores n view sector0 c =
     storesBelow (isUncommitted view c) blankStore n ++ parkSectorCleared (isBlank sector0 || isUncommitted view c 0)
 
 -- 8 is judged before 9.
-unfoldable pub scanFinding : ℕ → ℕ → View → List ℕ → Finding
-scanFinding n l view sector0 =
-    let c = closedUpTo n view in
-    let log = scannedLog n l view c in
-    let scan = found log (Scanned n) (scanStores n view sector0 c) in
-    let judged9 = cond (scanDamaged n l view c log) (missing DamagedLog) scan in
+unfoldable pub scanFinding : Geometry → View → List ℕ → Finding
+scanFinding g view sector0 =
+    let c = closedUpTo (g .n) view in
+    let log = scannedLog g view c in
+    let scan = found log (Scanned (g .n)) (scanStores (g .n) view sector0 c) in
+    let judged9 = cond (scanDamaged g view c log) (missing DamagedLog) scan in
     cond (isZero c) (missing NoLog) judged9
 
 -- It walks when the park record is laid out as it must be, its tail is a sector from 1 to N - 1, and that sector is signed,
@@ -191,40 +195,41 @@ unfoldable pub walkStarts : ℕ → Parked → Option MapSector → Bool
 walkStarts n parked none = false
 walkStarts n parked (some m) = within 1 (n - 1) (parked .tail) && m .closing && eqb (m .number) (parked .number)
 
-unfoldable pub findingFrom : ℕ → ℕ → View → List ℕ → Option Parked → Finding
-findingFrom n l view sector0 none = scanFinding n l view sector0
-findingFrom n l view sector0 (some parked) =
-    let scan = scanFinding n l view sector0 in
-    let walk = walkFinding n l view sector0 (walkedLog l view parked) scan in
-    cond (walkStarts n parked (view (parked .tail))) walk scan
+unfoldable pub findingFrom : Geometry → View → List ℕ → Option Parked → Finding
+findingFrom g view sector0 none = scanFinding g view sector0
+findingFrom g view sector0 (some parked) =
+    let scan = scanFinding g view sector0 in
+    let walk = walkFinding g view sector0 (walkedLog (g .l) view parked) scan in
+    cond (walkStarts (g .n) parked (view (parked .tail))) walk scan
 
-abbrev pub findingOf : ℕ → ℕ → View → List ℕ → Finding
-findingOf n l view sector0 = findingFrom n l view sector0 (parkedIn sector0)
+abbrev pub findingOf : Geometry → View → List ℕ → Finding
+findingOf g view sector0 = findingFrom g view sector0 (parkedIn sector0)
 
 -- A log that was found is taken, and the volume runs.
-abbrev pub recoveryAction : ℕ → ℕ → Log → (ℕ → Answer) → List Store → Action
-recoveryAction n l log answer stores =
+abbrev pub recoveryAction : Geometry → Log → (Cost → Answer) → List Store → Action
+recoveryAction g log answer stores =
     record {
       stores = stores;
+      cost = storesAlone;
       answer = answer;
-      state = freshState n l (log .tail) (log .number);
+      state = freshState g (log .tail) (log .number);
       tables = log .tables;
-      cutState = lostState n l;
+      cutState = lostState g;
       cutTables = zeroTables;
     }
 
--- 8 and 9 leave the image and fill the tables with zeros.
-unfoldable pub recovered : ℕ → ℕ → ℕ → Memory → Finding → After
-recovered n l allowance m (found log answer stores) = performed allowance (recoveryAction n l log answer stores) m
-recovered n l allowance m (missing refusal) =
-    after (record { answer = Refused refusal; state = lostState n l }) (memoryWith m (m .image) zeroTables)
+-- A loss, 8 or 9, leaves the image and fills the tables with zeros.
+unfoldable pub recovered : Geometry → ℕ → Memory → Finding → After
+recovered g allowance m (found log answer stores) = performed allowance (recoveryAction g log answer stores) m
+recovered g allowance m (missing loss) =
+    after (record { answer = Lost loss; state = lostState g }) (memoryWith m (m .image) zeroTables)
 
 -- An image read as map sectors, each decoded once.
-unfoldable pub imageView : ℕ → ℕ → (ℕ → List ℕ) → View
-imageView n l image = tabled none n (λ k. decoded n l (image k))
+unfoldable pub imageView : Geometry → (ℕ → List ℕ) → View
+imageView g image = tabled none (g .n) (λ k. decoded g (image k))
 
-unfoldable pub recoverOf : State → Memory → ℕ → ℕ → After
-recoverOf s m l allowance =
-    let n = sectorsIn m in
-    unlessRefused (judged (sizeChecks m l)) s m
-    (recovered n l allowance m (findingOf n l (imageView n l (m .image)) (m .image 0)))
+unfoldable pub recoverOf : State → Memory → Settings → ℕ → After
+recoverOf s m settings allowance =
+    let g = volumeIn m settings in
+    unlessRefused (judged (sizeChecks m settings)) s m
+    (recovered g allowance m (findingOf g (imageView g (m .image)) (m .image 0)))

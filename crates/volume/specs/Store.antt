@@ -8,6 +8,7 @@ use Rattle.state.specs.declared.State.{State}
 use Rattle.state.specs.declared.Outcome.{Outcome}
 use Rattle.answer.specs.declared.Refusal.{Refusal}
 use Rattle.answer.specs.declared.Answer.{Answer}
+use Rattle.answer.specs.declared.Cost.{Cost}
 use Rattle.answer.specs.declared.Answer.the-variants.{Refused, PowerFailed}
 use Rattle.answer.specs.declared.Verdict.{Verdict}
 use Rattle.answer.specs.declared.Verdict.the-variants.{Pass, Refuse}
@@ -44,11 +45,12 @@ after outcome memory = record { outcome = outcome; memory = memory }
 abbrev pub memoryWith : Memory → (ℕ → List ℕ) → Tables → Memory
 memoryWith m image tables = record { lengths = m .lengths; image = image; tables = tables }
 
--- What a storing call does once no refusal applies: its list of stores, what it answers (given their count) and leaves where
--- all were made, and what it leaves where the power was cut.
+-- What a storing call does once no refusal applies: its list of stores, what the first so many of them cost, what it answers
+-- (given the cost of all) and leaves where all were made, and what it leaves where the power was cut.
 pub record Action : Type 0 where
   pub stores : List Store
-  pub answer : ℕ → Answer
+  pub cost : ℕ → Cost
+  pub answer : Cost → Answer
   pub state : State
   pub tables : Tables
   pub cutState : State
@@ -59,13 +61,13 @@ unfoldable pub performed : ℕ → Action → Memory → After
 performed allowance a m =
     let needed = length (a .stores) in
     let whole =
-    after (record { answer = (a .answer) needed; state = a .state }) (memoryWith m (applied (a .stores) (m .image)) (a .tables)) in
+    after (record { answer = (a .answer) ((a .cost) needed); state = a .state }) (memoryWith m (applied (a .stores) (m .image)) (a .tables)) in
     let cut =
-    after (record { answer = PowerFailed allowance; state = a .cutState })
+    after (record { answer = PowerFailed ((a .cost) allowance); state = a .cutState })
     (memoryWith m (applied (take allowance (a .stores)) (m .image)) (a .cutTables)) in
     cond (ltb allowance needed) cut whole
 
--- Numbers 1 to 7 leave everything lent, and the state, as it came.
+-- A refusal leaves everything lent, and the state, as it came.
 abbrev pub refused : Refusal → State → Memory → After
 refused r s m = after (record { answer = Refused r; state = s }) m
 

@@ -6,6 +6,7 @@ use mathlib.Core.Option.{Option, none, some}
 use lib.ListN.{length, take, drop}
 use lib.Dec.{eqb, leb}
 use Rattle.layout.specs.Bounded.{at, allBelow, countBelow, best, all, elem, distinct, same, listFrom, always, gathered}
+use Rattle.geometry.specs.declared.Geometry.{Geometry}
 use Rattle.geometry.specs.Geometry.{within, sectorBytes, piecesFor, entriesPerPiece, usedBytes}
 use Rattle.layout.specs.MapSector.{MapSector, View}
 use Rattle.layout.specs.Entry.{isEmpty, sectorOf}
@@ -78,15 +79,15 @@ freeSectors n isUsed = countBelow (λ k. not (isUsed k)) n
 -- Sound: the named sectors lie in 1 to N - 1 and none is named twice; the used bits are exactly sector 0 and those, spare
 -- bits zero; at least P sectors are free; live numbers are distinct and from 1; the tail is the place with the greatest
 -- number, and `number` is that one.
-unfoldable pub consistent : ℕ → ℕ → Tables → ℕ → ℕ → Bool
-consistent n l t tail number =
-    let p = piecesFor l in
-    let named = namedBy l (t .entry) (t .place) in
+unfoldable pub consistent : Geometry → Tables → ℕ → ℕ → Bool
+consistent g t tail number =
+    let p = piecesFor (g .l) in
+    let named = namedBy (g .l) (t .entry) (t .place) in
     let newest = best (t .number) p in
-    all (within 1 (n - 1)) named
+    all (within 1 (g .n - 1)) named
     && distinct named
-    && allBelow (λ k. Bool·beq (t .isUsed k) (usedBy named k)) (8 * usedBytes n)
-    && leb p (freeSectors n (t .isUsed))
+    && allBelow (λ k. Bool·beq (t .isUsed k) (usedBy named k)) (8 * usedBytes (g .n))
+    && leb p (freeSectors (g .n) (t .isUsed))
     && distinct (gathered always (t .number) [] p)
     && allBelow (λ q. leb 1 (t .number q)) p
     && eqb tail (t .place newest)

@@ -10,6 +10,7 @@ use native.Mathlib.Omega.{arith}
 use lib.ListN.{length}
 use lib.Dec.{eqb, leb}
 use borrow.Author.Tests.{eq-eqb, leb-true, not-true, not-false}
+use Rattle.geometry.specs.declared.Geometry.{Geometry}
 use Rattle.geometry.specs.Geometry.{within, piecesFor}
 use Rattle.answer.specs.declared.Answer.the-variants.{Walked}
 use Rattle.layout.specs.Bounded.{at, allBelow, isZero, listFrom, tabled}
@@ -33,39 +34,39 @@ use Rattle.walk.specs.declared.Way.the-variants.{Log, Scan}
 use Rattle.targets.proofs.TargetLaws.{count-is}
 use Rattle.walk_steps.proofs.WalkLaws.{number-signed, walk-signed}
 
-module _ (n l : ℕ) (image : ℕ → List ℕ) (tail number : ℕ) (pos : 0 < n) (places : List ℕ)
-    (are : places ≡ listFrom (walkFrom (piecesFor l) (imageView n l image) tail) 0 (piecesFor l)) where
+module _ (g : Geometry) (image : ℕ → List ℕ) (tail number : ℕ) (pos : 0 < g .n) (places : List ℕ)
+    (are : places ≡ listFrom (walkFrom (piecesFor (g .l)) (imageView g image) tail) 0 (piecesFor (g .l))) where
   abbrev view : View
-  view = imageView n l image
+  view = imageView g image
 
   abbrev walk : ℕ → ℕ
-  walk = walkFrom (piecesFor l) view tail
+  walk = walkFrom (piecesFor (g .l)) view tail
 
   abbrev parked : Parked
   parked = record { number = number; tail = tail }
 
-  pub places-long : length places ≡ piecesFor l
-  places-long = ap length are ∙ length-listFrom walk 0 (piecesFor l)
+  pub places-long : length places ≡ piecesFor (g .l)
+  places-long = ap length are ∙ length-listFrom walk 0 (piecesFor (g .l))
 
-  at-walk : (p : ℕ) → p < piecesFor l → at places p ≡ walk p
-  at-walk p h = ap (λ (xs : List ℕ). at xs p) are ∙ listed walk (piecesFor l) p h
+  at-walk : (p : ℕ) → p < piecesFor (g .l) → at places p ≡ walk p
+  at-walk p h = ap (λ (xs : List ℕ). at xs p) are ∙ listed walk (piecesFor (g .l)) p h
 
-  taken-signed : (p : ℕ) → p < piecesFor l → (at places p ≡ 0 → ⊥) → signedAt n l image (walk p) ≡ true
-  taken-signed p h d = number-signed n l image (walk p) (walk-signed (piecesFor l) view tail p (λ (z : walk p ≡ 0). d (at-walk p h ∙ z)))
+  taken-signed : (p : ℕ) → p < piecesFor (g .l) → (at places p ≡ 0 → ⊥) → signedAt g image (walk p) ≡ true
+  taken-signed p h d = number-signed g image (walk p) (walk-signed (piecesFor (g .l)) view tail p (λ (z : walk p ≡ 0). d (at-walk p h ∙ z)))
 
   -- Sector 0 stands for none, so every place is in the image.
-  pub place-below : (p : ℕ) → p < piecesFor l → at places p < n
+  pub place-below : (p : ℕ) → p < piecesFor (g .l) → at places p < g .n
   place-below p h =
       ⊎-elim (λ (z : at places p ≡ 0). omega arith)
-      (λ (d : at places p ≡ 0 → ⊥). subst (λ (x : ℕ). x < n) (sym (at-walk p h)) (inside n l image (walk p) (taken-signed p h d))) (eq? (at places p) 0)
+      (λ (d : at places p ≡ 0 → ⊥). subst (λ (x : ℕ). x < g .n) (sym (at-walk p h)) (inside g image (walk p) (taken-signed p h d))) (eq? (at places p) 0)
 
   abbrev Done : Bool
-  Done = allBelow (λ p. not (isZero (tabled 0 (piecesFor l) walk p))) (piecesFor l)
+  Done = allBelow (λ p. not (isZero (tabled 0 (piecesFor (g .l)) walk p))) (piecesFor (g .l))
 
   abbrev Complete : Bool
-  Complete = walkComplete n l (walkedLog l view parked)
+  Complete = walkComplete g (walkedLog (g .l) view parked)
 
-  complete-is : Complete ≡ (Done && consistent n l (tablesFrom l view walk) tail number)
+  complete-is : Complete ≡ (Done && consistent g (tablesFrom (g .l) view walk) tail number)
   unfolding walkComplete walkedLog tablesFrom
   complete-is = refl
 
@@ -74,58 +75,58 @@ module _ (n l : ℕ) (image : ℕ → List ℕ) (tail number : ℕ) (pos : 0 < n
     unfolding tabled
     done-is =
         e ∙ ap (allBelow (λ p. not (isZero (at places p)))) places-long
-        ∙ ap (λ (xs : List ℕ). allBelow (λ p. not (isZero (at xs p))) (piecesFor l)) are
+        ∙ ap (λ (xs : List ℕ). allBelow (λ p. not (isZero (at xs p))) (piecesFor (g .l))) are
 
-    pub walk-fails : not r ≡ true → (map numbers used : List ℕ) → (false ≡ Complete) × (false ≡ true → Left n l image tail map places numbers used)
+    pub walk-fails : not r ≡ true → (map numbers used : List ℕ) → (false ≡ Complete) × (false ≡ true → Left g image tail map places numbers used)
     walk-fails f map numbers used = (
-      sym (complete-is ∙ ap (λ (b : Bool). b && consistent n l (tablesFrom l view walk) tail number) (sym done-is ∙ not-true r f)),
+      sym (complete-is ∙ ap (λ (b : Bool). b && consistent g (tablesFrom (g .l) view walk) tail number) (sym done-is ∙ not-true r f)),
       λ z. absurd (true≢false (sym z)),
     )
 
     module _ (f : not r ≡ false) where
-      none-zero : (p : ℕ) → p < piecesFor l → at places p ≡ 0 → ⊥
+      none-zero : (p : ℕ) → p < piecesFor (g .l) → at places p ≡ 0 → ⊥
       none-zero p h z =
           let t : not (isZero (at places p)) ≡ true =
           allBelow-at (λ p. not (isZero (at places p))) (length places) (sym e ∙ not-false r f) p (let k = places-long in omega arith) in
           true≢false (sym t ∙ ap not (eq-eqb (at places p) 0 z))
 
-      walk-is-signed : (p : ℕ) → p < piecesFor l → signedAt n l image (walk p) ≡ true
+      walk-is-signed : (p : ℕ) → p < piecesFor (g .l) → signedAt g image (walk p) ≡ true
       walk-is-signed p h = taken-signed p h (none-zero p h)
 
-      module _ (map numbers : List ℕ) (m k : ℕ) (mlong : m ≡ l) (klong : k ≡ piecesFor l) (maps : map ≡ mapFrom image places m)
+      module _ (map numbers : List ℕ) (m k : ℕ) (mlong : m ≡ g .l) (klong : k ≡ piecesFor (g .l)) (maps : map ≡ mapFrom image places m)
           (nums : numbers ≡ listFrom (λ p. at (wordsOf (image (at places p))) 2) 0 k) where
-        at-number : (p : ℕ) → p < piecesFor l → at numbers p ≡ at (wordsOf (image (walk p))) 2
+        at-number : (p : ℕ) → p < piecesFor (g .l) → at numbers p ≡ at (wordsOf (image (walk p))) 2
         at-number p h =
             ap (λ (xs : List ℕ). at xs p) nums ∙ listed (λ p. at (wordsOf (image (at places p))) 2) k p (omega arith)
             ∙ ap (λ (x : ℕ). at (wordsOf (image x)) 2) (at-walk p h)
 
-        says : (p : ℕ) → p < piecesFor l → view (walk p) ≡ some (fields (wordsOf (image (walk p))))
-        says p h = view-signed n l image (walk p) (walk-is-signed p h)
+        says : (p : ℕ) → p < piecesFor (g .l) → view (walk p) ≡ some (fields (wordsOf (image (walk p))))
+        says p h = view-signed g image (walk p) (walk-is-signed p h)
 
-        tables-are : tablesNamed l map places numbers ≡ tablesFrom l view walk
+        tables-are : tablesNamed (g .l) map places numbers ≡ tablesFrom (g .l) view walk
         unfolding numberIn
         tables-are =
-            ap (λ (xs : List ℕ). tablesNamed l xs places numbers) (maps ∙ ap (mapFrom image places) mlong)
-            ∙ live-tables n l image walk places numbers are (λ p h. at-number p h ∙ sym (ap numberIn (says p h)))
+            ap (λ (xs : List ℕ). tablesNamed (g .l) xs places numbers) (maps ∙ ap (mapFrom image places) mlong)
+            ∙ live-tables g image walk places numbers are (λ p h. at-number p h ∙ sym (ap numberIn (says p h)))
             (nums ∙ ap (listFrom (λ p. at (wordsOf (image (at places p))) 2) 0) klong
-            ∙ listFrom-same (λ p. at (wordsOf (image (at places p))) 2) (at numbers) 0 (piecesFor l)
+            ∙ listFrom-same (λ p. at (wordsOf (image (at places p))) 2) (at numbers) 0 (piecesFor (g .l))
             (λ p a b. ap (λ (x : ℕ). at (wordsOf (image x)) 2) (at-walk p (omega arith)) ∙ sym (at-number p (omega arith)))) says
 
-        pub walk-decides : (used : List ℕ) (s : Bool) → s ≡ consistent n l (tablesNamed l map places numbers) tail number
-            → (s ≡ true → bitAt used ≡ usedBy (namedBy l (at map) (at places)))
-            → (s ≡ Complete) × (s ≡ true → Left n l image tail map places numbers used)
-        walk-decides used s g u = (
-          g ∙ ap (λ (t : Tables). consistent n l t tail number) tables-are
-              ∙ sym (complete-is ∙ ap (λ (b : Bool). b && consistent n l (tablesFrom l view walk) tail number) (sym done-is ∙ not-false r f)),
+        pub walk-decides : (used : List ℕ) (s : Bool) → s ≡ consistent g (tablesNamed (g .l) map places numbers) tail number
+            → (s ≡ true → bitAt used ≡ usedBy (namedBy (g .l) (at map) (at places)))
+            → (s ≡ Complete) × (s ≡ true → Left g image tail map places numbers used)
+        walk-decides used s w u = (
+          w ∙ ap (λ (t : Tables). consistent g t tail number) tables-are
+              ∙ sym (complete-is ∙ ap (λ (b : Bool). b && consistent g (tablesFrom (g .l) view walk) tail number) (sym done-is ∙ not-false r f)),
           λ z. record {
             long = places-long;
-            signed = λ p h. subst (λ (x : ℕ). signedAt n l image x ≡ true) (sym (at-walk p h)) (walk-is-signed p h);
-            tables = used-same l map places numbers used (u z) ∙ tables-are;
+            signed = λ p h. subst (λ (x : ℕ). signedAt g image x ≡ true) (sym (at-walk p h)) (walk-is-signed p h);
+            tables = used-same (g .l) map places numbers used (u z) ∙ tables-are;
           },
         )
 
 -- The branches of signed sectors, counted.
-module _ (n l : ℕ) (image : ℕ → List ℕ) (place : ℕ → ℕ) where
+module _ (image : ℕ → List ℕ) (place : ℕ → ℕ) where
   pub count-none : 0 ≡ branchWordCount image place 0
   unfolding branchWordCount
   count-none = refl
@@ -135,14 +136,14 @@ module _ (n l : ℕ) (image : ℕ → List ℕ) (place : ℕ → ℕ) where
   unfolding branchWordCount
   count-more count i x e f = rw add-one (ap (λ (c : ℕ). c + x) e ∙ ap (λ (y : ℕ). branchWordCount image place i + y) f)
 
-  pub branches-counted : (m : ℕ) → ((p : ℕ) → p < m → signedAt n l image (place p) ≡ true) → ((p : ℕ) → p < m → length (image (place p)) ≡ 512)
-      → branchCount (imageView n l image) place m ≡ branchWordCount image place m
+  pub branches-counted : (g : Geometry) (m : ℕ) → ((p : ℕ) → p < m → signedAt g image (place p) ≡ true) → ((p : ℕ) → p < m → length (image (place p)) ≡ 512)
+      → branchCount (imageView g image) place m ≡ branchWordCount image place m
   unfolding branchCount branchWordCount
-  branches-counted zero s h = refl
-  branches-counted (suc m) s h =
-      ap (λ (x : ℕ). x + length (branchesIn (imageView n l image (place m)))) (branches-counted m (λ p b. s p (omega arith)) (λ p b. h p (omega arith)))
+  branches-counted g zero s h = refl
+  branches-counted g (suc m) s h =
+      ap (λ (x : ℕ). x + length (branchesIn (imageView g image (place m)))) (branches-counted g m (λ p b. s p (omega arith)) (λ p b. h p (omega arith)))
       ∙ ap (λ (x : ℕ). branchWordCount image place m + x)
-      (count-is n l image (place m) (s m (omega arith)) (h m (omega arith)) (image (place m)) refl (at (wordsOf (image (place m))) 6) refl)
+      (count-is g image (place m) (s m (omega arith)) (h m (omega arith)) (image (place m)) refl (at (wordsOf (image (place m))) 6) refl)
 
 -- Where the walk starts, and so what is found.
 isTail : Start → Bool
@@ -157,133 +158,133 @@ numberAtStart : Start → ℕ
 numberAtStart (Tail tail number) = number
 numberAtStart Nowhere = 0
 
-module _ (n l : ℕ) (view : View) (sector0 : List ℕ) where
+module _ (g : Geometry) (view : View) (sector0 : List ℕ) where
   abbrev scan : Finding
-  scan = scanFinding n l view sector0
+  scan = scanFinding g view sector0
 
-  from-nowhere : (o : Option Parked) → Nowhere ≡ startOf n view o → findingFrom n l view sector0 o ≡ scan
+  from-nowhere : (o : Option Parked) → Nowhere ≡ startOf (g .n) view o → findingFrom g view sector0 o ≡ scan
   unfolding startOf findingFrom isTail
   from-nowhere none e = refl
   from-nowhere (some p) e =
-      ⊎-elim (λ (z : walkStarts n p (view (p .tail)) ≡ true).
-      clash (isTail Nowhere) (ap isTail (e ∙ cond-true (walkStarts n p (view (p .tail))) (Tail (p .tail) (p .number)) Nowhere z)) refl)
-      (λ (z : walkStarts n p (view (p .tail)) ≡ false).
-      cond-false (walkStarts n p (view (p .tail))) (walkFinding n l view sector0 (walkedLog l view p) scan) scan z) (bool? (walkStarts n p (view (p .tail))))
+      ⊎-elim (λ (z : walkStarts (g .n) p (view (p .tail)) ≡ true).
+      clash (isTail Nowhere) (ap isTail (e ∙ cond-true (walkStarts (g .n) p (view (p .tail))) (Tail (p .tail) (p .number)) Nowhere z)) refl)
+      (λ (z : walkStarts (g .n) p (view (p .tail)) ≡ false).
+      cond-false (walkStarts (g .n) p (view (p .tail))) (walkFinding g view sector0 (walkedLog (g .l) view p) scan) scan z) (bool? (walkStarts (g .n) p (view (p .tail))))
 
   module _ (tail number : ℕ) where
-    from-tail : (o : Option Parked) → Tail tail number ≡ startOf n view o
-        → (findingFrom n l view sector0 o ≡ walkFinding n l view sector0 (walkedLog l view (record { number = number; tail = tail })) scan)
-        × (walkStarts n (record { number = number; tail = tail }) (view tail) ≡ true)
+    from-tail : (o : Option Parked) → Tail tail number ≡ startOf (g .n) view o
+        → (findingFrom g view sector0 o ≡ walkFinding g view sector0 (walkedLog (g .l) view (record { number = number; tail = tail })) scan)
+        × (walkStarts (g .n) (record { number = number; tail = tail }) (view tail) ≡ true)
     unfolding startOf findingFrom isTail tailIn numberAtStart
     from-tail none e = clash (isTail (Tail tail number)) refl (ap isTail e)
     from-tail (some p) e =
-        ⊎-elim (λ (z : walkStarts n p (view (p .tail)) ≡ true).
-        let f = e ∙ cond-true (walkStarts n p (view (p .tail))) (Tail (p .tail) (p .number)) Nowhere z in
+        ⊎-elim (λ (z : walkStarts (g .n) p (view (p .tail)) ≡ true).
+        let f = e ∙ cond-true (walkStarts (g .n) p (view (p .tail))) (Tail (p .tail) (p .number)) Nowhere z in
         let t : p .tail ≡ tail = sym (ap tailIn f) in
         let m : p .number ≡ number = sym (ap numberAtStart f) in
         let same : _≡_ {A = Parked} p (record { number = number; tail = tail }) =
         ap (λ (x : ℕ). record { number = x; tail = p .tail }) m ∙ ap (λ (x : ℕ). record { number = number; tail = x }) t in (
-          cond-true (walkStarts n p (view (p .tail))) (walkFinding n l view sector0 (walkedLog l view p) scan) scan z
-              ∙ ap (λ (x : Parked). walkFinding n l view sector0 (walkedLog l view x) scan) same,
-          ap (λ (x : Parked). walkStarts n x (view (x .tail))) (sym same) ∙ z,
+          cond-true (walkStarts (g .n) p (view (p .tail))) (walkFinding g view sector0 (walkedLog (g .l) view p) scan) scan z
+              ∙ ap (λ (x : Parked). walkFinding g view sector0 (walkedLog (g .l) view x) scan) same,
+          ap (λ (x : Parked). walkStarts (g .n) x (view (x .tail))) (sym same) ∙ z,
         ))
-        (λ (z : walkStarts n p (view (p .tail)) ≡ false).
-        clash (isTail (Tail tail number)) refl (ap isTail (e ∙ cond-false (walkStarts n p (view (p .tail))) (Tail (p .tail) (p .number)) Nowhere z)))
-        (bool? (walkStarts n p (view (p .tail))))
+        (λ (z : walkStarts (g .n) p (view (p .tail)) ≡ false).
+        clash (isTail (Tail tail number)) refl (ap isTail (e ∙ cond-false (walkStarts (g .n) p (view (p .tail))) (Tail (p .tail) (p .number)) Nowhere z)))
+        (bool? (walkStarts (g .n) p (view (p .tail))))
 
-  starts-from : (tail number : ℕ) (o : Option MapSector) → walkStarts n (record { number = number; tail = tail }) o ≡ true → 1 ≤ tail
+  starts-from : (tail number : ℕ) (o : Option MapSector) → walkStarts (g .n) (record { number = number; tail = tail }) o ≡ true → 1 ≤ tail
   unfolding walkStarts
   starts-from tail number none e = clash false e refl
   starts-from tail number (some m) e =
       leb-true 1 tail
-      (and-l (leb 1 tail) (leb tail (n - 1))
-      (and-l (within 1 (n - 1) tail) (m .closing) (and-l (within 1 (n - 1) tail && m .closing) (eqb (m .number) number) e)))
+      (and-l (leb 1 tail) (leb tail (g .n - 1))
+      (and-l (within 1 (g .n - 1) tail) (m .closing) (and-l (within 1 (g .n - 1) tail && m .closing) (eqb (m .number) number) e)))
 
-module _ (n l : ℕ) (image : ℕ → List ℕ) (o : Option Parked) where
+module _ (g : Geometry) (image : ℕ → List ℕ) (o : Option Parked) where
   abbrev seen : View
-  seen = imageView n l image
+  seen = imageView g image
 
-  pub walk-nowhere : Nowhere ≡ startOf n seen o → (sector0 : List ℕ) → findingFrom n l seen sector0 o ≡ scanFinding n l seen sector0
-  walk-nowhere e sector0 = from-nowhere n l seen sector0 o e
+  pub walk-nowhere : Nowhere ≡ startOf (g .n) seen o → (sector0 : List ℕ) → findingFrom g seen sector0 o ≡ scanFinding g seen sector0
+  walk-nowhere e sector0 = from-nowhere g seen sector0 o e
 
-  module _ (tail number : ℕ) (e : Tail tail number ≡ startOf n seen o) (sector0 : List ℕ) where
-    starting : walkStarts n (record { number = number; tail = tail }) (seen tail) ≡ true
-    starting = from-tail n l seen sector0 tail number o e .1
+  module _ (tail number : ℕ) (e : Tail tail number ≡ startOf (g .n) seen o) (sector0 : List ℕ) where
+    starting : walkStarts (g .n) (record { number = number; tail = tail }) (seen tail) ≡ true
+    starting = from-tail g seen sector0 tail number o e .1
 
     pub tail-from : 1 ≤ tail
-    tail-from = starts-from n l seen sector0 tail number (seen tail) starting
+    tail-from = starts-from g seen sector0 tail number (seen tail) starting
 
-    pub tail-signed : signedAt n l image tail ≡ true
+    pub tail-signed : signedAt g image tail ≡ true
     unfolding walkStarts
     tail-signed =
-        ⊎-elim (λ (z : signedAt n l image tail ≡ true). z)
-        (λ (z : signedAt n l image tail ≡ false).
-        clash false (ap (walkStarts n (record { number = number; tail = tail })) (sym (view-unsigned n l image tail z)) ∙ starting) refl)
-        (bool? (signedAt n l image tail))
+        ⊎-elim (λ (z : signedAt g image tail ≡ true). z)
+        (λ (z : signedAt g image tail ≡ false).
+        clash false (ap (walkStarts (g .n) (record { number = number; tail = tail })) (sym (view-unsigned g image tail z)) ∙ starting) refl)
+        (bool? (signedAt g image tail))
 
     abbrev Walking : Finding
-    Walking = walkFinding n l seen sector0 (walkedLog l seen (record { number = number; tail = tail })) (scanFinding n l seen sector0)
+    Walking = walkFinding g seen sector0 (walkedLog (g .l) seen (record { number = number; tail = tail })) (scanFinding g seen sector0)
 
-    finds : findingFrom n l seen sector0 o ≡ Walking
-    finds = from-tail n l seen sector0 tail number o e .0
+    finds : findingFrom g seen sector0 o ≡ Walking
+    finds = from-tail g seen sector0 tail number o e .0
 
     abbrev reads : ℕ
-    reads = 2 + branchCount seen (tablesFrom l seen (walkFrom (piecesFor l) seen tail) .place) (piecesFor l)
+    reads = 2 + branchCount seen (tablesFrom (g .l) seen (walkFrom (piecesFor (g .l)) seen tail) .place) (piecesFor (g .l))
 
     abbrev whole : Finding
     whole =
-        found (record { tables = tablesFrom l seen (walkFrom (piecesFor l) seen tail); tail = tail; number = number }) (Walked reads)
+        found (record { tables = tablesFrom (g .l) seen (walkFrom (piecesFor (g .l)) seen tail); tail = tail; number = number }) (Walked reads)
         (parkSectorCleared (isBlank sector0))
 
-    walking-is : Walking ≡ cond (walkComplete n l (walkedLog l seen (record { number = number; tail = tail }))) whole (scanFinding n l seen sector0)
+    walking-is : Walking ≡ cond (walkComplete g (walkedLog (g .l) seen (record { number = number; tail = tail }))) whole (scanFinding g seen sector0)
     unfolding walkFinding walkedLog
     walking-is = refl
 
-    pub walk-incomplete : (r : Bool) → r ≡ walkComplete n l (walkedLog l seen (record { number = number; tail = tail })) → not r ≡ true
-        → findingFrom n l seen sector0 o ≡ scanFinding n l seen sector0
-    walk-incomplete r f g =
+    pub walk-incomplete : (r : Bool) → r ≡ walkComplete g (walkedLog (g .l) seen (record { number = number; tail = tail })) → not r ≡ true
+        → findingFrom g seen sector0 o ≡ scanFinding g seen sector0
+    walk-incomplete r f u =
         finds ∙ walking-is
-        ∙ cond-false (walkComplete n l (walkedLog l seen (record { number = number; tail = tail }))) whole (scanFinding n l seen sector0) (sym f ∙ not-true r g)
+        ∙ cond-false (walkComplete g (walkedLog (g .l) seen (record { number = number; tail = tail }))) whole (scanFinding g seen sector0) (sym f ∙ not-true r u)
 
-    module _ (r : Bool) (f : r ≡ walkComplete n l (walkedLog l seen (record { number = number; tail = tail }))) (g : not r ≡ false)
-        (map places numbers used : List ℕ) (left : Left n l image tail map places numbers used)
-        (size : (p : ℕ) → p < piecesFor l → length (image (at places p)) ≡ 512) where
-      reads-are : reads ≡ 2 + branchWordCount image (at places) (piecesFor l)
+    module _ (r : Bool) (f : r ≡ walkComplete g (walkedLog (g .l) seen (record { number = number; tail = tail }))) (u : not r ≡ false)
+        (map places numbers used : List ℕ) (left : Left g image tail map places numbers used)
+        (size : (p : ℕ) → p < piecesFor (g .l) → length (image (at places p)) ≡ 512) where
+      reads-are : reads ≡ 2 + branchWordCount image (at places) (piecesFor (g .l))
       reads-are =
-          ap (λ (h : ℕ → ℕ). 2 + branchCount seen h (piecesFor l)) (sym (ap (λ (t : Tables). t .place) (left .tables)))
-          ∙ ap (λ (x : ℕ). 2 + x) (branches-counted n l image (at places) (piecesFor l) (left .signed) size)
+          ap (λ (h : ℕ → ℕ). 2 + branchCount seen h (piecesFor (g .l))) (sym (ap (λ (t : Tables). t .place) (left .tables)))
+          ∙ ap (λ (x : ℕ). 2 + x) (branches-counted image (at places) g (piecesFor (g .l)) (left .signed) size)
 
       pub walk-finds : (count : ℕ) → count ≡ branchWordCount image (at places) (length places)
-          → findingFrom n l seen sector0 o
+          → findingFrom g seen sector0 o
           ≡ found (record { tables = tablesOf map places numbers used; tail = tail; number = number }) (Walked (2 + count)) (parkSectorCleared (isBlank sector0))
       walk-finds count h =
           finds ∙ walking-is
-          ∙ cond-true (walkComplete n l (walkedLog l seen (record { number = number; tail = tail }))) whole (scanFinding n l seen sector0) (sym f ∙ not-false r g)
+          ∙ cond-true (walkComplete g (walkedLog (g .l) seen (record { number = number; tail = tail }))) whole (scanFinding g seen sector0) (sym f ∙ not-false r u)
           ∙ ap (λ (t : Tables). found (record { tables = t; tail = tail; number = number }) (Walked reads) (parkSectorCleared (isBlank sector0))) (sym (left .tables))
           ∙ ap (λ (x : ℕ). found (record { tables = tablesOf map places numbers used; tail = tail; number = number }) (Walked x) (parkSectorCleared (isBlank sector0)))
           (reads-are ∙ ap (λ (x : ℕ). 2 + x) (ap (branchWordCount image (at places)) (sym (left .long)) ∙ sym h))
 
 -- The same, as the code answers it.
-module _ (n l : ℕ) (image : ℕ → List ℕ) where
-  pub found-nowhere : (t : Tables) → Nowhere ≡ startOf n (imageView n l image) (parkedIn (image 0)) → walkFound Scan n l (imageView n l image) (image 0) t
+module _ (g : Geometry) (image : ℕ → List ℕ) where
+  pub found-nowhere : (t : Tables) → Nowhere ≡ startOf (g .n) (imageView g image) (parkedIn (image 0)) → walkFound Scan g (imageView g image) (image 0) t
   unfolding walkFound
-  found-nowhere t e = walk-nowhere n l image (parkedIn (image 0)) e (image 0)
+  found-nowhere t e = walk-nowhere g image (parkedIn (image 0)) e (image 0)
 
-  module _ (tail number : ℕ) (e : Tail tail number ≡ startOf n (imageView n l image) (parkedIn (image 0))) where
+  module _ (tail number : ℕ) (e : Tail tail number ≡ startOf (g .n) (imageView g image) (parkedIn (image 0))) where
     pub found-low : 1 ≤ tail
-    found-low = tail-from n l image (parkedIn (image 0)) tail number e (image 0)
+    found-low = tail-from g image (parkedIn (image 0)) tail number e (image 0)
 
-    pub found-signed : signedAt n l image tail ≡ true
-    found-signed = tail-signed n l image (parkedIn (image 0)) tail number e (image 0)
+    pub found-signed : signedAt g image tail ≡ true
+    found-signed = tail-signed g image (parkedIn (image 0)) tail number e (image 0)
 
-    module _ (r : Bool) (f : r ≡ walkComplete n l (walkedLog l (imageView n l image) (record { number = number; tail = tail }))) where
-      pub found-incomplete : not r ≡ true → (t : Tables) → walkFound Scan n l (imageView n l image) (image 0) t
+    module _ (r : Bool) (f : r ≡ walkComplete g (walkedLog (g .l) (imageView g image) (record { number = number; tail = tail }))) where
+      pub found-incomplete : not r ≡ true → (t : Tables) → walkFound Scan g (imageView g image) (image 0) t
       unfolding walkFound
-      found-incomplete g t = walk-incomplete n l image (parkedIn (image 0)) tail number e (image 0) r f g
+      found-incomplete u t = walk-incomplete g image (parkedIn (image 0)) tail number e (image 0) r f u
 
-      pub found-log : not r ≡ false → (map places numbers used : List ℕ) → Left n l image tail map places numbers used
-          → ((p : ℕ) → p < piecesFor l → length (image (at places p)) ≡ 512) → (count : ℕ) → count ≡ branchWordCount image (at places) (length places)
-          → walkFound (Log tail number (2 + count)) n l (imageView n l image) (image 0) (tablesOf map places numbers used)
+      pub found-log : not r ≡ false → (map places numbers used : List ℕ) → Left g image tail map places numbers used
+          → ((p : ℕ) → p < piecesFor (g .l) → length (image (at places p)) ≡ 512) → (count : ℕ) → count ≡ branchWordCount image (at places) (length places)
+          → walkFound (Log tail number (2 + count)) g (imageView g image) (image 0) (tablesOf map places numbers used)
       unfolding walkFound
-      found-log g map places numbers used left size count h =
-          walk-finds n l image (parkedIn (image 0)) tail number e (image 0) r f g map places numbers used left size count h
+      found-log u map places numbers used left size count h =
+          walk-finds g image (parkedIn (image 0)) tail number e (image 0) r f u map places numbers used left size count h

@@ -4,6 +4,7 @@ use mathlib.Core.Path.{_≡_}
 use mathlib.Core.Bool.{true}
 use mathlib.Core.List.{List}
 use lib.ListN.{length}
+use Rattle.geometry.specs.declared.Geometry.{Geometry}
 use Rattle.geometry.specs.Geometry.{piecesFor}
 use Rattle.answer.specs.declared.Answer.the-variants.{Walked}
 use Rattle.layout.specs.Bounded.{at}
@@ -16,10 +17,10 @@ use Rattle.walk.specs.declared.Way.{Way}
 use Rattle.walk.specs.declared.Way.the-variants.{Log, Scan}
 
 -- The tables that a complete walk leaves: the sectors that it took are signed, and the tables are theirs.
-pub record Left (n l : ℕ) (image : ℕ → List ℕ) (tail : ℕ) (map places numbers used : List ℕ) : Type 0 where
-  pub long : length places ≡ piecesFor l
-  pub signed : (p : ℕ) → p < piecesFor l → signedAt n l image (at places p) ≡ true
-  pub tables : tablesOf map places numbers used ≡ tablesFrom l (imageView n l image) (walkFrom (piecesFor l) (imageView n l image) tail)
+pub record Left (g : Geometry) (image : ℕ → List ℕ) (tail : ℕ) (map places numbers used : List ℕ) : Type 0 where
+  pub long : length places ≡ piecesFor (g .l)
+  pub signed : (p : ℕ) → p < piecesFor (g .l) → signedAt g image (at places p) ≡ true
+  pub tables : tablesOf map places numbers used ≡ tablesFrom (g .l) (imageView g image) (walkFrom (piecesFor (g .l)) (imageView g image) tail)
 
 -- The branch counts of the sectors at so many places.
 unfoldable pub branchWordCount : (ℕ → List ℕ) → (ℕ → ℕ) → ℕ → ℕ
@@ -27,7 +28,7 @@ branchWordCount image place zero = 0
 branchWordCount image place (suc p) = branchWordCount image place p + at (wordsOf (image (place p))) 6
 
 -- What a walk found, given the tables that it left; where it found nothing, the scan decides.
-unfoldable pub walkFound : Way → ℕ → ℕ → View → List ℕ → Tables → Type 0
-walkFound (Log tail number read) n l view sector0 t =
-    findingOf n l view sector0 ≡ found (record { tables = t; tail = tail; number = number }) (Walked read) (parkSectorCleared (isBlank sector0))
-walkFound Scan n l view sector0 t = findingOf n l view sector0 ≡ scanFinding n l view sector0
+unfoldable pub walkFound : Way → Geometry → View → List ℕ → Tables → Type 0
+walkFound (Log tail number read) g view sector0 t =
+    findingOf g view sector0 ≡ found (record { tables = t; tail = tail; number = number }) (Walked read) (parkSectorCleared (isBlank sector0))
+walkFound Scan g view sector0 t = findingOf g view sector0 ≡ scanFinding g view sector0

@@ -11,6 +11,7 @@ ghost use Rattle.volume.specs.Recover.{imageView, walkedLog, walkComplete};
 ghost use Rattle.signed.specs.Signed.{signedAt};
 ghost use Rattle.log_tables.specs.LogTables.{mapFrom};
 ghost use Rattle.walk.specs.Walking.{Left, branchWordCount, walkFound};
+use geometry::Geometry;
 use log_tables::agrees;
 use log_tables::fill_map;
 use walk_start::Start;
@@ -63,8 +64,7 @@ fn walk_fill(image: &[u8], places: &[u32], map: &mut [u32], numbers: &mut [u32])
 // Whether a walk from the tail takes a sector for every piece, and the tables are sound. They then stand in what was lent.
 fn walk_tables(
     image: &[u8],
-    n: u32,
-    l: u32,
+    g: Geometry,
     tail: u32,
     number: u32,
     map: &mut [u32],
@@ -72,23 +72,23 @@ fn walk_tables(
     numbers: &mut [u32],
     used: &mut [u8],
 ) -> bool
-    requires { ⌜ geometryFits n l ≡ true ⌝ }
-    requires { ⌜ length (now image) ≡ sectorBytes * n ⌝ }
+    requires { ⌜ geometryFits g ≡ true ⌝ }
+    requires { ⌜ length (now image) ≡ sectorBytes * g .n ⌝ }
     requires { ⌜ 1 ≤ tail ⌝ }
-    requires { ⌜ signedAt n l (sectorAt (now image)) tail ≡ true ⌝ }
-    requires { ⌜ length (now map) ≡ l ⌝ }
-    requires { ⌜ length (now places) ≡ piecesFor l ⌝ }
-    requires { ⌜ length (now numbers) ≡ piecesFor l ⌝ }
-    requires { ⌜ length (now used) ≡ usedBytes n ⌝ }
-    ensures { λ r. ⌜ (r ≡ walkComplete n l (walkedLog l (imageView n l (sectorAt (now (image .entry)))) (record { number = number; tail = tail }))) × (r ≡ true → Left n l (sectorAt (now (image .entry))) tail (now (map .exit)) (now (places .exit)) (now (numbers .exit)) (now (used .exit))) ⌝ }
+    requires { ⌜ signedAt g (sectorAt (now image)) tail ≡ true ⌝ }
+    requires { ⌜ length (now map) ≡ g .l ⌝ }
+    requires { ⌜ length (now places) ≡ piecesFor (g .l) ⌝ }
+    requires { ⌜ length (now numbers) ≡ piecesFor (g .l) ⌝ }
+    requires { ⌜ length (now used) ≡ usedBytes (g .n) ⌝ }
+    ensures { λ r. ⌜ (r ≡ walkComplete g (walkedLog (g .l) (imageView g (sectorAt (now (image .entry)))) (record { number = number; tail = tail }))) × (r ≡ true → Left g (sectorAt (now (image .entry))) tail (now (map .exit)) (now (places .exit)) (now (numbers .exit)) (now (used .exit))) ⌝ }
 {
     fill::zero_words(places);
-    walk_steps::walk_from(places, image, n, l, tail);
+    walk_steps::walk_from(places, image, g, tail);
     if !all_taken(places) {
         return false;
     }
     walk_fill(image, places, map, numbers);
-    agrees::log_agrees(n, l, map, places, numbers, used, tail, number)
+    agrees::log_agrees(g, map, places, numbers, used, tail, number)
 }
 
 // The branches of the sectors at these places.
@@ -111,25 +111,24 @@ fn count_branches(image: &[u8], places: &[u32]) -> u32
 // Finds the log by a walk from the tail that the park record names. The tables are then in what was lent.
 pub fn walk(
     image: &[u8],
-    n: u32,
-    l: u32,
+    g: Geometry,
     map: &mut [u32],
     places: &mut [u32],
     numbers: &mut [u32],
     used: &mut [u8],
 ) -> Way
-    requires { ⌜ geometryFits n l ≡ true ⌝ }
-    requires { ⌜ length (now image) ≡ sectorBytes * n ⌝ }
-    requires { ⌜ length (now map) ≡ l ⌝ }
-    requires { ⌜ length (now places) ≡ piecesFor l ⌝ }
-    requires { ⌜ length (now numbers) ≡ piecesFor l ⌝ }
-    requires { ⌜ length (now used) ≡ usedBytes n ⌝ }
-    ensures { λ r. ⌜ walkFound r n l (imageView n l (sectorAt (now (image .entry)))) (sectorAt (now (image .entry)) 0) (tablesOf (now (map .exit)) (now (places .exit)) (now (numbers .exit)) (now (used .exit))) ⌝ }
+    requires { ⌜ geometryFits g ≡ true ⌝ }
+    requires { ⌜ length (now image) ≡ sectorBytes * g .n ⌝ }
+    requires { ⌜ length (now map) ≡ g .l ⌝ }
+    requires { ⌜ length (now places) ≡ piecesFor (g .l) ⌝ }
+    requires { ⌜ length (now numbers) ≡ piecesFor (g .l) ⌝ }
+    requires { ⌜ length (now used) ≡ usedBytes (g .n) ⌝ }
+    ensures { λ r. ⌜ walkFound r g (imageView g (sectorAt (now (image .entry)))) (sectorAt (now (image .entry)) 0) (tablesOf (now (map .exit)) (now (places .exit)) (now (numbers .exit)) (now (used .exit))) ⌝ }
 {
-    match walk_start::parked_at(image, n, l) {
+    match walk_start::parked_at(image, g) {
         Start::Nowhere => Way::Scan,
         Start::Tail { tail, number } => {
-            if !walk_tables(image, n, l, tail, number, map, places, numbers, used) {
+            if !walk_tables(image, g, tail, number, map, places, numbers, used) {
                 return Way::Scan;
             }
             let read = 2 + count_branches(image, places);

@@ -5,6 +5,7 @@ use mathlib.Core.Bool.{Bool, true, false, cond, _&&_}
 use mathlib.Core.List.{List}
 use mathlib.Core.Option.{Option, none, some}
 use lib.Dec.{eqb}
+use Rattle.geometry.specs.declared.Geometry.{Geometry}
 use Rattle.geometry.specs.Geometry.{within}
 use Rattle.layout.specs.Bounded.{at}
 use Rattle.layout.specs.Word.{wordsOf}
@@ -18,36 +19,36 @@ use Rattle.signed.proofs.ViewLaws.{view-signed, view-unsigned}
 use Rattle.walk_start.specs.Starting.{startOf}
 use Rattle.walk_start.specs.declared.Start.the-variants.{Tail, Nowhere}
 
-module _ (n l : ℕ) (image : ℕ → List ℕ) (tail number : ℕ) where
+module _ (g : Geometry) (image : ℕ → List ℕ) (tail number : ℕ) where
   abbrev parked : Parked
   parked = record { number = number; tail = tail }
 
-  out-of-range : (o : Option MapSector) → within 1 (n - 1) tail ≡ false → false ≡ walkStarts n parked o
+  out-of-range : (o : Option MapSector) → within 1 (g .n - 1) tail ≡ false → false ≡ walkStarts (g .n) parked o
   unfolding walkStarts
   out-of-range none e = refl
   out-of-range (some m) e = rw e refl
 
-  pub starts-low : tail < 1 → false ≡ walkStarts n parked (imageView n l image tail)
-  starts-low h = out-of-range (imageView n l image tail) (within-below 1 (n - 1) tail h)
+  pub starts-low : tail < 1 → false ≡ walkStarts (g .n) parked (imageView g image tail)
+  starts-low h = out-of-range (imageView g image tail) (within-below 1 (g .n - 1) tail h)
 
-  pub starts-high : 1 ≤ tail → n - 1 < tail → false ≡ walkStarts n parked (imageView n l image tail)
-  starts-high h g = out-of-range (imageView n l image tail) (within-above 1 (n - 1) tail h g)
+  pub starts-high : 1 ≤ tail → g .n - 1 < tail → false ≡ walkStarts (g .n) parked (imageView g image tail)
+  starts-high h u = out-of-range (imageView g image tail) (within-above 1 (g .n - 1) tail h u)
 
-  pub starts-unsigned : signedAt n l image tail ≡ false → false ≡ walkStarts n parked (imageView n l image tail)
+  pub starts-unsigned : signedAt g image tail ≡ false → false ≡ walkStarts (g .n) parked (imageView g image tail)
   unfolding walkStarts
-  starts-unsigned e = sym (ap (walkStarts n parked) (view-unsigned n l image tail e))
+  starts-unsigned e = sym (ap (walkStarts (g .n) parked) (view-unsigned g image tail e))
 
-  module _ (low : 1 ≤ tail) (high : tail ≤ n - 1) (e : signedAt n l image tail ≡ true) (s : List ℕ) (is : s ≡ image tail) (closing : Bool)
+  module _ (low : 1 ≤ tail) (high : tail ≤ g .n - 1) (e : signedAt g image tail ≡ true) (s : List ℕ) (is : s ≡ image tail) (closing : Bool)
       (f : closing ≡ eqb (at (wordsOf s) 5) 1) where
-    says : walkStarts n parked (imageView n l image tail) ≡ (within 1 (n - 1) tail && eqb (at (wordsOf s) 5) 1 && eqb (at (wordsOf s) 2) number)
+    says : walkStarts (g .n) parked (imageView g image tail) ≡ (within 1 (g .n - 1) tail && eqb (at (wordsOf s) 5) 1 && eqb (at (wordsOf s) 2) number)
     unfolding walkStarts
-    says = ap (walkStarts n parked) (view-signed n l image tail e ∙ ap (λ (x : List ℕ). some (fields (wordsOf x))) (sym is))
+    says = ap (walkStarts (g .n) parked) (view-signed g image tail e ∙ ap (λ (x : List ℕ). some (fields (wordsOf x))) (sym is))
 
-    pub starts-member : closing ≡ false → false ≡ walkStarts n parked (imageView n l image tail)
-    starts-member g = sym (says ∙ rw (within-both 1 (n - 1) tail low high, sym f ∙ g) refl)
+    pub starts-member : closing ≡ false → false ≡ walkStarts (g .n) parked (imageView g image tail)
+    starts-member u = sym (says ∙ rw (within-both 1 (g .n - 1) tail low high, sym f ∙ u) refl)
 
-    pub starts-number : closing ≡ true → (r : ℕ) → r ≡ at (wordsOf s) 2 → eqb r number ≡ walkStarts n parked (imageView n l image tail)
-    starts-number g r h = sym (says ∙ rw (within-both 1 (n - 1) tail low high, sym f ∙ g, sym h) refl)
+    pub starts-number : closing ≡ true → (r : ℕ) → r ≡ at (wordsOf s) 2 → eqb r number ≡ walkStarts (g .n) parked (imageView g image tail)
+    starts-number u r h = sym (says ∙ rw (within-both 1 (g .n - 1) tail low high, sym f ∙ u, sym h) refl)
 
 module _ (n : ℕ) (view : View) (sector0 s : List ℕ) (is : s ≡ sector0) (r : Bool) (e : r ≡ isParkRecord s (wordsOf s)) where
   pub no-record : r ≡ false → Nowhere ≡ startOf n view (parkedIn sector0)

@@ -11,6 +11,7 @@ use lib.ListN.{length, set, take, replicate, length-set, length-replicate}
 use lib.Seq.{ext-getD, getD-set-same, getD-set-other}
 use lib.Dec.{eqb, ltb}
 use borrow.Author.Tests.{eq-eqb, ne-eqb, eqb-false}
+use Rattle.geometry.specs.declared.Geometry.{Geometry}
 use Rattle.geometry.specs.Geometry.{piecesFor}
 use Rattle.layout.specs.Bounded.{at, best, isZero, listFrom, updated}
 use Rattle.layout.specs.Word.{wordsOf}
@@ -18,34 +19,35 @@ use Rattle.layout.specs.MapSector.{MapSector, View}
 use Rattle.volume.specs.Tables.{bitAt}
 use Rattle.volume.specs.Commit.{branchesIn}
 use Rattle.volume.specs.Recover.{numberIn, pieceIn, imageView, Walk, waitingNumber, targetWaits, targetsRead, walkStep, walkedFor, walkFrom}
-use Rattle.laws.proofs.Bounded.{bool?, eq?, cond-true, cond-false, length-listFrom, best-below}
+use Rattle.laws.proofs.Filling.{zeros-get}
+use Rattle.laws.proofs.Bounded.{bool?, eq?, cond-true, cond-false, length-listFrom, best-below, at-set}
 use Rattle.signed.specs.Signed.{below, isSigned, signedAt}
-use Rattle.signed.proofs.SignedLaws.{zeros-get, marks-none}
+use Rattle.signed.proofs.SignedLaws.{marks-none}
 use Rattle.signed.proofs.Newest.{listed}
 use Rattle.signed.proofs.ViewLaws.{view-signed, view-unsigned, signed-piece}
 use Rattle.targets.specs.Waiting.{Known, walkOf, Waits}
-use Rattle.targets.proofs.TargetLaws.{at-set}
+use Rattle.targets.proofs.TargetLaws.{}
 
 -- A sector with a number is signed.
-pub number-signed : (n l : ℕ) (image : ℕ → List ℕ) (k : ℕ) → (numberIn (imageView n l image k) ≡ 0 → ⊥) → signedAt n l image k ≡ true
+pub number-signed : (g : Geometry) (image : ℕ → List ℕ) (k : ℕ) → (numberIn (imageView g image k) ≡ 0 → ⊥) → signedAt g image k ≡ true
 unfolding numberIn
-number-signed n l image k d =
-    ⊎-elim (λ (z : signedAt n l image k ≡ true). z)
-    (λ (z : signedAt n l image k ≡ false). absurd (d (ap numberIn (view-unsigned n l image k z)))) (bool? (signedAt n l image k))
+number-signed g image k d =
+    ⊎-elim (λ (z : signedAt g image k ≡ true). z)
+    (λ (z : signedAt g image k ≡ false). absurd (d (ap numberIn (view-unsigned g image k z)))) (bool? (signedAt g image k))
 
-module _ (n l : ℕ) (image : ℕ → List ℕ) (waiting numbers taken : List ℕ) (w : Waits (piecesFor l) (imageView n l image) waiting numbers taken) (pos : 0 < piecesFor l)
+module _ (g : Geometry) (image : ℕ → List ℕ) (waiting numbers taken : List ℕ) (w : Waits (piecesFor (g .l)) (imageView g image) waiting numbers taken) (pos : 0 < piecesFor (g .l))
     (p : ℕ) (newest : p ≡ best (at numbers) (length numbers)) where
   abbrev view : View
-  view = imageView n l image
+  view = imageView g image
 
   abbrev now : Walk
   now = walkOf waiting taken
 
-  p-is : p ≡ best (waitingNumber view now) (piecesFor l)
-  p-is = newest ∙ ap (best (at numbers)) (w .numbersLong) ∙ ap (λ (f : ℕ → ℕ). best f (piecesFor l)) (w .keys)
+  p-is : p ≡ best (waitingNumber view now) (piecesFor (g .l))
+  p-is = newest ∙ ap (best (at numbers)) (w .numbersLong) ∙ ap (λ (f : ℕ → ℕ). best f (piecesFor (g .l))) (w .keys)
 
-  pub newest-inside : p < piecesFor l
-  newest-inside = subst (λ (x : ℕ). x < piecesFor l) (sym p-is) (best-below (waitingNumber view now) (piecesFor l) pos)
+  pub newest-inside : p < piecesFor (g .l)
+  newest-inside = subst (λ (x : ℕ). x < piecesFor (g .l)) (sym p-is) (best-below (waitingNumber view now) (piecesFor (g .l)) pos)
 
   key-is : at numbers p ≡ waitingNumber view now p
   key-is = ap (λ (f : ℕ → ℕ). f p) (w .keys)
@@ -55,11 +57,11 @@ module _ (n l : ℕ) (image : ℕ → List ℕ) (waiting numbers taken : List �
       targetsRead view (numberIn (view (at waiting q))) (record { waiting = updated (at waiting) q 0; taken = updated (at taken) q (at waiting q) })
       (branchesIn (view (at waiting q)))
 
-  step-is : walkStep (piecesFor l) view now ≡ cond (isZero (waitingNumber view now p)) now (after p)
+  step-is : walkStep (piecesFor (g .l)) view now ≡ cond (isZero (waitingNumber view now p)) now (after p)
   unfolding walkStep after
   step-is = ap (λ (q : ℕ). cond (isZero (waitingNumber view now q)) now (after q)) (sym p-is)
 
-  pub step-none : at numbers p ≡ 0 → now ≡ walkStep (piecesFor l) view now
+  pub step-none : at numbers p ≡ 0 → now ≡ walkStep (piecesFor (g .l)) view now
   step-none z = sym (step-is ∙ cond-true (isZero (waitingNumber view now p)) now (after p) (eq-eqb (waitingNumber view now p) 0 (sym key-is ∙ z)))
 
   -- What waits as the newest, and its number.
@@ -70,11 +72,11 @@ module _ (n l : ℕ) (image : ℕ → List ℕ) (waiting numbers taken : List �
     number-is : at numbers p ≡ numberIn (view (at waiting p))
     number-is = key-is ∙ cond-false (isZero (at waiting p)) 0 (numberIn (view (at waiting p))) (ne-eqb (at waiting p) 0 waits)
 
-    pub newest-signed : signedAt n l image (at waiting p) ≡ true
-    newest-signed = number-signed n l image (at waiting p) (λ (z : numberIn (view (at waiting p)) ≡ 0). d (number-is ∙ z))
+    pub newest-signed : signedAt g image (at waiting p) ≡ true
+    newest-signed = number-signed g image (at waiting p) (λ (z : numberIn (view (at waiting p)) ≡ 0). d (number-is ∙ z))
 
     -- Once taken, it no longer waits.
-    pub done-waits : Waits (piecesFor l) view (set waiting p 0) (set numbers p 0) (set taken p (at waiting p))
+    pub done-waits : Waits (piecesFor (g .l)) view (set waiting p 0) (set numbers p 0) (set taken p (at waiting p))
     done-waits =
         let i = newest-inside in
         let a = w .waitingLong in
@@ -96,7 +98,7 @@ module _ (n l : ℕ) (image : ℕ → List ℕ) (waiting numbers taken : List �
 
     pub step-some : (end : Walk)
         → end ≡ targetsRead view (numberIn (view (at waiting p))) (walkOf (set waiting p 0) (set taken p (at waiting p))) (branchesIn (view (at waiting p)))
-        → end ≡ walkStep (piecesFor l) view now
+        → end ≡ walkStep (piecesFor (g .l)) view now
     unfolding after
     step-some end e =
         let i = newest-inside in
@@ -120,38 +122,38 @@ module _ (pieces : ℕ) (view : View) (start : Walk) where
   walked-more w w′ steps e f = f ∙ ap (walkStep pieces view) e ∙ sym (ap (walkedFor pieces view start) (add-one steps))
 
 -- The tail alone waits.
-module _ (n l : ℕ) (image : ℕ → List ℕ) (tail : ℕ) (low : 1 ≤ tail) (e : signedAt n l image tail ≡ true) (s : List ℕ) (is : s ≡ image tail) (p number : ℕ)
+module _ (g : Geometry) (image : ℕ → List ℕ) (tail : ℕ) (low : 1 ≤ tail) (e : signedAt g image tail ≡ true) (s : List ℕ) (is : s ≡ image tail) (p number : ℕ)
     (piece : p ≡ at (wordsOf s) 4) (num : number ≡ at (wordsOf s) 2) where
-  pub tail-inside : p < piecesFor l
-  tail-inside = let h = signed-piece n l image tail e in let f = piece ∙ ap (λ (x : List ℕ). at (wordsOf x) 4) is in omega arith
+  pub tail-inside : p < piecesFor (g .l)
+  tail-inside = let h = signed-piece g image tail e in let f = piece ∙ ap (λ (x : List ℕ). at (wordsOf x) 4) is in omega arith
 
-  module _ (waiting numbers taken : List ℕ) (none-waits : waiting ≡ replicate (piecesFor l) 0) (no-number : numbers ≡ replicate (piecesFor l) 0)
-      (none-taken : taken ≡ replicate (piecesFor l) 0) where
-    zeros-long : (xs : List ℕ) → xs ≡ replicate (piecesFor l) 0 → length xs ≡ piecesFor l
-    zeros-long xs f = ap length f ∙ length-replicate (piecesFor l) 0
+  module _ (waiting numbers taken : List ℕ) (none-waits : waiting ≡ replicate (piecesFor (g .l)) 0) (no-number : numbers ≡ replicate (piecesFor (g .l)) 0)
+      (none-taken : taken ≡ replicate (piecesFor (g .l)) 0) where
+    zeros-long : (xs : List ℕ) → xs ≡ replicate (piecesFor (g .l)) 0 → length xs ≡ piecesFor (g .l)
+    zeros-long xs f = ap length f ∙ length-replicate (piecesFor (g .l)) 0
 
-    only : (xs : List ℕ) → xs ≡ replicate (piecesFor l) 0 → (v : ℕ) → at (set xs p v) ≡ updated (λ _. 0) p v
+    only : (xs : List ℕ) → xs ≡ replicate (piecesFor (g .l)) 0 → (v : ℕ) → at (set xs p v) ≡ updated (λ _. 0) p v
     only xs f v =
         let i = tail-inside in
         let m = zeros-long xs f in
-        at-set xs p v (omega arith) ∙ ap (λ (g : ℕ → ℕ). updated g p v) (ap (λ (ys : List ℕ). at ys) f ∙ fun-ext (zeros-get (piecesFor l)))
+        at-set xs p v (omega arith) ∙ ap (λ (u : ℕ → ℕ). updated u p v) (ap (λ (ys : List ℕ). at ys) f ∙ fun-ext (zeros-get (piecesFor (g .l))))
 
-    start-is : walkOf (set waiting p tail) taken ≡ record { waiting = updated (λ _. 0) (pieceIn (imageView n l image tail)) tail; taken = λ _. 0 }
+    start-is : walkOf (set waiting p tail) taken ≡ record { waiting = updated (λ _. 0) (pieceIn (imageView g image tail)) tail; taken = λ _. 0 }
     unfolding pieceIn
     start-is =
         ap (λ (f : ℕ → ℕ). record { waiting = f; taken = at taken }) (only waiting none-waits tail)
         ∙ ap (λ (q : ℕ). record { waiting = updated (λ _. 0) q tail; taken = at taken })
-        (piece ∙ ap (λ (x : List ℕ). at (wordsOf x) 4) is ∙ sym (ap pieceIn (view-signed n l image tail e)))
-        ∙ ap (λ (f : ℕ → ℕ). record { waiting = updated (λ _. 0) (pieceIn (imageView n l image tail)) tail; taken = f })
-        (ap (λ (xs : List ℕ). at xs) none-taken ∙ fun-ext (zeros-get (piecesFor l)))
+        (piece ∙ ap (λ (x : List ℕ). at (wordsOf x) 4) is ∙ sym (ap pieceIn (view-signed g image tail e)))
+        ∙ ap (λ (f : ℕ → ℕ). record { waiting = updated (λ _. 0) (pieceIn (imageView g image tail)) tail; taken = f })
+        (ap (λ (xs : List ℕ). at xs) none-taken ∙ fun-ext (zeros-get (piecesFor (g .l))))
 
-    tail-number : number ≡ cond (isZero tail) 0 (numberIn (imageView n l image tail))
+    tail-number : number ≡ cond (isZero tail) 0 (numberIn (imageView g image tail))
     unfolding numberIn
     tail-number =
-        num ∙ ap (λ (x : List ℕ). at (wordsOf x) 2) is ∙ sym (ap numberIn (view-signed n l image tail e))
-        ∙ sym (cond-false (isZero tail) 0 (numberIn (imageView n l image tail)) (ne-eqb tail 0 (λ (y : tail ≡ 0). omega arith)))
+        num ∙ ap (λ (x : List ℕ). at (wordsOf x) 2) is ∙ sym (ap numberIn (view-signed g image tail e))
+        ∙ sym (cond-false (isZero tail) 0 (numberIn (imageView g image tail)) (ne-eqb tail 0 (λ (y : tail ≡ 0). omega arith)))
 
-    pub start-waits : Waits (piecesFor l) (imageView n l image) (set waiting p tail) (set numbers p number) taken
+    pub start-waits : Waits (piecesFor (g .l)) (imageView g image) (set waiting p tail) (set numbers p number) taken
     start-waits =
         record {
           waitingLong = length-set waiting p tail ∙ zeros-long waiting none-waits;
@@ -161,25 +163,25 @@ module _ (n l : ℕ) (image : ℕ → List ℕ) (tail : ℕ) (low : 1 ≤ tail) 
               ∙ fun-ext (λ j.
               ⊎-elim (λ (z : j ≡ p).
               cond-true (eqb j p) number 0 (eq-eqb j p z) ∙ tail-number
-              ∙ ap (λ (x : ℕ). cond (isZero x) 0 (numberIn (imageView n l image x)))
+              ∙ ap (λ (x : ℕ). cond (isZero x) 0 (numberIn (imageView g image x)))
               (sym (ap (λ (f : ℕ → ℕ). f j) (only waiting none-waits tail) ∙ cond-true (eqb j p) tail 0 (eq-eqb j p z))))
               (λ (d : j ≡ p → ⊥).
               cond-false (eqb j p) number 0 (ne-eqb j p d)
-              ∙ ap (λ (x : ℕ). cond (isZero x) 0 (numberIn (imageView n l image x)))
+              ∙ ap (λ (x : ℕ). cond (isZero x) 0 (numberIn (imageView g image x)))
               (sym (ap (λ (f : ℕ → ℕ). f j) (only waiting none-waits tail) ∙ cond-false (eqb j p) tail 0 (ne-eqb j p d)))) (eq? j p));
         }
 
     pub walk-is : (waiting′ taken′ : List ℕ) → length taken′ ≡ length taken
-        → walkOf waiting′ taken′ ≡ walkedFor (piecesFor l) (imageView n l image) (walkOf (set waiting p tail) taken) (piecesFor l)
-        → taken′ ≡ listFrom (walkFrom (piecesFor l) (imageView n l image) tail) 0 (piecesFor l)
+        → walkOf waiting′ taken′ ≡ walkedFor (piecesFor (g .l)) (imageView g image) (walkOf (set waiting p tail) taken) (piecesFor (g .l))
+        → taken′ ≡ listFrom (walkFrom (piecesFor (g .l)) (imageView g image) tail) 0 (piecesFor (g .l))
     unfolding walkFrom
     walk-is waiting′ taken′ kept f =
-        let long : length taken′ ≡ piecesFor l = kept ∙ ap length none-taken ∙ length-replicate (piecesFor l) 0 in
-        let same : at taken′ ≡ walkFrom (piecesFor l) (imageView n l image) tail =
-        ap (λ (x : Walk). x .taken) (f ∙ ap (λ (x : Walk). walkedFor (piecesFor l) (imageView n l image) x (piecesFor l)) start-is) in
-        ext-getD 0 taken′ (listFrom (walkFrom (piecesFor l) (imageView n l image) tail) 0 (piecesFor l))
-        (long ∙ sym (length-listFrom (walkFrom (piecesFor l) (imageView n l image) tail) 0 (piecesFor l)))
-        (λ i h. ap (λ (g : ℕ → ℕ). g i) same ∙ sym (listed (walkFrom (piecesFor l) (imageView n l image) tail) (piecesFor l) i (omega arith)))
+        let long : length taken′ ≡ piecesFor (g .l) = kept ∙ ap length none-taken ∙ length-replicate (piecesFor (g .l)) 0 in
+        let same : at taken′ ≡ walkFrom (piecesFor (g .l)) (imageView g image) tail =
+        ap (λ (x : Walk). x .taken) (f ∙ ap (λ (x : Walk). walkedFor (piecesFor (g .l)) (imageView g image) x (piecesFor (g .l))) start-is) in
+        ext-getD 0 taken′ (listFrom (walkFrom (piecesFor (g .l)) (imageView g image) tail) 0 (piecesFor (g .l)))
+        (long ∙ sym (length-listFrom (walkFrom (piecesFor (g .l)) (imageView g image) tail) 0 (piecesFor (g .l))))
+        (λ i h. ap (λ (u : ℕ → ℕ). u i) same ∙ sym (listed (walkFrom (piecesFor (g .l)) (imageView g image) tail) (piecesFor (g .l)) i (omega arith)))
 
 pub zeros-part : (n m : ℕ) → n ≤ m → take n (replicate {A = ℕ} m 0) ≡ replicate n 0
 zeros-part zero m h = refl
@@ -195,13 +197,13 @@ zero-bits : bitAt (replicate 8192 0) ≡ (λ k. false)
 unfolding below
 zero-bits = marks-none (λ k. false) (replicate 8192 0) 8192 refl ∙ fun-ext (λ k. off (ltb k 0))
 
-pub known-none : (n l : ℕ) (image : ℕ → List ℕ) → n ≤ 65536 → Known n l image (replicate 8192 0) (replicate 8192 0)
-known-none n l image h =
+pub known-none : (g : Geometry) (image : ℕ → List ℕ) → g .n ≤ 65536 → Known g image (replicate 8192 0) (replicate 8192 0)
+known-none g image h =
     let long = length-replicate {A = ℕ} 8192 0 in
     record {
       seenRoom = omega arith;
       goodRoom = omega arith;
-      told = zero-bits ∙ sym (ap {B = ℕ → Bool} (λ (f : ℕ → Bool). λ k. f k && isSigned n l image k) zero-bits);
+      told = zero-bits ∙ sym (ap {B = ℕ → Bool} (λ (f : ℕ → Bool). λ k. f k && isSigned g image k) zero-bits);
     }
 
 -- What a walk takes is signed.

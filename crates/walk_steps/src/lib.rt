@@ -19,14 +19,13 @@ fn walk_step(
     numbers: &mut [u32],
     taken: &mut [u32],
     image: &[u8],
-    n: u32,
-    l: u32,
+    g: Geometry,
 )
-    requires { ⌜ length (now image) ≡ sectorBytes * n ⌝ }
-    requires { ⌜ 0 < piecesFor l ⌝ }
-    requires { ⌜ Known n l (sectorAt (now image)) (now seen) (now good) ⌝ }
-    requires { ⌜ Waits (piecesFor l) (imageView n l (sectorAt (now image))) (now waiting) (now numbers) (now taken) ⌝ }
-    ensures { λ _. ⌜ (walkOf (now (waiting .exit)) (now (taken .exit)) ≡ walkStep (piecesFor l) (imageView n l (sectorAt (now (image .entry)))) (walkOf (now (waiting .entry)) (now (taken .entry)))) × Known n l (sectorAt (now (image .entry))) (now (seen .exit)) (now (good .exit)) × Waits (piecesFor l) (imageView n l (sectorAt (now (image .entry)))) (now (waiting .exit)) (now (numbers .exit)) (now (taken .exit)) ⌝ }
+    requires { ⌜ length (now image) ≡ sectorBytes * g .n ⌝ }
+    requires { ⌜ 0 < piecesFor (g .l) ⌝ }
+    requires { ⌜ Known g (sectorAt (now image)) (now seen) (now good) ⌝ }
+    requires { ⌜ Waits (piecesFor (g .l)) (imageView g (sectorAt (now image))) (now waiting) (now numbers) (now taken) ⌝ }
+    ensures { λ _. ⌜ (walkOf (now (waiting .exit)) (now (taken .exit)) ≡ walkStep (piecesFor (g .l)) (imageView g (sectorAt (now (image .entry)))) (walkOf (now (waiting .entry)) (now (taken .entry)))) × Known g (sectorAt (now (image .entry))) (now (seen .exit)) (now (good .exit)) × Waits (piecesFor (g .l)) (imageView g (sectorAt (now (image .entry)))) (now (waiting .exit)) (now (numbers .exit)) (now (taken .exit)) ⌝ }
 {
     let p = numbers::newest(numbers);
     if numbers[p] == 0 {
@@ -36,7 +35,7 @@ fn walk_step(
     waiting[p] = 0;
     numbers[p] = 0;
     taken[p] = k;
-    targets::read_targets(seen, good, waiting, numbers, taken, image, n, l, k);
+    targets::read_targets(seen, good, waiting, numbers, taken, image, g, k);
 }
 
 // So many steps from where the tail waits.
@@ -47,19 +46,18 @@ fn walk_steps(
     numbers: &mut [u32],
     taken: &mut [u32],
     image: &[u8],
-    n: u32,
-    l: u32,
+    g: Geometry,
 )
-    requires { ⌜ length (now image) ≡ sectorBytes * n ⌝ }
-    requires { ⌜ 0 < piecesFor l ⌝ }
-    requires { ⌜ Known n l (sectorAt (now image)) (now seen) (now good) ⌝ }
-    requires { ⌜ Waits (piecesFor l) (imageView n l (sectorAt (now image))) (now waiting) (now numbers) (now taken) ⌝ }
-    ensures { λ _. ⌜ walkOf (now (waiting .exit)) (now (taken .exit)) ≡ walkedFor (piecesFor l) (imageView n l (sectorAt (now (image .entry)))) (walkOf (now (waiting .entry)) (now (taken .entry))) (piecesFor l) ⌝ }
+    requires { ⌜ length (now image) ≡ sectorBytes * g .n ⌝ }
+    requires { ⌜ 0 < piecesFor (g .l) ⌝ }
+    requires { ⌜ Known g (sectorAt (now image)) (now seen) (now good) ⌝ }
+    requires { ⌜ Waits (piecesFor (g .l)) (imageView g (sectorAt (now image))) (now waiting) (now numbers) (now taken) ⌝ }
+    ensures { λ _. ⌜ walkOf (now (waiting .exit)) (now (taken .exit)) ≡ walkedFor (piecesFor (g .l)) (imageView g (sectorAt (now (image .entry)))) (walkOf (now (waiting .entry)) (now (taken .entry))) (piecesFor (g .l)) ⌝ }
 {
-    let pieces = Geometry::pieces_for(l);
+    let pieces = Geometry::pieces_for(g.l);
     let mut step: u32 = 0;
     while step < pieces {
-        walk_step(seen, good, waiting, numbers, taken, image, n, l);
+        walk_step(seen, good, waiting, numbers, taken, image, g);
         step += 1;
     }
 }
@@ -72,40 +70,39 @@ fn walk_waiting(
     numbers: &mut [u32],
     taken: &mut [u32],
     image: &[u8],
-    n: u32,
-    l: u32,
+    g: Geometry,
     tail: u32,
 )
-    requires { ⌜ length (now image) ≡ sectorBytes * n ⌝ }
+    requires { ⌜ length (now image) ≡ sectorBytes * g .n ⌝ }
     requires { ⌜ 1 ≤ tail ⌝ }
-    requires { ⌜ signedAt n l (sectorAt (now image)) tail ≡ true ⌝ }
-    requires { ⌜ Known n l (sectorAt (now image)) (now seen) (now good) ⌝ }
-    requires { ⌜ now waiting ≡ replicate (piecesFor l) 0 ⌝ }
-    requires { ⌜ now numbers ≡ replicate (piecesFor l) 0 ⌝ }
-    requires { ⌜ now taken ≡ replicate (piecesFor l) 0 ⌝ }
-    ensures { λ _. ⌜ now (taken .exit) ≡ listFrom (walkFrom (piecesFor l) (imageView n l (sectorAt (now (image .entry)))) tail) 0 (piecesFor l) ⌝ }
+    requires { ⌜ signedAt g (sectorAt (now image)) tail ≡ true ⌝ }
+    requires { ⌜ Known g (sectorAt (now image)) (now seen) (now good) ⌝ }
+    requires { ⌜ now waiting ≡ replicate (piecesFor (g .l)) 0 ⌝ }
+    requires { ⌜ now numbers ≡ replicate (piecesFor (g .l)) 0 ⌝ }
+    requires { ⌜ now taken ≡ replicate (piecesFor (g .l)) 0 ⌝ }
+    ensures { λ _. ⌜ now (taken .exit) ≡ listFrom (walkFrom (piecesFor (g .l)) (imageView g (sectorAt (now (image .entry)))) tail) 0 (piecesFor (g .l)) ⌝ }
 {
     let s = images::sector(image, tail as usize);
     let p = map_sector::piece_of(s) as usize;
     waiting[p] = tail;
     numbers[p] = map_sector::number_of(s);
-    walk_steps(seen, good, waiting, numbers, taken, image, n, l);
+    walk_steps(seen, good, waiting, numbers, taken, image, g);
 }
 
 // The sector that a walk from the tail takes for each piece, 0 for none.
-pub fn walk_from(taken: &mut [u32], image: &[u8], n: u32, l: u32, tail: u32)
-    requires { ⌜ geometryFits n l ≡ true ⌝ }
-    requires { ⌜ length (now image) ≡ sectorBytes * n ⌝ }
+pub fn walk_from(taken: &mut [u32], image: &[u8], g: Geometry, tail: u32)
+    requires { ⌜ geometryFits g ≡ true ⌝ }
+    requires { ⌜ length (now image) ≡ sectorBytes * g .n ⌝ }
     requires { ⌜ 1 ≤ tail ⌝ }
-    requires { ⌜ signedAt n l (sectorAt (now image)) tail ≡ true ⌝ }
-    requires { ⌜ now taken ≡ replicate (piecesFor l) 0 ⌝ }
-    ensures { λ _. ⌜ now (taken .exit) ≡ listFrom (walkFrom (piecesFor l) (imageView n l (sectorAt (now (image .entry)))) tail) 0 (piecesFor l) ⌝ }
+    requires { ⌜ signedAt g (sectorAt (now image)) tail ≡ true ⌝ }
+    requires { ⌜ now taken ≡ replicate (piecesFor (g .l)) 0 ⌝ }
+    ensures { λ _. ⌜ now (taken .exit) ≡ listFrom (walkFrom (piecesFor (g .l)) (imageView g (sectorAt (now (image .entry)))) tail) 0 (piecesFor (g .l)) ⌝ }
 {
     let mut seen = [0u8; 8192];
     let mut good = [0u8; 8192];
     let mut waiting = [0u32; 256];
     let mut numbers = [0u32; 256];
-    let pieces = Geometry::pieces_for(l) as usize;
+    let pieces = Geometry::pieces_for(g.l) as usize;
     walk_waiting(
         &mut seen,
         &mut good,
@@ -113,8 +110,7 @@ pub fn walk_from(taken: &mut [u32], image: &[u8], n: u32, l: u32, tail: u32)
         &mut numbers[..pieces],
         taken,
         image,
-        n,
-        l,
+        g,
         tail,
     );
 }

@@ -1,5 +1,8 @@
 // Answers on standard output.
 use answer::Answer;
+use answer::Cost;
+use answer::Loss;
+use answer::Refusal;
 use libc::STDOUT_FILENO;
 use paper::data;
 use paper::data::Trouble;
@@ -63,29 +66,50 @@ pub fn say_block(block: &[u8]) {
 }
 
 // The words for what a call is turned back with.
-fn refusal_words(number: u32) {
-    match number {
-        1 => say(b"size"),
-        2 => say(b"buffer length"),
-        3 => say(b"blocks or head"),
-        4 => say(b"phase"),
-        5 => say(b"tables"),
-        6 => say(b"no room"),
-        7 => say(b"numbers used up"),
-        8 => say(b"no log"),
-        9 => say(b"damaged log"),
-        _ => say(b"power"),
+fn refusal_words(refusal: Refusal) {
+    match refusal {
+        Refusal::Size => say(b"size"),
+        Refusal::BufferLength => say(b"buffer length"),
+        Refusal::BlockNumbers => say(b"blocks or head"),
+        Refusal::WrongPhase => say(b"phase"),
+        Refusal::Inconsistent => say(b"tables"),
+        Refusal::NoRoom => say(b"no room"),
+        Refusal::NumbersUsedUp => say(b"numbers used up"),
+    }
+}
+
+fn loss_words(loss: Loss) {
+    match loss {
+        Loss::NoLog => say(b"no log"),
+        Loss::DamagedLog => say(b"damaged log"),
+    }
+}
+
+fn say_cost(cost: Cost) {
+    say_count(b"; stores ", cost.stores);
+}
+
+fn power_words(cost: Cost) {
+    say(b"power");
+    say_cost(cost);
+}
+
+// Why a call was turned back. An accepted one has no words here.
+fn answer_words(answer: Answer) {
+    match answer {
+        Answer::Accepted(_) => {}
+        Answer::Walked { read: _, cost: _ } => {}
+        Answer::Scanned { read: _, cost: _ } => {}
+        Answer::Refused(refusal) => refusal_words(refusal),
+        Answer::Lost(loss) => loss_words(loss),
+        Answer::PowerFailed(cost) => power_words(cost),
     }
 }
 
 pub fn say_refusal(answer: Answer) {
-    let number = answer.number();
-    say_count(b": refused ", number);
+    say_count(b": refused ", answer.number());
     say(b", ");
-    refusal_words(number);
-    if number == 10 {
-        say_count(b"; stores ", answer.stores());
-    }
+    answer_words(answer);
     say(b"\n");
 }
 
@@ -120,14 +144,14 @@ pub fn say_name(call: Call) {
 fn say_acceptance(call: Call, answer: Answer, state: State) {
     say(b": accepted");
     match call {
-        Call::Park => say_count(b"; stores ", answer.stores()),
+        Call::Park => say_cost(answer.cost()),
         Call::Recover => {
             say_way(answer);
-            say_count(b"; stores ", answer.stores());
+            say_cost(answer.cost());
             say_tail(state);
         }
         _ => {
-            say_count(b"; stores ", answer.stores());
+            say_cost(answer.cost());
             say_tail(state);
         }
     }

@@ -2,12 +2,12 @@
 use Prim.Native.Nat.{ℕ, _+_, _*_, _≤_}
 use mathlib.Core.Path.{_≡_, refl, sym, _∙_, ap}
 use mathlib.Core.Logic.{⊎-elim}
-use mathlib.Core.Bool.{Bool, true, false, not, _&&_}
+use mathlib.Core.Bool.{Bool, true, false, not}
 use mathlib.Core.List.{List}
 use native.Mathlib.Omega.{arith}
 use lib.ListN.{length}
 use lib.Dec.{eqb, ltb}
-use borrow.Author.Tests.{eqb-true, ne-eqb, le-ltb, not-false}
+use borrow.Author.Tests.{eqb-true, ne-eqb, le-ltb}
 use Rattle.state.specs.declared.State.{State}
 use Rattle.answer.specs.declared.Refusal.{Refusal}
 use Rattle.answer.specs.declared.Answer.the-variants.{Refused}
@@ -16,15 +16,14 @@ use Rattle.answer.specs.declared.Verdict.the-variants.{Pass, Refuse}
 use Rattle.geometry.specs.Geometry.{piecesFor}
 use Rattle.layout.specs.Bounded.{isZero}
 use Rattle.volume.specs.Tables.{Memory, memory, bitAt, sectorAt, tablesOf, freeSectors, consistent}
-use Rattle.volume.specs.Refusals.{judged}
+use Rattle.volume.specs.Refusals.{applies, firstOf, judged}
 use Rattle.volume.specs.Store.{After, after, performed, unlessRefused}
 use Rattle.volume.specs.Placing.{base}
 use Rattle.volume.specs.Commit.{Change, commitAction}
-use Rattle.volume.specs.Format.{tablesFit}
 use Rattle.volume.specs.Calls.{viewOf, tablesAgree, commitChecks, commitOf, writeChange, dropChange, roomFor, writeBy, dropBy, writeOf, dropOf}
 use Rattle.laws.proofs.Bounded.{bool?, cond-false}
 use Rattle.laws.proofs.Names.{sound}
-use Rattle.laws.proofs.Judged.{passes-first, passes-rest}
+use Rattle.laws.proofs.CommitPassed.{commit-passed}
 use Rattle.commit.specs.Commit.{changeBy}
 use Rattle.verdict.proofs.CommitChecks.{passed}
 
@@ -33,16 +32,16 @@ module _ (s : State) (im mp pl nu us : List ℕ) (head : ℕ) (blocks : List ℕ
   m = memory im mp pl nu us
 
   abbrev checked : Bool → ℕ → Verdict
-  checked fit count = judged (commitChecks base s m head blocks fit (not (ltb (freeSectors (s .n) (bitAt us)) (count + piecesFor (s .l)))))
+  checked fit count = judged (commitChecks base s m head blocks fit (not (ltb (freeSectors (s .geometry .n) (bitAt us)) (count + piecesFor (s .geometry .l)))))
 
   -- A write.
   module _ (bytes : List ℕ) (fit : Bool) (fits : fit ≡ eqb (length bytes) (512 * length blocks)) where
     write-is : (v : Verdict) → v ≡ checked fit (length blocks)
-        → unlessRefused v s m (performed allowance (commitAction base s (m .tables) (viewOf (s .n) (s .l) (m .image)) head (writeChange blocks bytes)) m)
+        → unlessRefused v s m (performed allowance (commitAction base s (m .tables) (viewOf (s .geometry) (m .image)) head (writeChange blocks bytes)) m)
         ≡ writeOf s m head blocks bytes allowance
     unfolding writeBy commitOf roomFor writeChange memory
     write-is v e =
-        ap (λ (w : Verdict). unlessRefused w s m (performed allowance (commitAction base s (m .tables) (viewOf (s .n) (s .l) (m .image)) head (writeChange blocks bytes)) m))
+        ap (λ (w : Verdict). unlessRefused w s m (performed allowance (commitAction base s (m .tables) (viewOf (s .geometry) (m .image)) head (writeChange blocks bytes)) m))
         (e ∙ ap (λ (b : Bool). checked b (length blocks)) fits)
 
     pub write-refused : (r : Refusal) → Refuse r ≡ checked fit (length blocks)
@@ -51,14 +50,7 @@ module _ (s : State) (im mp pl nu us : List ℕ) (head : ℕ) (blocks : List ℕ
 
     -- The bytes fit, so that the checks are those of a commit with bytes that fit.
     fit-true : Pass ≡ checked fit (length blocks) → fit ≡ true
-    unfolding commitChecks
-    fit-true e =
-        let lens = not-false (tablesFit m (s .n) (s .l) && fit) (passes-first _ _ (passes-rest _ _ (sym e))) in
-        and-last (tablesFit m (s .n) (s .l)) fit lens
-      where
-        and-last : (a b : Bool) → (a && b) ≡ true → b ≡ true
-        and-last true b h = h
-        and-last false b h = let z : _≡_ {A = ℕ} 0 1 = cc in absurd (omega arith)
+    fit-true e = commit-passed base s m head blocks fit _ (sym e) .bytes
 
     pub write-passed : Pass ≡ checked fit (length blocks) → Pass ≡ checked true (length blocks)
     write-passed e = e ∙ ap (λ (b : Bool). checked b (length blocks)) (fit-true e)
@@ -70,39 +62,39 @@ module _ (s : State) (im mp pl nu us : List ℕ) (head : ℕ) (blocks : List ℕ
     write-few e = passed s im mp pl nu us head blocks (length blocks) (write-passed e) .high
 
     pub write-done : (r : After) → Pass ≡ checked fit (length blocks)
-        → r ≡ performed allowance (commitAction base s (tablesOf mp pl nu us) (viewOf (s .n) (s .l) (sectorAt im)) head (changeBy blocks bytes (length blocks))) m
+        → r ≡ performed allowance (commitAction base s (tablesOf mp pl nu us) (viewOf (s .geometry) (sectorAt im)) head (changeBy blocks bytes (length blocks))) m
         → r ≡ writeOf s m head blocks bytes allowance
     unfolding memory
     write-done r e f =
         let low = passed s im mp pl nu us head blocks (length blocks) (write-passed e) .low in
         f
-        ∙ ap (λ (c : Change). performed allowance (commitAction base s (tablesOf mp pl nu us) (viewOf (s .n) (s .l) (sectorAt im)) head c) m)
+        ∙ ap (λ (c : Change). performed allowance (commitAction base s (tablesOf mp pl nu us) (viewOf (s .geometry) (sectorAt im)) head c) m)
         (cond-false (isZero (length blocks)) (dropChange blocks) (writeChange blocks bytes) (ne-eqb (length blocks) 0 (λ (z : length blocks ≡ 0). omega arith)))
         ∙ write-is Pass e
 
   -- A drop needs no room of its own: where the tables are sound, P sectors are free.
   room-kept : checked true 0 ≡ judged (commitChecks base s m head blocks true true)
-  unfolding commitChecks judged tablesAgree memory
+  unfolding commitChecks judged firstOf applies tablesAgree memory
   room-kept =
-      ⊎-elim (λ (e : consistent (s .n) (s .l) (tablesOf mp pl nu us) (s .tail) (s .number) ≡ true).
-      let room = sound (s .n) (s .l) (tablesOf mp pl nu us) (s .tail) (s .number) e .room in
-      rw (le-ltb (freeSectors (s .n) (bitAt us)) (0 + piecesFor (s .l)) (omega arith)) refl)
-      (λ (e : consistent (s .n) (s .l) (tablesOf mp pl nu us) (s .tail) (s .number) ≡ false). rw e refl)
-      (bool? (consistent (s .n) (s .l) (tablesOf mp pl nu us) (s .tail) (s .number)))
+      ⊎-elim (λ (e : consistent (s .geometry) (tablesOf mp pl nu us) (s .tail) (s .number) ≡ true).
+      let room = sound (s .geometry) (tablesOf mp pl nu us) (s .tail) (s .number) e .room in
+      rw (le-ltb (freeSectors (s .geometry .n) (bitAt us)) (0 + piecesFor (s .geometry .l)) (omega arith)) refl)
+      (λ (e : consistent (s .geometry) (tablesOf mp pl nu us) (s .tail) (s .number) ≡ false). rw e refl)
+      (bool? (consistent (s .geometry) (tablesOf mp pl nu us) (s .tail) (s .number)))
 
   drop-is : (v : Verdict) → v ≡ checked true 0
-      → unlessRefused v s m (performed allowance (commitAction base s (m .tables) (viewOf (s .n) (s .l) (m .image)) head (dropChange blocks)) m)
+      → unlessRefused v s m (performed allowance (commitAction base s (m .tables) (viewOf (s .geometry) (m .image)) head (dropChange blocks)) m)
       ≡ dropOf s m head blocks allowance
   unfolding dropBy commitOf dropChange
   drop-is v e =
-      ap (λ (w : Verdict). unlessRefused w s m (performed allowance (commitAction base s (m .tables) (viewOf (s .n) (s .l) (m .image)) head (dropChange blocks)) m))
+      ap (λ (w : Verdict). unlessRefused w s m (performed allowance (commitAction base s (m .tables) (viewOf (s .geometry) (m .image)) head (dropChange blocks)) m))
       (e ∙ room-kept)
 
   pub drop-refused : (r : Refusal) → Refuse r ≡ checked true 0 → after (record { answer = Refused r; state = s }) m ≡ dropOf s m head blocks allowance
   drop-refused r e = drop-is (Refuse r) e
 
   pub drop-done : (bytes : List ℕ) (r : After) → Pass ≡ checked true 0
-      → r ≡ performed allowance (commitAction base s (tablesOf mp pl nu us) (viewOf (s .n) (s .l) (sectorAt im)) head (changeBy blocks bytes 0)) m
+      → r ≡ performed allowance (commitAction base s (tablesOf mp pl nu us) (viewOf (s .geometry) (sectorAt im)) head (changeBy blocks bytes 0)) m
       → r ≡ dropOf s m head blocks allowance
   unfolding memory
   drop-done bytes r e f = f ∙ drop-is Pass e

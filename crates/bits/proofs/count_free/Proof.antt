@@ -27,10 +27,12 @@ is-set-requires c κs =
 
 add-free : tie.Need-add-free Inv-loop μ-loop
 add-free c =
+    let the-loop-test = c .before .before .loop-test in
+    let the-args = c .before .before .before .before .before .args in
     let l = c .before .before .before .loop in
-    let b = free-le (l .k) (c .before .before .before .before .before .args .used .now) in
+    let b = free-le (l .k) (the-args .used .now) in
     let e = l .inv .1 in
-    let t = c .before .before .loop-test .taken in
+    let t = the-loop-test .taken in
     omega arith
 
 add-k : tie.Need-add-k Inv-loop μ-loop
@@ -41,19 +43,22 @@ loop-less c = omega arith
 
 loop-again : tie.Need-loop-again Inv-loop μ-loop
 loop-again c =
+    let the-is-set = c .before .is-set in
+    let the-args = c .before .before .before .before .before .args in
     let l = c .before .before .before .loop in
-    let us = c .before .before .before .before .before .args .used .now in (
+    let us = the-args .used .now in (
       omega arith,
-      ⊎-elim (λ w. w .1 ∙ ap (λ (x : ℕ). x + 1) (l .inv .1) ∙ free-hit (l .k) us (c .before .is-set .result) (c .before .is-set .ensures) (w .0 .taken))
-          (λ w. w .1 ∙ l .inv .1 ∙ free-miss (l .k) us (c .before .is-set .result) (c .before .is-set .ensures) (w .0 .left)) (c .if1 .came),
+      ⊎-elim (λ w. w .1 ∙ ap (λ (x : ℕ). x + 1) (l .inv .1) ∙ free-hit (l .k) us (the-is-set .result) (the-is-set .ensures) (w .0 .taken))
+          (λ w. w .1 ∙ l .inv .1 ∙ free-miss (l .k) us (the-is-set .result) (the-is-set .ensures) (w .0 .left)) (c .if1 .came),
     )
 
 returns : tie.Need-returns Inv-loop μ-loop
 returns c =
+    let the-args = c .before .before .before .args in
     let l = c .before .loop in
     let i = l .inv .0 in
     let t = c .loop-test .left in
-    l .inv .1 ∙ ap (λ (x : ℕ). freeSectors x (bitAt (c .before .before .before .args .used .now))) (let e : l .k ≡ c .before .before .before .args .n = omega arith in e)
+    l .inv .1 ∙ ap (λ (x : ℕ). freeSectors x (bitAt (the-args .used .now))) (let e : l .k ≡ the-args .n = omega arith in e)
 
 pub count-free-spec : {M : Type 1} → statement M
 count-free-spec =

@@ -28,25 +28,29 @@ shared-slice-read-if1 c = c .before .loop-test .taken
 
 returns : tie.Need-returns Inv-loop μ-loop
 returns c =
+    let the-loop-test = c .before .before .loop-test in
+    let the-loop = c .before .before .before .loop in
     let a = c .before .before .before .before .args in
-    sym (c .before .before .before .loop .inv .1 ∙ all-fail (λ b. ltb b (a .l)) (a .blocks .now) (c .before .before .before .loop .i) (c .before .before .loop-test .taken) (le-ltb (at (a .blocks .now) (c .before .before .before .loop .i)) (a .l) (c .if1 .taken)))
+    sym (the-loop .inv .1 ∙ all-fail (λ b. ltb b (a .l)) (a .blocks .now) (the-loop .i) (the-loop-test .taken) (le-ltb (at (a .blocks .now) (the-loop .i)) (a .l) (c .if1 .taken)))
 
 add-i : tie.Need-add-i Inv-loop μ-loop
-add-i c = let t = c .before .before .loop-test .taken in omega arith
+add-i c = omega arith
 
 loop-less : tie.Need-loop-less Inv-loop μ-loop
-loop-less c = let t = c .before .before .loop-test .taken in omega arith
+loop-less c = omega arith
 
 loop-again : tie.Need-loop-again Inv-loop μ-loop
 loop-again c =
+    let the-loop-test = c .before .before .loop-test in
+    let the-loop = c .before .before .before .loop in
     let a = c .before .before .before .before .args in
-    let t = c .before .before .loop-test .taken in
-    (omega arith, c .before .before .before .loop .inv .1 ∙ all-pass (λ b. ltb b (a .l)) (a .blocks .now) (c .before .before .before .loop .i) t (lt-ltb (at (a .blocks .now) (c .before .before .before .loop .i)) (a .l) (c .if1 .left)))
+    let t = the-loop-test .taken in
+    (omega arith, the-loop .inv .1 ∙ all-pass (λ b. ltb b (a .l)) (a .blocks .now) (the-loop .i) t (lt-ltb (at (a .blocks .now) (the-loop .i)) (a .l) (c .if1 .left)))
 
 returns-2 : tie.Need-returns-2 Inv-loop μ-loop
 returns-2 c =
-    let a = c .before .before .args in
-    sym (c .before .loop .inv .1 ∙ all-end (λ b. ltb b (a .l)) (a .blocks .now) (c .before .loop .i) (c .loop-test .left))
+    let the-loop = c .before .loop in
+    sym (the-loop .inv .1 ∙ all-end (λ b. ltb b _) _ (the-loop .i) (c .loop-test .left))
 
 pub all-below-spec : {M : Type 1} → statement M
 all-below-spec =

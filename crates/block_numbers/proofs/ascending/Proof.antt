@@ -25,28 +25,35 @@ add-if1 : tie.Need-add-if1 Inv-loop μ-loop
 add-if1 c = let t = c .loop-test .taken in omega arith
 
 mul-if1 : tie.Need-mul-if1 Inv-loop μ-loop
-mul-if1 c = let t = c .loop-test .taken in let g = c .before .before .good in omega arith
+mul-if1 c = omega arith
 
 shared-slice-read-if1 : tie.Need-shared-slice-read-if1 Inv-loop μ-loop
-shared-slice-read-if1 c = let t = c .before .loop-test .taken in let h = c .before .before .before .pre in omega arith
+shared-slice-read-if1 c = omega arith
 
 mul-if1-2 : tie.Need-mul-if1-2 Inv-loop μ-loop
-mul-if1-2 c = let t = c .before .loop-test .taken in let g = c .before .before .before .good in omega arith
+mul-if1-2 c = omega arith
 
 shared-slice-read-if1-2 : tie.Need-shared-slice-read-if1-2 Inv-loop μ-loop
-shared-slice-read-if1-2 c = let t = c .before .before .loop-test .taken in let h = c .before .before .before .before .pre in omega arith
+shared-slice-read-if1-2 c = omega arith
 
 returns : tie.Need-returns Inv-loop μ-loop
-returns c = rises-not (c .before .before .before .before .before .args .blocks .now) (c .before .before .before .before .loop .i) _ (c .before .before .before .loop-test .taken) (c .if1 .taken)
+returns c =
+    let the-loop-test = c .before .before .before .loop-test in
+    let the-loop = c .before .before .before .before .loop in
+    let the-args = c .before .before .before .before .before .args in
+    rises-not (the-args .blocks .now) (the-loop .i) _ (the-loop-test .taken) (c .if1 .taken)
 
 add-i : tie.Need-add-i Inv-loop μ-loop
-add-i c = let t = c .before .before .before .loop-test .taken in omega arith
+add-i c = omega arith
 
 loop-less : tie.Need-loop-less Inv-loop μ-loop
-loop-less c = let t = c .before .before .before .loop-test .taken in omega arith
+loop-less c = omega arith
 
 loop-again : tie.Need-loop-again Inv-loop μ-loop
-loop-again c = let t = c .before .before .before .loop-test .taken in (omega arith, rises-more (c .before .before .before .before .before .args .blocks .now) (c .before .before .before .before .loop .i) (c .before .before .before .before .loop .inv .1) (c .if1 .left))
+loop-again c =
+    let the-loop = c .before .before .before .before .loop in
+    let the-args = c .before .before .before .before .before .args in
+    (omega arith, rises-more (the-args .blocks .now) (the-loop .i) (the-loop .inv .1) (c .if1 .left))
 
 returns-2 : tie.Need-returns-2 Inv-loop μ-loop
 returns-2 c =

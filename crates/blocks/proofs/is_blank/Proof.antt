@@ -48,8 +48,9 @@ loop-again c =
 
 returns-2 : tie.Need-returns-2 Inv-loop μ-loop
 returns-2 c =
+    let the-args = c .before .before .args in
     let l = c .before .loop in
-    sym (l .inv .1 ∙ all-end isZero (c .before .before .args .s .now) (l .i) (c .loop-test .left))
+    sym (l .inv .1 ∙ all-end isZero (the-args .s .now) (l .i) (c .loop-test .left))
 
 pub is-blank-spec : {M : Type 1} → statement M
 is-blank-spec =

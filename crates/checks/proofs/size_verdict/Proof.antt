@@ -11,23 +11,39 @@ image-fits-requires : tie.Need-image-fits-requires
 image-fits-requires c κs = search needs
 
 returns : tie.Need-returns
-returns c = size-refused _ _ _ _ _ _ (c .before .image-fits .result) (c .before .image-fits .ensures) (c .if1 .taken)
+returns c =
+    let the-image-fits = c .before .image-fits in
+    size-refused _ _ _ _ _ _ (the-image-fits .result) (the-image-fits .ensures) (c .if1 .taken)
 
-cast-n : tie.Need-cast-n
-cast-n c =
+cast-volume : tie.Need-cast-volume
+cast-volume c =
+    let the-image-fits = c .before .image-fits in
     let a = c .before .before .args in
-    let h = fits-number (a .l) (a .image) (a .map) (a .places) (a .numbers) (a .used) (c .before .image-fits .result) (c .before .image-fits .ensures) (c .if1 .left) in
+    let h = fits-number (a .settings) (a .image) (a .map) (a .places) (a .numbers) (a .used) (the-image-fits .result) (the-image-fits .ensures) (c .if1 .left) in
     omega arith
+
+volume-requires : tie.Need-volume-requires
+volume-requires c κs = search needs
 
 tables-fit-requires : tie.Need-tables-fit-requires
 tables-fit-requires c κs = search needs
 
 returns-2 : tie.Need-returns-2
-returns-2 c = lengths-refused _ _ _ _ _ _ (c .before .before .before .image-fits .result) (c .before .before .before .image-fits .ensures) (c .before .before .if1 .left) (c .before .tables-fit .result) (c .before .tables-fit .ensures) (c .if2 .taken)
+returns-2 c =
+    let the-tables-fit = c .before .tables-fit in
+    let the-volume = c .before .before .volume in
+    let the-if1 = c .before .before .before .if1 in
+    let the-image-fits = c .before .before .before .before .image-fits in
+    lengths-refused _ _ _ _ _ _ (the-image-fits .result) (the-image-fits .ensures) (the-if1 .left) (the-volume .result) (the-volume .ensures) (the-tables-fit .result) (the-tables-fit .ensures) (c .if2 .taken)
 
 returns-3 : tie.Need-returns-3
-returns-3 c = size-passes _ _ _ _ _ _ (c .before .before .before .image-fits .result) (c .before .before .before .image-fits .ensures) (c .before .before .if1 .left) (c .before .tables-fit .result) (c .before .tables-fit .ensures) (c .if2 .left)
+returns-3 c =
+    let the-tables-fit = c .before .tables-fit in
+    let the-volume = c .before .before .volume in
+    let the-if1 = c .before .before .before .if1 in
+    let the-image-fits = c .before .before .before .before .image-fits in
+    size-passes _ _ _ _ _ _ (the-image-fits .result) (the-image-fits .ensures) (the-if1 .left) (the-volume .result) (the-volume .ensures) (the-tables-fit .result) (the-tables-fit .ensures) (c .if2 .left)
 
 pub size-verdict-spec : {M : Type 1} → statement M
 size-verdict-spec =
-    tie.close (tie.spec image-fits-requires returns cast-n tables-fit-requires returns-2 returns-3)
+    tie.close (tie.spec image-fits-requires returns cast-volume volume-requires tables-fit-requires returns-2 returns-3)

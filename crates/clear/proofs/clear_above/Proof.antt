@@ -18,72 +18,76 @@ abbrev μ-sectors : tie.MeasureT-sectors
 μ-sectors image₀ n above allowance left₀ k₀ image left k = n - k
 
 sectors-holds : tie.Need-sectors-holds Inv-sectors μ-sectors
-sectors-holds c = let a = c .before .before .args in (omega arith, refl, storing-starts (bitAt (a .above .now)) blankStore (sectorAt (a .image .now)) (a .allowance))
+sectors-holds c = (omega arith, refl, storing-starts _ blankStore _ _)
 
 cast-is-set : tie.Need-cast-is-set Inv-sectors μ-sectors
 cast-is-set c = omega arith
 
 is-set-requires : tie.Need-is-set-requires Inv-sectors μ-sectors
-is-set-requires c κs = let t = c .sectors-test .taken in let h = c .before .before .before .before .pre .1 in omega arith
+is-set-requires c κs = omega arith
 
 add-k : tie.Need-add-k Inv-sectors μ-sectors
-add-k c = let t = c .before .before .sectors-test .taken in omega arith
+add-k c = omega arith
 
 sectors-less : tie.Need-sectors-less Inv-sectors μ-sectors
-sectors-less c = let t = c .before .before .sectors-test .taken in omega arith
+sectors-less c = omega arith
 
 sectors-again : tie.Need-sectors-again Inv-sectors μ-sectors
 sectors-again c =
-    let a = c .before .before .before .before .before .before .args in
-    let l = c .before .before .before .sectors in
-    let t = c .before .before .sectors-test .taken in (
+    let the-is-set = c .before .is-set in
+    let l = c .before .before .before .sectors in (
       omega arith,
       l .inv .1,
       rw add-one
-          (storing-skips (bitAt (a .above .now)) blankStore (sectorAt (a .image .now)) (a .allowance) (l .k) (l .left) (sectorAt (l .image))
-          (sym (c .before .is-set .ensures) ∙ not-true (c .before .is-set .result) (c .if1 .taken)) (l .inv .2)),
+          (storing-skips _ blankStore _ _ (l .k) (l .left) (sectorAt (l .image))
+          (sym (the-is-set .ensures) ∙ not-true (the-is-set .result) (c .if1 .taken)) (l .inv .2)),
     )
 
 same-length : tie.Need-same-length Inv-sectors μ-sectors
-same-length c = c .before .before .before .before .sectors .inv .1
+same-length c =
+    let the-sectors = c .before .before .before .before .sectors in
+    the-sectors .inv .1
 
 returns : tie.Need-returns Inv-sectors μ-sectors
 returns c =
+    let the-is-set = c .before .before .is-set in
+    let the-sectors-test = c .before .before .before .sectors-test in
     let a = c .before .before .before .before .before .before .before .args in
     let l = c .before .before .before .before .sectors in
-    storing-fails (bitAt (a .above .now)) blankStore (sectorAt (a .image .now)) (a .allowance) (l .k) (a .n) (sectorAt (l .image)) (c .before .before .before .sectors-test .taken)
-    (sym (c .before .before .is-set .ensures) ∙ not-false (c .before .before .is-set .result) (c .before .if1 .left))
+    storing-fails (bitAt (a .above .now)) blankStore (sectorAt (a .image .now)) (a .allowance) (l .k) (a .n) (sectorAt (l .image)) (the-sectors-test .taken)
+    (sym (the-is-set .ensures) ∙ not-false (the-is-set .result) (c .before .if1 .left))
     (subst (λ (x : ℕ). Storing (bitAt (a .above .now)) blankStore (sectorAt (a .image .now)) (a .allowance) (l .k) x (sectorAt (l .image))) (c .if2 .taken) (l .inv .2))
 
 cast-blank-sector : tie.Need-cast-blank-sector Inv-sectors μ-sectors
 cast-blank-sector c = omega arith
 
 blank-sector-requires : tie.Need-blank-sector-requires Inv-sectors μ-sectors
-blank-sector-requires c κs =
-    let t = c .before .before .before .before .sectors-test .taken in
-    let h = c .before .before .before .before .before .before .before .before .pre .0 in
-    let e = c .before .before .before .before .before .sectors .inv .1 in
-    omega arith
+blank-sector-requires c κs = omega arith
 
 sub-left : tie.Need-sub-left Inv-sectors μ-sectors
-sub-left c = positive (c .before .before .before .before .before .before .before .before .sectors .left) (c .before .before .before .before .if2 .left)
+sub-left c =
+    let the-if2 = c .before .before .before .before .if2 in
+    let the-sectors = c .before .before .before .before .before .before .before .before .sectors in
+    positive (the-sectors .left) (the-if2 .left)
 
 add-k-2 : tie.Need-add-k-2 Inv-sectors μ-sectors
-add-k-2 c = let t = c .before .before .before .before .before .before .before .sectors-test .taken in omega arith
+add-k-2 c = omega arith
 
 sectors-less-2 : tie.Need-sectors-less-2 Inv-sectors μ-sectors
-sectors-less-2 c = let t = c .before .before .before .before .before .before .before .sectors-test .taken in omega arith
+sectors-less-2 c = omega arith
 
 sectors-again-2 : tie.Need-sectors-again-2 Inv-sectors μ-sectors
 sectors-again-2 c =
-    let a = c .before .before .before .before .before .before .before .before .before .before .before .args in
-    let l = c .before .before .before .before .before .before .before .before .sectors in
-    let t = c .before .before .before .before .before .before .before .sectors-test .taken in (
+    let the-blank-sector = c .before .before .blank-sector in
+    let the-if2 = c .before .before .before .before .if2 in
+    let the-if1 = c .before .before .before .before .before .if1 in
+    let the-is-set = c .before .before .before .before .before .before .is-set in
+    let l = c .before .before .before .before .before .before .before .before .sectors in (
       omega arith,
-      c .before .before .blank-sector .kept .0 ∙ l .inv .1,
+      the-blank-sector .kept .0 ∙ l .inv .1,
       rw add-one
-          (storing-stores (bitAt (a .above .now)) blankStore (sectorAt (a .image .now)) (a .allowance) (l .k) (l .left) (sectorAt (l .image)) _
-          (sym (c .before .before .before .before .before .before .is-set .ensures) ∙ not-false (c .before .before .before .before .before .before .is-set .result) (c .before .before .before .before .before .if1 .left)) (positive (l .left) (c .before .before .before .before .if2 .left)) (l .inv .2) (c .before .before .blank-sector .ensures)),
+          (storing-stores _ blankStore _ _ (l .k) (l .left) (sectorAt (l .image)) _
+          (sym (the-is-set .ensures) ∙ not-false (the-is-set .result) (the-if1 .left)) (positive (l .left) (the-if2 .left)) (l .inv .2) (the-blank-sector .ensures)),
     )
 
 same-length-2 : tie.Need-same-length-2 Inv-sectors μ-sectors

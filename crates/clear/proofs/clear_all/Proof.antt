@@ -39,20 +39,30 @@ same-length c = search needs
 
 returns : tie.Need-returns
 returns c =
-    let a = c .before .before .before .before .before .before .before .before .before .before .before .before .before .args in
-    let d = ⊎-elim (λ w. done-blank (c .before .before .before .before .before .before .before .before .is-blank .result) (c .before .before .before .before .before .before .before .is-set .result) _ (sectorAt (a .image .now) 0) (bitAt (a .above .now) 0) (c .before .before .before .before .before .before .before .before .is-blank .ensures ∙ ap isBlank (c .before .before .before .before .before .before .before .before .before .sector .ensures)) (w .0 .taken) (w .1 ∙ w .0 .taken))
-    (λ w. done-marked (c .before .before .before .before .before .before .before .before .is-blank .result) (c .before .before .before .before .before .before .before .is-set .result) _ (sectorAt (a .image .now) 0) (bitAt (a .above .now) 0) (c .before .before .before .before .before .before .before .before .is-blank .ensures ∙ ap isBlank (c .before .before .before .before .before .before .before .before .before .sector .ensures)) (w .0 .left) (w .1) (c .before .before .before .before .before .before .before .is-set .ensures)) (c .before .before .before .before .before .before .if1 .came) in
-    clear-fails (a .n) (a .allowance) (bitAt (a .above .now)) (sectorAt (a .image .now)) _ (c .before .before .before .before .before .before .if1 .done) (isBlank (sectorAt (a .image .now) 0) || bitAt (a .above .now) 0) d (sym (c .enum-told .given .1) ∙ c .before .before .before .before .clear-above .ensures .0) (c .before .before .before .before .clear-above .ensures .1)
+    let the-clear-above = c .before .before .before .before .clear-above in
+    let the-if1 = c .before .before .before .before .before .before .if1 in
+    let the-is-set = c .before .before .before .before .before .before .before .is-set in
+    let the-is-blank = c .before .before .before .before .before .before .before .before .is-blank in
+    let the-sector = c .before .before .before .before .before .before .before .before .before .sector in
+    let d = ⊎-elim (λ w. done-blank (the-is-blank .result) (the-is-set .result) _ (sectorAt _ 0) (bitAt _ 0) (the-is-blank .ensures ∙ ap isBlank (the-sector .ensures)) (w .0 .taken) (w .1 ∙ w .0 .taken))
+    (λ w. done-marked (the-is-blank .result) (the-is-set .result) _ (sectorAt _ 0) (bitAt _ 0) (the-is-blank .ensures ∙ ap isBlank (the-sector .ensures)) (w .0 .left) (w .1) (the-is-set .ensures)) (the-if1 .came) in
+    clear-fails _ _ _ _ _ (the-if1 .done) (isBlank (sectorAt _ 0) || bitAt _ 0) d (sym (c .enum-told .given .1) ∙ the-clear-above .ensures .0) (the-clear-above .ensures .1)
 
 same-length-2 : tie.Need-same-length-2
 same-length-2 c = search needs
 
 returns-2 : tie.Need-returns-2
 returns-2 c =
-    let a = c .before .before .before .before .before .before .before .before .before .before .before .before .before .before .before .before .before .before .args in
-    let d = ⊎-elim (λ w. done-blank (c .before .before .before .before .before .before .before .before .before .before .before .before .before .is-blank .result) (c .before .before .before .before .before .before .before .before .before .before .before .before .is-set .result) _ (sectorAt (a .image .now) 0) (bitAt (a .above .now) 0) (c .before .before .before .before .before .before .before .before .before .before .before .before .before .is-blank .ensures ∙ ap isBlank (c .before .before .before .before .before .before .before .before .before .before .before .before .before .before .sector .ensures)) (w .0 .taken) (w .1 ∙ w .0 .taken))
-    (λ w. done-marked (c .before .before .before .before .before .before .before .before .before .before .before .before .before .is-blank .result) (c .before .before .before .before .before .before .before .before .before .before .before .before .is-set .result) _ (sectorAt (a .image .now) 0) (bitAt (a .above .now) 0) (c .before .before .before .before .before .before .before .before .before .before .before .before .before .is-blank .ensures ∙ ap isBlank (c .before .before .before .before .before .before .before .before .before .before .before .before .before .before .sector .ensures)) (w .0 .left) (w .1) (c .before .before .before .before .before .before .before .before .before .before .before .before .is-set .ensures)) (c .before .before .before .before .before .before .before .before .before .before .before .if1 .came) in
-    clear-runs (a .n) (a .allowance) (bitAt (a .above .now)) (sectorAt (a .image .now)) _ (c .before .before .before .before .before .before .before .before .before .before .before .if1 .done) (isBlank (sectorAt (a .image .now) 0) || bitAt (a .above .now) 0) d _ _ (c .before .before .clear-park .result) (sym (c .before .before .before .before .before .cleared .given .1) ∙ c .before .before .before .before .before .before .before .before .before .clear-above .ensures .0) (c .before .before .before .before .before .before .before .before .before .clear-above .ensures .1) (c .before .before .clear-park .ensures .0) (c .before .before .clear-park .ensures .1)
+    let the-clear-park = c .before .before .clear-park in
+    let the-cleared = c .before .before .before .before .before .cleared in
+    let the-clear-above = c .before .before .before .before .before .before .before .before .before .clear-above in
+    let the-if1 = c .before .before .before .before .before .before .before .before .before .before .before .if1 in
+    let the-is-set = c .before .before .before .before .before .before .before .before .before .before .before .before .is-set in
+    let the-is-blank = c .before .before .before .before .before .before .before .before .before .before .before .before .before .is-blank in
+    let the-sector = c .before .before .before .before .before .before .before .before .before .before .before .before .before .before .sector in
+    let d = ⊎-elim (λ w. done-blank (the-is-blank .result) (the-is-set .result) _ (sectorAt _ 0) (bitAt _ 0) (the-is-blank .ensures ∙ ap isBlank (the-sector .ensures)) (w .0 .taken) (w .1 ∙ w .0 .taken))
+    (λ w. done-marked (the-is-blank .result) (the-is-set .result) _ (sectorAt _ 0) (bitAt _ 0) (the-is-blank .ensures ∙ ap isBlank (the-sector .ensures)) (w .0 .left) (w .1) (the-is-set .ensures)) (the-if1 .came) in
+    clear-runs _ _ _ _ _ (the-if1 .done) (isBlank (sectorAt _ 0) || bitAt _ 0) d _ _ (the-clear-park .result) (sym (the-cleared .given .1) ∙ the-clear-above .ensures .0) (the-clear-above .ensures .1) (the-clear-park .ensures .0) (the-clear-park .ensures .1)
 
 pub clear-all-spec : {M : Type 1} → statement M
 clear-all-spec =

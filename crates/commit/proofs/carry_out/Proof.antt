@@ -12,13 +12,14 @@ use Rattle.commit.proofs.carry_out.Tie as tie
 
 store-requires : tie.Need-store-requires
 store-requires c κs =
-    let a = c .before .before .before .before .before .before .before .before .before .before .before .before .before .args in
-    let r = c .before .before .before .before .before .before .before .before .before .before .before .before .before .pre in
+    let start = c .before .before .before .before .before .before .before .before .before .before .before .before .before in
+    let a = start .args in
+    let r = start .pre in
     let g = r .1 .1 .1 .1 .1 .1 .1 .0 in
     let m = r .1 .1 .1 .1 .1 .1 .1 .1 .0 in
     let all = g .taken-all in
     let num = g .numbers in
-    let most = fits (a .s .n) (a .s .l) (r .0) .most in (
+    let most = fits (a .s .geometry) (r .0) .most in (
       r .1 .0,
       (
         record {
@@ -40,6 +41,9 @@ store-requires c κs =
 enum-told : tie.Need-enum-told
 enum-told c = search needs
 
+power-failed-requires : tie.Need-power-failed-requires
+power-failed-requires c κs = search needs
+
 cut-requires : tie.Need-cut-requires
 cut-requires c κs = search needs
 
@@ -48,7 +52,6 @@ enum-known-power c = search needs
 
 settle-requires : tie.Need-settle-requires
 settle-requires c κs =
-    let a = c .before .before .before .before .before .before .before .before .before .before .before .before .before .before .before .before .before .before .before .before .before .before .before .args in
     let r = c .before .before .before .before .before .before .before .before .before .before .before .before .before .before .before .before .before .before .before .before .before .before .before .pre in
     let g = r .1 .1 .1 .1 .1 .1 .1 .0 in
     let m = r .1 .1 .1 .1 .1 .1 .1 .1 .0 in
@@ -57,7 +60,6 @@ settle-requires c κs =
 
 sub-tail : tie.Need-sub-tail
 sub-tail c =
-    let a = c .before .before .before .before .before .before .before .before .before .before .before .before .before .before .before .before .before .before .before .before .before .before .before .before .before .before .before .before .before .before .before .before .args in
     let r = c .before .before .before .before .before .before .before .before .before .before .before .before .before .before .before .before .before .before .before .before .before .before .before .before .before .before .before .before .before .before .before .before .pre in
     let g = r .1 .1 .1 .1 .1 .1 .1 .0 in
     let m = r .1 .1 .1 .1 .1 .1 .1 .1 .0 in
@@ -67,7 +69,6 @@ sub-tail c =
 
 mul-tail : tie.Need-mul-tail
 mul-tail c =
-    let a = c .before .before .before .before .before .before .before .before .before .before .before .before .before .before .before .before .before .before .before .before .before .before .before .before .before .before .before .before .before .before .before .before .args in
     let r = c .before .before .before .before .before .before .before .before .before .before .before .before .before .before .before .before .before .before .before .before .before .before .before .before .before .before .before .before .before .before .before .before .pre in
     let g = r .1 .1 .1 .1 .1 .1 .1 .0 in
     let m = r .1 .1 .1 .1 .1 .1 .1 .1 .0 in
@@ -78,7 +79,6 @@ mul-tail c =
 
 shared-slice-read-tail : tie.Need-shared-slice-read-tail
 shared-slice-read-tail c =
-    let a = c .before .before .before .before .before .before .before .before .before .before .before .before .before .before .before .before .before .before .before .before .before .before .before .before .before .before .before .before .before .before .before .before .before .args in
     let r = c .before .before .before .before .before .before .before .before .before .before .before .before .before .before .before .before .before .before .before .before .before .before .before .before .before .before .before .before .before .before .before .before .before .pre in
     let g = r .1 .1 .1 .1 .1 .1 .1 .0 in
     let m = r .1 .1 .1 .1 .1 .1 .1 .1 .0 in
@@ -88,7 +88,6 @@ shared-slice-read-tail c =
 
 add-number : tie.Need-add-number
 add-number c =
-    let a = c .before .before .before .before .before .before .before .before .before .before .before .before .before .before .before .before .before .before .before .before .before .before .before .before .before .before .before .before .before .before .before .before .before .before .args in
     let r = c .before .before .before .before .before .before .before .before .before .before .before .before .before .before .before .before .before .before .before .before .before .before .before .before .before .before .before .before .before .before .before .before .before .before .pre in
     let g = r .1 .1 .1 .1 .1 .1 .1 .0 in
     let m = r .1 .1 .1 .1 .1 .1 .1 .1 .0 in
@@ -96,10 +95,15 @@ add-number c =
     let num = g .numbers in
     omega arith
 
-sub-t40 : tie.Need-sub-t40
-sub-t40 c =
-    let h = left-enough _ _ _ (sym (c .before .before .before .before .before .before .before .before .before .before .before .before .before .before .before .before .power .given .1) ∙ c .before .before .before .before .before .before .before .before .before .before .before .before .before .before .before .before .before .before .before .before .store .ensures .0) in
+sub-stores : tie.Need-sub-stores
+sub-stores c =
+    let the-power = c .before .before .before .before .before .before .before .before .before .before .before .before .before .before .before .before .power in
+    let the-store = c .before .before .before .before .before .before .before .before .before .before .before .before .before .before .before .before .before .before .before .before .store in
+    let h = left-enough _ _ _ (sym (the-power .given .1) ∙ the-store .ensures .0) in
     omega arith
+
+accepted-requires : tie.Need-accepted-requires
+accepted-requires c κs = search needs
 
 committed-requires : tie.Need-committed-requires
 committed-requires c κs = search needs
@@ -112,8 +116,13 @@ same-length-2 c = search needs
 
 returns : tie.Need-returns
 returns c =
-    let a = c .before .before .before .before .before .before .before .before .before .before .before .before .before .before .before .before .before .before .before .args in
-    carried-cut (a .s) (a .allowance) (a .image .now) (a .map .now) (a .places .now) (a .numbers .now) (a .used .now) _ (a .blocks .now) (a .bytes .now) (a .news .now) (a .taken .now) (a .branches .now) (a .written .now) (a .count) (a .members) (c .before .before .before .before .before .store .kept .1 .0) (c .before .before .before .before .before .store .ensures .1) (c .cut .result) (c .cut .ensures) (sym (c .before .enum-told .given .1) ∙ c .before .before .before .before .before .store .ensures .0)
+    let the-power-failed = c .before .power-failed in
+    let the-store = c .before .before .before .before .before .before .store in
+    let a = c .before .before .before .before .before .before .before .before .before .before .before .before .before .before .before .before .before .before .before .before .args in
+    carried-cut (a .s) (a .allowance) (a .image .now) (a .map .now) (a .places .now) (a .numbers .now) (a .used .now) _ (a .blocks .now)
+    (a .bytes .now) (a .news .now) (a .taken .now) (a .branches .now) (a .written .now) (a .count) (a .members) (the-store .kept .1 .0)
+    (the-store .ensures .1) (the-power-failed .result) (c .cut .result) (the-power-failed .ensures) (c .cut .ensures)
+    (sym (c .before .before .enum-told .given .1) ∙ the-store .ensures .0)
 
 same-length-3 : tie.Need-same-length-3
 same-length-3 c = search needs
@@ -132,13 +141,24 @@ same-length-7 c = search needs
 
 returns-2 : tie.Need-returns-2
 returns-2 c =
-    let a = c .before .before .before .before .before .before .before .before .before .before .before .before .before .before .before .before .before .before .before .before .before .before .before .before .before .before .before .before .before .before .before .before .before .before .before .args in
-    let r = c .before .before .before .before .before .before .before .before .before .before .before .before .before .before .before .before .before .before .before .before .before .before .before .before .before .before .before .before .before .before .before .before .before .before .before .pre in
+    let the-accepted = c .before .accepted in
+    let the-power = c .before .before .before .before .before .before .before .before .before .before .before .before .before .before .before .before .before .before .power in
+    let the-store = c .before .before .before .before .before .before .before .before .before .before .before .before .before .before .before .before .before .before .before .before .before .before .store in
+    let a = c .before .before .before .before .before .before .before .before .before .before .before .before .before .before .before .before .before
+    .before .before .before .before .before .before .before .before .before .before .before .before .before .before .before .before .before .before
+    .before .args in
+    let r = c .before .before .before .before .before .before .before .before .before .before .before .before .before .before .before .before .before
+    .before .before .before .before .before .before .before .before .before .before .before .before .before .before .before .before .before .before
+    .before .pre in
     let g = r .1 .1 .1 .1 .1 .1 .1 .0 in
     let m = r .1 .1 .1 .1 .1 .1 .1 .1 .0 in
     let all = g .taken-all in
-    let z = c .before .before .before .before .before .before .before .before .before .before .before .settle in
-    carried-whole (a .s) (a .allowance) (a .image .now) (a .map .now) (a .places .now) (a .numbers .now) (a .used .now) _ (a .blocks .now) (a .bytes .now) (a .news .now) (a .taken .now) (a .branches .now) (a .written .now) (a .count) (a .members) (c .before .before .before .before .before .before .before .before .before .before .before .before .before .before .before .before .before .before .before .before .before .store .kept .1 .0) (c .before .before .before .before .before .before .before .before .before .before .before .before .before .before .before .before .before .before .before .before .before .store .ensures .1) _ _ _ _ (c .committed .result) _ (length (a .taken .now)) _ (z .kept .1 .0) (z .kept .1 .1 .0) (z .kept .1 .1 .1 .0) (z .kept .1 .1 .1 .1 .0) refl (let e : length (a .taken .now) ≡ a .count + a .members = omega arith in e) (r .1 .1 .1 .1 .1 .1 .1 .1 .1 .0) (c .committed .ensures) (sym (c .before .before .before .before .before .before .before .before .before .before .before .before .before .before .before .before .before .power .given .1) ∙ c .before .before .before .before .before .before .before .before .before .before .before .before .before .before .before .before .before .before .before .before .before .store .ensures .0) (z .ensures)
+    let z = c .before .before .before .before .before .before .before .before .before .before .before .before .settle in
+    carried-whole (a .s) (a .allowance) (a .image .now) (a .map .now) (a .places .now) (a .numbers .now) (a .used .now) _ (a .blocks .now)
+    (a .bytes .now) (a .news .now) (a .taken .now) (a .branches .now) (a .written .now) (a .count) (a .members) (the-store .kept .1 .0)
+    (the-store .ensures .1) _ _ _ _ (the-accepted .result) (c .committed .result) _ (length (a .taken .now)) _ (z .kept .1 .0) (z .kept .1 .1 .0)
+    (z .kept .1 .1 .1 .0) (z .kept .1 .1 .1 .1 .0) refl (let e : length (a .taken .now) ≡ a .count + a .members = omega arith in e)
+    (r .1 .1 .1 .1 .1 .1 .1 .1 .1 .0) (the-accepted .ensures) (c .committed .ensures) (sym (the-power .given .1) ∙ the-store .ensures .0) (z .ensures)
 
 pub carry-out-spec : {M : Type 1} → statement M
 carry-out-spec =
@@ -146,6 +166,7 @@ carry-out-spec =
     (tie.spec
     store-requires
     enum-told
+    power-failed-requires
     cut-requires
     enum-known-power
     settle-requires
@@ -153,7 +174,8 @@ carry-out-spec =
     mul-tail
     shared-slice-read-tail
     add-number
-    sub-t40
+    sub-stores
+    accepted-requires
     committed-requires
     same-length
     same-length-2

@@ -25,23 +25,28 @@ slice-aggregate-plan-3 c = search needs
 
 plan-requires : tie.Need-plan-requires
 plan-requires c κs =
-    let a = c .before .before .before .before .before .before .before .before .before .before .before .before .before .before .args in
-    let p = passed (a .s) (a .image .now) (a .map .now) (a .places .now) (a .numbers .now) (a .used .now) (a .head) (a .blocks .now) (a .count) (c .before .before .before .before .before .before .before .before .before .before .before .before .before .before .pre .0) in
-    let few = few-data (a .s) (a .image .now) (a .map .now) (a .places .now) (a .numbers .now) (a .used .now) (a .head) (a .blocks .now) (a .bytes .now) (a .count) p (c .before .before .before .before .before .before .before .before .before .before .before .before .before .before .pre .1 .0) in
+    let start = c .before .before .before .before .before .before .before .before .before .before .before .before .before .before in
+    let the-pre = start .pre in
+    let a = start .args in
+    let p = passed (a .s) (a .image .now) (a .map .now) (a .places .now) (a .numbers .now) (a .used .now) (a .head) (a .blocks .now) (a .count) (the-pre .0) in
+    let few = few-data (a .s) (a .image .now) (a .map .now) (a .places .now) (a .numbers .now) (a .used .now) (a .head) (a .blocks .now) (a .bytes .now) (a .count) p (the-pre .1 .0) in
     let high = p .high in
     (p .range, (p .image, (p .places, (p .numbers, (p .used, (p .head-below, (p .few, (omega arith, (p .inside, (p .live, (refl, (refl, refl))))))))))))
 
 add-total : tie.Need-add-total
 add-total c =
-    let a = c .before .before .before .before .before .before .before .before .before .before .before .before .before .before .before .before .before .before .args in
-    let p = passed (a .s) (a .image .now) (a .map .now) (a .places .now) (a .numbers .now) (a .used .now) (a .head) (a .blocks .now) (a .count) (c .before .before .before .before .before .before .before .before .before .before .before .before .before .before .before .before .before .before .pre .0) in
-    let tk = c .before .before .before .plan .last .1 .1 .1 .1 .1 .1 .1 .1 .1 .1 .0 in
-    let bs = c .before .before .before .plan .last .1 .1 .1 .1 .1 .1 .1 .1 .1 .0 in
-    let wr = c .before .before .before .plan .last .1 .1 .1 .1 .1 .1 .1 .1 .0 in
-    let g = c .before .before .before .plan .ensures in
-    let m = c .before .before .before .plan .result .members in
-    let room = c .before .before .before .plan .kept .1 .1 .1 .1 .1 .1 .1 .1 .1 .1 .0 in
-    let t = total-few (a .s) (a .image .now) (a .map .now) (a .places .now) (a .numbers .now) (a .used .now) (a .head) (a .blocks .now) (a .bytes .now) (a .count) p (c .before .before .before .before .before .before .before .before .before .before .before .before .before .before .before .before .before .before .pre .1 .0) (c .before .before .before .plan .result .branches) m bs wr tk (take (a .count + m) tk) g refl in
+    let the-plan = c .before .before .before .plan in
+    let start = c .before .before .before .before .before .before .before .before .before .before .before .before .before .before .before .before .before .before in
+    let the-pre = start .pre in
+    let a = start .args in
+    let p = passed (a .s) (a .image .now) (a .map .now) (a .places .now) (a .numbers .now) (a .used .now) (a .head) (a .blocks .now) (a .count) (the-pre .0) in
+    let tk = the-plan .last .1 .1 .1 .1 .1 .1 .1 .1 .1 .1 .0 in
+    let bs = the-plan .last .1 .1 .1 .1 .1 .1 .1 .1 .1 .0 in
+    let wr = the-plan .last .1 .1 .1 .1 .1 .1 .1 .1 .0 in
+    let g = the-plan .ensures in
+    let m = the-plan .result .members in
+    let room = the-plan .kept .1 .1 .1 .1 .1 .1 .1 .1 .1 .1 .0 in
+    let t = total-few (a .s) (a .image .now) (a .map .now) (a .places .now) (a .numbers .now) (a .used .now) (a .head) (a .blocks .now) (a .bytes .now) (a .count) p (the-pre .1 .0) (the-plan .result .branches) m bs wr tk (take (a .count + m) tk) g refl in
     omega arith
 
 cast-total : tie.Need-cast-total
@@ -49,28 +54,34 @@ cast-total c = search needs
 
 array-share-prefix-taken : tie.Need-array-share-prefix-taken
 array-share-prefix-taken c =
-    let a = c .before .before .before .before .before .before .before .before .before .before .before .before .before .before .before .before .before .before .args in
-    let p = passed (a .s) (a .image .now) (a .map .now) (a .places .now) (a .numbers .now) (a .used .now) (a .head) (a .blocks .now) (a .count) (c .before .before .before .before .before .before .before .before .before .before .before .before .before .before .before .before .before .before .pre .0) in
-    let tk = c .before .before .before .plan .last .1 .1 .1 .1 .1 .1 .1 .1 .1 .1 .0 in
-    let bs = c .before .before .before .plan .last .1 .1 .1 .1 .1 .1 .1 .1 .1 .0 in
-    let wr = c .before .before .before .plan .last .1 .1 .1 .1 .1 .1 .1 .1 .0 in
-    let g = c .before .before .before .plan .ensures in
-    let m = c .before .before .before .plan .result .members in
-    let room = c .before .before .before .plan .kept .1 .1 .1 .1 .1 .1 .1 .1 .1 .1 .0 in
-    let t = total-few (a .s) (a .image .now) (a .map .now) (a .places .now) (a .numbers .now) (a .used .now) (a .head) (a .blocks .now) (a .bytes .now) (a .count) p (c .before .before .before .before .before .before .before .before .before .before .before .before .before .before .before .before .before .before .pre .1 .0) (c .before .before .before .plan .result .branches) m bs wr tk (take (a .count + m) tk) g refl in
+    let the-plan = c .before .before .before .plan in
+    let start = c .before .before .before .before .before .before .before .before .before .before .before .before .before .before .before .before .before .before in
+    let the-pre = start .pre in
+    let a = start .args in
+    let p = passed (a .s) (a .image .now) (a .map .now) (a .places .now) (a .numbers .now) (a .used .now) (a .head) (a .blocks .now) (a .count) (the-pre .0) in
+    let tk = the-plan .last .1 .1 .1 .1 .1 .1 .1 .1 .1 .1 .0 in
+    let bs = the-plan .last .1 .1 .1 .1 .1 .1 .1 .1 .1 .0 in
+    let wr = the-plan .last .1 .1 .1 .1 .1 .1 .1 .1 .0 in
+    let g = the-plan .ensures in
+    let m = the-plan .result .members in
+    let room = the-plan .kept .1 .1 .1 .1 .1 .1 .1 .1 .1 .1 .0 in
+    let t = total-few (a .s) (a .image .now) (a .map .now) (a .places .now) (a .numbers .now) (a .used .now) (a .head) (a .blocks .now) (a .bytes .now) (a .count) p (the-pre .1 .0) (the-plan .result .branches) m bs wr tk (take (a .count + m) tk) g refl in
     omega arith
 
 slice-aggregate-entries-for : tie.Need-slice-aggregate-entries-for
 slice-aggregate-entries-for c =
-    let a = c .before .before .before .before .before .before .before .before .before .before .before .before .before .before .before .before .before .before .before .args in
-    let p = passed (a .s) (a .image .now) (a .map .now) (a .places .now) (a .numbers .now) (a .used .now) (a .head) (a .blocks .now) (a .count) (c .before .before .before .before .before .before .before .before .before .before .before .before .before .before .before .before .before .before .before .pre .0) in
-    let tk = c .before .before .before .before .plan .last .1 .1 .1 .1 .1 .1 .1 .1 .1 .1 .0 in
-    let bs = c .before .before .before .before .plan .last .1 .1 .1 .1 .1 .1 .1 .1 .1 .0 in
-    let wr = c .before .before .before .before .plan .last .1 .1 .1 .1 .1 .1 .1 .1 .0 in
-    let g = c .before .before .before .before .plan .ensures in
-    let m = c .before .before .before .before .plan .result .members in
-    let room = c .before .before .before .before .plan .kept .1 .1 .1 .1 .1 .1 .1 .1 .1 .1 .0 in
-    let t = total-few (a .s) (a .image .now) (a .map .now) (a .places .now) (a .numbers .now) (a .used .now) (a .head) (a .blocks .now) (a .bytes .now) (a .count) p (c .before .before .before .before .before .before .before .before .before .before .before .before .before .before .before .before .before .before .before .pre .1 .0) (c .before .before .before .before .plan .result .branches) m bs wr tk (take (a .count + m) tk) g refl in
+    let the-plan = c .before .before .before .before .plan in
+    let start = c .before .before .before .before .before .before .before .before .before .before .before .before .before .before .before .before .before .before .before in
+    let the-pre = start .pre in
+    let a = start .args in
+    let p = passed (a .s) (a .image .now) (a .map .now) (a .places .now) (a .numbers .now) (a .used .now) (a .head) (a .blocks .now) (a .count) (the-pre .0) in
+    let tk = the-plan .last .1 .1 .1 .1 .1 .1 .1 .1 .1 .1 .0 in
+    let bs = the-plan .last .1 .1 .1 .1 .1 .1 .1 .1 .1 .0 in
+    let wr = the-plan .last .1 .1 .1 .1 .1 .1 .1 .1 .0 in
+    let g = the-plan .ensures in
+    let m = the-plan .result .members in
+    let room = the-plan .kept .1 .1 .1 .1 .1 .1 .1 .1 .1 .1 .0 in
+    let t = total-few (a .s) (a .image .now) (a .map .now) (a .places .now) (a .numbers .now) (a .used .now) (a .head) (a .blocks .now) (a .bytes .now) (a .count) p (the-pre .1 .0) (the-plan .result .branches) m bs wr tk (take (a .count + m) tk) g refl in
     sym (length-take-le (a .count + m) tk (omega arith))
 
 slice-aggregate-entries-for-2 : tie.Need-slice-aggregate-entries-for-2
@@ -78,45 +89,66 @@ slice-aggregate-entries-for-2 c = search needs
 
 entries-for-requires : tie.Need-entries-for-requires
 entries-for-requires c κs =
-    let a = c .before .before .before .before .before .before .before .before .before .before .before .before .before .before .before .before .before .before .before .before .args in
-    let p = passed (a .s) (a .image .now) (a .map .now) (a .places .now) (a .numbers .now) (a .used .now) (a .head) (a .blocks .now) (a .count) (c .before .before .before .before .before .before .before .before .before .before .before .before .before .before .before .before .before .before .before .before .pre .0) in
-    let tk = c .before .before .before .before .before .plan .last .1 .1 .1 .1 .1 .1 .1 .1 .1 .1 .0 in
-    let bs = c .before .before .before .before .before .plan .last .1 .1 .1 .1 .1 .1 .1 .1 .1 .0 in
-    let wr = c .before .before .before .before .before .plan .last .1 .1 .1 .1 .1 .1 .1 .1 .0 in
-    let g = c .before .before .before .before .before .plan .ensures in
-    let m = c .before .before .before .before .before .plan .result .members in
-    let room = c .before .before .before .before .before .plan .kept .1 .1 .1 .1 .1 .1 .1 .1 .1 .1 .0 in
-    let few = few-data (a .s) (a .image .now) (a .map .now) (a .places .now) (a .numbers .now) (a .used .now) (a .head) (a .blocks .now) (a .bytes .now) (a .count) p (c .before .before .before .before .before .before .before .before .before .before .before .before .before .before .before .before .before .before .before .before .pre .1 .0) in
-    let high = p .high in
-    (c .before .before .before .before .before .before .before .before .before .before .before .before .before .before .before .before .before .before .before .before .pre .1 .1, (ts-enough (a .s) (a .image .now) (a .map .now) (a .places .now) (a .numbers .now) (a .used .now) (a .head) (a .blocks .now) (a .bytes .now) (a .count) p (c .before .before .before .before .before .before .before .before .before .before .before .before .before .before .before .before .before .before .before .before .pre .1 .0) (c .before .before .before .before .before .plan .result .branches) m bs wr tk (take (a .count + m) tk) g refl, (omega arith, ts-word (a .s) (a .image .now) (a .map .now) (a .places .now) (a .numbers .now) (a .used .now) (a .head) (a .blocks .now) (a .bytes .now) (a .count) p (c .before .before .before .before .before .before .before .before .before .before .before .before .before .before .before .before .before .before .before .before .pre .1 .0) (c .before .before .before .before .before .plan .result .branches) m bs wr tk (take (a .count + m) tk) g refl)))
+    let the-plan = c .before .before .before .before .before .plan in
+    let start = c .before .before .before .before .before .before .before .before .before .before .before .before .before .before .before .before .before .before .before .before in
+    let the-pre = start .pre in
+    let a = start .args in
+    let p = passed (a .s) (a .image .now) (a .map .now) (a .places .now) (a .numbers .now) (a .used .now) (a .head) (a .blocks .now) (a .count) (the-pre .0) in
+    let tk = the-plan .last .1 .1 .1 .1 .1 .1 .1 .1 .1 .1 .0 in
+    let bs = the-plan .last .1 .1 .1 .1 .1 .1 .1 .1 .1 .0 in
+    let wr = the-plan .last .1 .1 .1 .1 .1 .1 .1 .1 .0 in
+    let g = the-plan .ensures in
+    let m = the-plan .result .members in
+    let room = the-plan .kept .1 .1 .1 .1 .1 .1 .1 .1 .1 .1 .0 in
+    let few = few-data (a .s) (a .image .now) (a .map .now) (a .places .now) (a .numbers .now) (a .used .now) (a .head) (a .blocks .now) (a .bytes .now) (a .count) p (the-pre .1 .0) in
+    let high = p .high in (
+      the-pre .1 .1,
+      (
+        ts-enough (a .s) (a .image .now) (a .map .now) (a .places
+            .now) (a .numbers .now) (a .used .now) (a .head) (a .blocks .now) (a .bytes
+            .now) (a .count) p (the-pre .1 .0) (the-plan .result .branches) m bs wr tk (take (a .count + m) tk) g refl,
+        (
+          omega arith,
+          ts-word (a .s) (a .image
+              .now) (a .map .now) (a .places .now) (a .numbers .now) (a .used .now) (a
+              .head) (a .blocks .now) (a .bytes .now) (a .count) p (the-pre .1 .0) (the-plan .result .branches) m bs wr tk (take (a .count + m) tk) g refl,
+        ),
+      ),
+    )
 
 slice-aggregate-carry-out : tie.Need-slice-aggregate-carry-out
 slice-aggregate-carry-out c = search needs
 
 array-share-prefix-taken-2 : tie.Need-array-share-prefix-taken-2
 array-share-prefix-taken-2 c =
-    let a = c .before .before .before .before .before .before .before .before .before .before .before .before .before .before .before .before .before .before .before .before .before .before .before .before .before .before .before .before .args in
-    let p = passed (a .s) (a .image .now) (a .map .now) (a .places .now) (a .numbers .now) (a .used .now) (a .head) (a .blocks .now) (a .count) (c .before .before .before .before .before .before .before .before .before .before .before .before .before .before .before .before .before .before .before .before .before .before .before .before .before .before .before .before .pre .0) in
-    let tk = c .before .before .before .before .before .before .before .before .before .before .before .before .before .plan .last .1 .1 .1 .1 .1 .1 .1 .1 .1 .1 .0 in
-    let bs = c .before .before .before .before .before .before .before .before .before .before .before .before .before .plan .last .1 .1 .1 .1 .1 .1 .1 .1 .1 .0 in
-    let wr = c .before .before .before .before .before .before .before .before .before .before .before .before .before .plan .last .1 .1 .1 .1 .1 .1 .1 .1 .0 in
-    let g = c .before .before .before .before .before .before .before .before .before .before .before .before .before .plan .ensures in
-    let m = c .before .before .before .before .before .before .before .before .before .before .before .before .before .plan .result .members in
-    let room = c .before .before .before .before .before .before .before .before .before .before .before .before .before .plan .kept .1 .1 .1 .1 .1 .1 .1 .1 .1 .1 .0 in
-    let t = total-few (a .s) (a .image .now) (a .map .now) (a .places .now) (a .numbers .now) (a .used .now) (a .head) (a .blocks .now) (a .bytes .now) (a .count) p (c .before .before .before .before .before .before .before .before .before .before .before .before .before .before .before .before .before .before .before .before .before .before .before .before .before .before .before .before .pre .1 .0) (c .before .before .before .before .before .before .before .before .before .before .before .before .before .plan .result .branches) m bs wr tk (take (a .count + m) tk) g refl in
+    let the-plan = c .before .before .before .before .before .before .before .before .before .before .before .before .before .plan in
+    let start = c .before .before .before .before .before .before .before .before .before .before .before .before .before .before .before .before .before .before .before .before .before .before .before .before .before .before .before .before in
+    let the-pre = start .pre in
+    let a = start .args in
+    let p = passed (a .s) (a .image .now) (a .map .now) (a .places .now) (a .numbers .now) (a .used .now) (a .head) (a .blocks .now) (a .count) (the-pre .0) in
+    let tk = the-plan .last .1 .1 .1 .1 .1 .1 .1 .1 .1 .1 .0 in
+    let bs = the-plan .last .1 .1 .1 .1 .1 .1 .1 .1 .1 .0 in
+    let wr = the-plan .last .1 .1 .1 .1 .1 .1 .1 .1 .0 in
+    let g = the-plan .ensures in
+    let m = the-plan .result .members in
+    let room = the-plan .kept .1 .1 .1 .1 .1 .1 .1 .1 .1 .1 .0 in
+    let t = total-few (a .s) (a .image .now) (a .map .now) (a .places .now) (a .numbers .now) (a .used .now) (a .head) (a .blocks .now) (a .bytes .now) (a .count) p (the-pre .1 .0) (the-plan .result .branches) m bs wr tk (take (a .count + m) tk) g refl in
     omega arith
 
 slice-aggregate-carry-out-2 : tie.Need-slice-aggregate-carry-out-2
 slice-aggregate-carry-out-2 c =
-    let a = c .before .before .before .before .before .before .before .before .before .before .before .before .before .before .before .before .before .before .before .before .before .before .before .before .before .before .before .before .before .args in
-    let p = passed (a .s) (a .image .now) (a .map .now) (a .places .now) (a .numbers .now) (a .used .now) (a .head) (a .blocks .now) (a .count) (c .before .before .before .before .before .before .before .before .before .before .before .before .before .before .before .before .before .before .before .before .before .before .before .before .before .before .before .before .before .pre .0) in
-    let tk = c .before .before .before .before .before .before .before .before .before .before .before .before .before .before .plan .last .1 .1 .1 .1 .1 .1 .1 .1 .1 .1 .0 in
-    let bs = c .before .before .before .before .before .before .before .before .before .before .before .before .before .before .plan .last .1 .1 .1 .1 .1 .1 .1 .1 .1 .0 in
-    let wr = c .before .before .before .before .before .before .before .before .before .before .before .before .before .before .plan .last .1 .1 .1 .1 .1 .1 .1 .1 .0 in
-    let g = c .before .before .before .before .before .before .before .before .before .before .before .before .before .before .plan .ensures in
-    let m = c .before .before .before .before .before .before .before .before .before .before .before .before .before .before .plan .result .members in
-    let room = c .before .before .before .before .before .before .before .before .before .before .before .before .before .before .plan .kept .1 .1 .1 .1 .1 .1 .1 .1 .1 .1 .0 in
-    let t = total-few (a .s) (a .image .now) (a .map .now) (a .places .now) (a .numbers .now) (a .used .now) (a .head) (a .blocks .now) (a .bytes .now) (a .count) p (c .before .before .before .before .before .before .before .before .before .before .before .before .before .before .before .before .before .before .before .before .before .before .before .before .before .before .before .before .before .pre .1 .0) (c .before .before .before .before .before .before .before .before .before .before .before .before .before .before .plan .result .branches) m bs wr tk (take (a .count + m) tk) g refl in
+    let the-plan = c .before .before .before .before .before .before .before .before .before .before .before .before .before .before .plan in
+    let start = c .before .before .before .before .before .before .before .before .before .before .before .before .before .before .before .before .before .before .before .before .before .before .before .before .before .before .before .before .before in
+    let the-pre = start .pre in
+    let a = start .args in
+    let p = passed (a .s) (a .image .now) (a .map .now) (a .places .now) (a .numbers .now) (a .used .now) (a .head) (a .blocks .now) (a .count) (the-pre .0) in
+    let tk = the-plan .last .1 .1 .1 .1 .1 .1 .1 .1 .1 .1 .0 in
+    let bs = the-plan .last .1 .1 .1 .1 .1 .1 .1 .1 .1 .0 in
+    let wr = the-plan .last .1 .1 .1 .1 .1 .1 .1 .1 .0 in
+    let g = the-plan .ensures in
+    let m = the-plan .result .members in
+    let room = the-plan .kept .1 .1 .1 .1 .1 .1 .1 .1 .1 .1 .0 in
+    let t = total-few (a .s) (a .image .now) (a .map .now) (a .places .now) (a .numbers .now) (a .used .now) (a .head) (a .blocks .now) (a .bytes .now) (a .count) p (the-pre .1 .0) (the-plan .result .branches) m bs wr tk (take (a .count + m) tk) g refl in
     sym (length-take-le (a .count + m) tk (omega arith))
 
 array-share-prefix-branches : tie.Need-array-share-prefix-branches
@@ -124,35 +156,70 @@ array-share-prefix-branches c = search needs
 
 slice-aggregate-carry-out-3 : tie.Need-slice-aggregate-carry-out-3
 slice-aggregate-carry-out-3 c =
-    let a = c .before .before .before .before .before .before .before .before .before .before .before .before .before .before .before .before .before .before .before .before .before .before .before .before .before .before .before .before .before .before .args in
-    let p = passed (a .s) (a .image .now) (a .map .now) (a .places .now) (a .numbers .now) (a .used .now) (a .head) (a .blocks .now) (a .count) (c .before .before .before .before .before .before .before .before .before .before .before .before .before .before .before .before .before .before .before .before .before .before .before .before .before .before .before .before .before .before .pre .0) in
-    let tk = c .before .before .before .before .before .before .before .before .before .before .before .before .before .before .before .plan .last .1 .1 .1 .1 .1 .1 .1 .1 .1 .1 .0 in
-    let bs = c .before .before .before .before .before .before .before .before .before .before .before .before .before .before .before .plan .last .1 .1 .1 .1 .1 .1 .1 .1 .1 .0 in
-    let wr = c .before .before .before .before .before .before .before .before .before .before .before .before .before .before .before .plan .last .1 .1 .1 .1 .1 .1 .1 .1 .0 in
-    let g = c .before .before .before .before .before .before .before .before .before .before .before .before .before .before .before .plan .ensures in
-    let m = c .before .before .before .before .before .before .before .before .before .before .before .before .before .before .before .plan .result .members in
-    let room = c .before .before .before .before .before .before .before .before .before .before .before .before .before .before .before .plan .kept .1 .1 .1 .1 .1 .1 .1 .1 .1 .1 .0 in
-    let few = g .few in
-    let size = c .before .before .before .before .before .before .before .before .before .before .before .before .before .before .before .plan .kept .1 .1 .1 .1 .1 .1 .1 .1 .1 .0 in
-    sym (length-take-le (c .before .before .before .before .before .before .before .before .before .before .before .before .before .before .before .plan .result .branches) bs (omega arith))
+    let the-plan = c .before .before .before .before .before .before .before .before .before .before .before .before .before .before .before .plan in
+    let bs = the-plan .last .1 .1 .1 .1 .1 .1 .1 .1 .1 .0 in
+    sym (length-take-le (the-plan .result .branches) bs (omega arith))
 
 slice-aggregate-carry-out-4 : tie.Need-slice-aggregate-carry-out-4
 slice-aggregate-carry-out-4 c = search needs
 
 carry-out-requires : tie.Need-carry-out-requires
 carry-out-requires c κs =
-    let a = c .before .before .before .before .before .before .before .before .before .before .before .before .before .before .before .before .before .before .before .before .before .before .before .before .before .before .before .before .before .before .before .args in
-    let p = passed (a .s) (a .image .now) (a .map .now) (a .places .now) (a .numbers .now) (a .used .now) (a .head) (a .blocks .now) (a .count) (c .before .before .before .before .before .before .before .before .before .before .before .before .before .before .before .before .before .before .before .before .before .before .before .before .before .before .before .before .before .before .before .pre .0) in
-    let tk = c .before .before .before .before .before .before .before .before .before .before .before .before .before .before .before .before .plan .last .1 .1 .1 .1 .1 .1 .1 .1 .1 .1 .0 in
-    let bs = c .before .before .before .before .before .before .before .before .before .before .before .before .before .before .before .before .plan .last .1 .1 .1 .1 .1 .1 .1 .1 .1 .0 in
-    let wr = c .before .before .before .before .before .before .before .before .before .before .before .before .before .before .before .before .plan .last .1 .1 .1 .1 .1 .1 .1 .1 .0 in
-    let g = c .before .before .before .before .before .before .before .before .before .before .before .before .before .before .before .before .plan .ensures in
-    let m = c .before .before .before .before .before .before .before .before .before .before .before .before .before .before .before .before .plan .result .members in
-    let room = c .before .before .before .before .before .before .before .before .before .before .before .before .before .before .before .before .plan .kept .1 .1 .1 .1 .1 .1 .1 .1 .1 .1 .0 in
+    let the-entries-for = c .before .before .before .before .before .before .before .before .before .before .entries-for in
+    let the-plan = c .before .before .before .before .before .before .before .before .before .before .before .before .before .before .before .before .plan in
+    let start = c .before .before .before .before .before .before .before .before .before .before .before .before .before .before .before .before .before .before .before .before .before .before .before .before .before .before .before .before .before .before .before in
+    let the-pre = start .pre in
+    let a = start .args in
+    let p = passed (a .s) (a .image .now) (a .map .now) (a .places .now) (a .numbers .now) (a .used .now) (a .head) (a .blocks .now) (a .count) (the-pre .0) in
+    let tk = the-plan .last .1 .1 .1 .1 .1 .1 .1 .1 .1 .1 .0 in
+    let bs = the-plan .last .1 .1 .1 .1 .1 .1 .1 .1 .1 .0 in
+    let wr = the-plan .last .1 .1 .1 .1 .1 .1 .1 .1 .0 in
+    let g = the-plan .ensures in
+    let m = the-plan .result .members in
+    let room = the-plan .kept .1 .1 .1 .1 .1 .1 .1 .1 .1 .1 .0 in
     let few = g .few in
-    let size = c .before .before .before .before .before .before .before .before .before .before .before .before .before .before .before .before .plan .kept .1 .1 .1 .1 .1 .1 .1 .1 .1 .0 in
-    let cut = length-take-le (c .before .before .before .before .before .before .before .before .before .before .before .before .before .before .before .before .plan .result .branches) bs (omega arith) in
-    (p .range, (p .image, (p .map, (p .places, (p .numbers, (p .used, (p .sound-tables, (settling (a .s) (a .image .now) (a .map .now) (a .places .now) (a .numbers .now) (a .used .now) (a .head) (a .blocks .now) (a .bytes .now) (a .count) p (c .before .before .before .before .before .before .before .before .before .before .before .before .before .before .before .before .before .before .before .before .before .before .before .before .before .before .before .before .before .before .before .pre .1 .0) (c .before .before .before .before .before .before .before .before .before .before .before .before .before .before .before .before .plan .result .branches) m bs wr tk (take (a .count + m) tk) g refl (c .before .before .before .before .before .before .before .before .before .before .entries-for .last .1 .1 .1 .0) (c .before .before .before .before .before .before .before .before .before .before .entries-for .ensures) (c .before .before .before .before .before .before .before .before .before .before .before .before .before .before .before .before .plan .kept .1 .1 .1 .1 .1 .1 .1 .1 .0), (members-counted (a .s) (a .image .now) (a .map .now) (a .places .now) (a .numbers .now) (a .used .now) (a .head) (a .blocks .now) (a .bytes .now) (a .count) p (c .before .before .before .before .before .before .before .before .before .before .before .before .before .before .before .before .before .before .before .before .before .before .before .before .before .before .before .before .before .before .before .pre .1 .0) (c .before .before .before .before .before .before .before .before .before .before .before .before .before .before .before .before .plan .result .branches) m bs wr tk (take (a .count + m) tk) g refl (c .before .before .before .before .before .before .before .before .before .before .entries-for .last .1 .1 .1 .0) (c .before .before .before .before .before .before .before .before .before .before .entries-for .ensures), (some-members (a .s) (a .image .now) (a .map .now) (a .places .now) (a .numbers .now) (a .used .now) (a .head) (a .blocks .now) (a .bytes .now) (a .count) p (c .before .before .before .before .before .before .before .before .before .before .before .before .before .before .before .before .before .before .before .before .before .before .before .before .before .before .before .before .before .before .before .pre .1 .0) (c .before .before .before .before .before .before .before .before .before .before .before .before .before .before .before .before .plan .result .branches) m bs wr tk (take (a .count + m) tk) g refl, (omega arith, c .before .before .before .before .before .before .before .before .before .before .before .before .before .before .before .before .before .before .before .before .before .before .before .before .before .before .before .before .before .before .before .pre .1 .1)))))))))))
+    let size = the-plan .kept .1 .1 .1 .1 .1 .1 .1 .1 .1 .0 in
+    let cut = length-take-le (the-plan .result .branches) bs (omega arith) in (
+      p .range,
+      (
+        p .image,
+        (
+          p .map,
+          (
+            p .places,
+            (
+              p .numbers,
+              (
+                p .used,
+                (
+                  p .sound-tables,
+                  (
+                    settling (a .s) (a .image .now) (a .map .now) (a .places .now) (a .numbers
+                        .now) (a .used .now) (a .head) (a .blocks .now) (a .bytes .now) (a .count)
+                        p (the-pre .1 .0) (the-plan .result .branches) m bs wr tk (take (a .count
+                        + m) tk) g refl (the-entries-for .last .1 .1 .1 .0) (the-entries-for .ensures)
+                        (the-plan .kept .1 .1 .1 .1 .1 .1 .1 .1 .0),
+                    (
+                      members-counted (a .s) (a
+                          .image .now) (a .map .now) (a .places .now) (a .numbers .now) (a .used .now)
+                          (a .head) (a .blocks .now) (a .bytes .now) (a .count) p (the-pre .1 .0) (the-plan .result .branches) m bs wr tk (take (a .count + m) tk) g refl
+                          (the-entries-for .last .1 .1 .1 .0) (the-entries-for .ensures),
+                      (
+                        some-members
+                            (a .s) (a .image .now) (a .map .now) (a .places .now) (a .numbers .now)
+                            (a .used .now) (a .head) (a .blocks .now) (a .bytes .now) (a .count) p (the-pre
+                            .1 .0) (the-plan .result .branches) m bs wr tk (take (a .count + m) tk) g refl,
+                        (omega arith, the-pre .1 .1),
+                      ),
+                    ),
+                  ),
+                ),
+              ),
+            ),
+          ),
+        ),
+      ),
+    )
 
 same-length : tie.Need-same-length
 same-length c = search needs
@@ -171,15 +238,27 @@ same-length-5 c = search needs
 
 returns : tie.Need-returns
 returns c =
-    let a = c .before .before .before .before .before .before .before .before .before .before .before .before .before .before .before .before .before .before .before .before .before .before .before .before .before .before .before .before .before .before .before .before .before .before .before .before .before .before .before .before .before .before .args in
-    let p = passed (a .s) (a .image .now) (a .map .now) (a .places .now) (a .numbers .now) (a .used .now) (a .head) (a .blocks .now) (a .count) (c .before .before .before .before .before .before .before .before .before .before .before .before .before .before .before .before .before .before .before .before .before .before .before .before .before .before .before .before .before .before .before .before .before .before .before .before .before .before .before .before .before .before .pre .0) in
-    let tk = c .before .before .before .before .before .before .before .before .before .before .before .before .before .before .before .before .before .before .before .before .before .before .before .before .before .before .before .plan .last .1 .1 .1 .1 .1 .1 .1 .1 .1 .1 .0 in
-    let bs = c .before .before .before .before .before .before .before .before .before .before .before .before .before .before .before .before .before .before .before .before .before .before .before .before .before .before .before .plan .last .1 .1 .1 .1 .1 .1 .1 .1 .1 .0 in
-    let wr = c .before .before .before .before .before .before .before .before .before .before .before .before .before .before .before .before .before .before .before .before .before .before .before .before .before .before .before .plan .last .1 .1 .1 .1 .1 .1 .1 .1 .0 in
-    let g = c .before .before .before .before .before .before .before .before .before .before .before .before .before .before .before .before .before .before .before .before .before .before .before .before .before .before .before .plan .ensures in
-    let m = c .before .before .before .before .before .before .before .before .before .before .before .before .before .before .before .before .before .before .before .before .before .before .before .before .before .before .before .plan .result .members in
-    let room = c .before .before .before .before .before .before .before .before .before .before .before .before .before .before .before .before .before .before .before .before .before .before .before .before .before .before .before .plan .kept .1 .1 .1 .1 .1 .1 .1 .1 .1 .1 .0 in
-    c .before .before .before .before .before .before .before .before .before .before .carry-out .ensures ∙ ap (λ (x : Action). performed (a .allowance) x (memory (a .image .now) (a .map .now) (a .places .now) (a .numbers .now) (a .used .now))) (commit-action (a .s) (a .image .now) (a .map .now) (a .places .now) (a .numbers .now) (a .used .now) (a .head) (a .blocks .now) (a .bytes .now) (a .count) p (c .before .before .before .before .before .before .before .before .before .before .before .before .before .before .before .before .before .before .before .before .before .before .before .before .before .before .before .before .before .before .before .before .before .before .before .before .before .before .before .before .before .before .pre .1 .0) (c .before .before .before .before .before .before .before .before .before .before .before .before .before .before .before .before .before .before .before .before .before .before .before .before .before .before .before .plan .result .branches) m bs wr tk (take (a .count + m) tk) g refl (c .before .before .before .before .before .before .before .before .before .before .before .before .before .before .before .before .before .before .before .before .before .entries-for .last .1 .1 .1 .0) (c .before .before .before .before .before .before .before .before .before .before .before .before .before .before .before .before .before .before .before .before .before .entries-for .ensures))
+    let the-carry-out = c .before .before .before .before .before .before .before .before .before .before .carry-out in
+    let the-entries-for = c .before .before .before .before .before .before .before .before .before .before .before .before .before .before .before .before .before .before .before .before .before .entries-for in
+    let the-plan = c .before .before .before .before .before .before .before .before .before .before .before .before .before .before .before .before .before .before .before .before .before .before .before .before .before .before .before .plan in
+    let the-pre = c .before .before .before .before .before .before .before .before .before .before .before .before .before .before .before .before
+    .before .before .before .before .before .before .before .before .before .before .before .before .before .before .before .before .before .before
+    .before .before .before .before .before .before .before .before .pre in
+    let a = c .before .before .before .before .before .before .before .before .before .before .before .before .before .before .before .before .before
+    .before .before .before .before .before .before .before .before .before .before .before .before .before .before .before .before .before .before
+    .before .before .before .before .before .before .before .args in
+    let p = passed (a .s) (a .image .now) (a .map .now) (a .places .now) (a .numbers .now) (a .used .now) (a .head) (a .blocks .now) (a .count) (the-pre .0) in
+    let tk = the-plan .last .1 .1 .1 .1 .1 .1 .1 .1 .1 .1 .0 in
+    let bs = the-plan .last .1 .1 .1 .1 .1 .1 .1 .1 .1 .0 in
+    let wr = the-plan .last .1 .1 .1 .1 .1 .1 .1 .1 .0 in
+    let g = the-plan .ensures in
+    let m = the-plan .result .members in
+    let room = the-plan .kept .1 .1 .1 .1 .1 .1 .1 .1 .1 .1 .0 in
+    the-carry-out .ensures ∙ ap (λ (x : Action). performed (a .allowance) x (memory (a .image .now) (a .map
+    .now) (a .places .now) (a .numbers .now) (a .used .now))) (commit-action (a .s) (a .image .now) (a .map .now) (a .places .now) (a
+    .numbers .now) (a .used .now) (a .head) (a .blocks .now) (a .bytes .now)
+    (a .count) p (the-pre .1 .0) (the-plan .result .branches) m bs wr tk (take
+    (a .count + m) tk) g refl (the-entries-for .last .1 .1 .1 .0) (the-entries-for .ensures))
 
 pub commit-spec : {M : Type 1} → statement M
 commit-spec =

@@ -49,7 +49,8 @@ distinct-below-returns-2 : (t : ℕ) → distinct-below-lts.Need-returns-2 (
   distinct-below.Post,
 ) (distinct-below-at t) distinct-below.Post
 distinct-below-returns-2 t c =
-    equal-distinct (c .before .before .before .args .xs .now) (c .before .before .before .args .bit) (c .if2 .taken) (c .before .before .before .pre .1 .1) (c .before .if1 .left)
+    let the-args = c .before .before .before .args in
+    equal-distinct (the-args .xs .now) (the-args .bit) (c .if2 .taken) (c .before .before .before .pre .1 .1) (c .before .if1 .left)
 
 distinct-below-sub-part : (t : ℕ) → distinct-below-lts.Need-sub-part (
   part-reads.Asked,
@@ -87,7 +88,8 @@ distinct-below-slice-aggregate-distinct-below :
       distinct-below.Post,
     ) (distinct-below-at t) distinct-below.Post
 distinct-below-slice-aggregate-distinct-below t c =
-    sym (length-take-le (c .before .before .before .part .result) (c .before .before .before .part .last .0) (c .before .before .before .part .ensures .inside))
+    let the-part = c .before .before .before .part in
+    sym (length-take-le (the-part .result) (the-part .last .0) (the-part .ensures .inside))
 
 distinct-below-sub-distinct-below : (t : ℕ) → distinct-below-lts.Need-sub-distinct-below (
   part-reads.Asked,
@@ -105,7 +107,19 @@ distinct-below-distinct-below-requires : (t : ℕ) → distinct-below-lts.Need-d
   distinct-below.Post,
 ) (distinct-below-at t) distinct-below.Post
 distinct-below-distinct-below-requires t c κs =
-    let a = c .before .before .before .before .before .before .before .before .args in let d = c .before .before .before .before .before .if2 .left in let h = c .before .before .before .before .before .before .before .before .pre .1 .0 in let e = c .before .before .before .before .before .before .before .before .pre .0 in (omega arith, (omega arith, front-calls (a .xs .now) (a .bit) (c .before .before .before .part .last .0) (c .before .before .before .part .result) (c .before .before .before .part .ensures) (c .before .before .before .before .before .if2 .left) (c .before .before .before .before .before .before .before .before .pre .1 .1)))
+    let the-part = c .before .before .before .part in
+    let the-if2 = c .before .before .before .before .before .if2 in
+    let start = c .before .before .before .before .before .before .before .before in
+    let the-pre = start .pre in
+    let a = start .args in let d = the-if2 .left in
+    let h = the-pre .1 .0 in let e = the-pre .0 in (
+      omega arith,
+      (
+        omega arith,
+        front-calls (a .xs .now) (a .bit) (the-part .last .0) (the-part .result)
+            (the-part .ensures) (the-if2 .left) (the-pre .1 .1),
+      ),
+    )
 
 distinct-below-same-length : (t : ℕ) → distinct-below-lts.Need-same-length (
   part-reads.Asked,
@@ -114,7 +128,15 @@ distinct-below-same-length : (t : ℕ) → distinct-below-lts.Need-same-length (
   distinct-below.Post,
 ) (distinct-below-at t) distinct-below.Post
 distinct-below-same-length t c =
-    let a = c .before .before .before .before .before .before .before .before .before .before .before .before .args in whole-length (a .xs .now) (a .bit) (c .before .before .before .before .before .before .before .part .last .0) (c .before .before .before .before .before .before .before .part .result) (c .before .before .before .before .before .before .before .part .ensures) (c .before .before .before .before .before .before .before .before .before .if2 .left) (c .before .before .before .before .before .before .before .before .before .before .before .before .pre .1 .1) (c .before .before .before .distinct-below .last .0) (c .before .before .before .distinct-below .kept .0) ∙ c .before .before .before .before .before .before .before .part .kept .0
+    let the-distinct-below = c .before .before .before .distinct-below in
+    let the-part = c .before .before .before .before .before .before .before .part in
+    let a = c .before .before .before .before .before .before .before .before .before .before .before .before .args in whole-length (a .xs .now)
+    (a .bit) (the-part .last .0)
+    (the-part .result)
+    (the-part .ensures)
+    (c .before .before .before .before .before .before .before .before .before .if2 .left)
+    (c .before .before .before .before .before .before .before .before .before .before .before .before .pre .1 .1)
+    (the-distinct-below .last .0) (the-distinct-below .kept .0) ∙ the-part .kept .0
 
 distinct-below-returns-3 : (t : ℕ) → distinct-below-lts.Need-returns-3 (
   part-reads.Asked,
@@ -123,7 +145,15 @@ distinct-below-returns-3 : (t : ℕ) → distinct-below-lts.Need-returns-3 (
   distinct-below.Post,
 ) (distinct-below-at t) distinct-below.Post
 distinct-below-returns-3 t c =
-    let a = c .before .before .before .before .before .before .before .before .before .before .before .before .args in front-decides (a .xs .now) (a .bit) (c .before .before .before .before .before .before .before .part .last .0) (c .before .before .before .before .before .before .before .part .result) (c .before .before .before .before .before .before .before .part .ensures) (c .before .before .before .before .before .before .before .before .before .if2 .left) (c .before .before .before .before .before .before .before .before .before .before .before .before .pre .1 .1) (c .before .before .before .distinct-below .result) (c .before .before .before .distinct-below .ensures) (c .if3 .taken)
+    let the-distinct-below = c .before .before .before .distinct-below in
+    let the-part = c .before .before .before .before .before .before .before .part in
+    let a = c .before .before .before .before .before .before .before .before .before .before .before .before .args in front-decides (a .xs .now)
+    (a .bit) (the-part .last .0)
+    (the-part .result)
+    (the-part .ensures)
+    (c .before .before .before .before .before .before .before .before .before .if2 .left)
+    (c .before .before .before .before .before .before .before .before .before .before .before .before .pre .1 .1)
+    (the-distinct-below .result) (the-distinct-below .ensures) (c .if3 .taken)
 
 distinct-below-mul-distinct-below : (t : ℕ) → distinct-below-lts.Need-mul-distinct-below (
   part-reads.Asked,
@@ -141,7 +171,15 @@ distinct-below-sub-distinct-below-2 : (t : ℕ) → distinct-below-lts.Need-sub-
   distinct-below.Post,
 ) (distinct-below-at t) distinct-below.Post
 distinct-below-sub-distinct-below-2 t c =
-    let a = c .before .before .before .before .before .before .before .before .before .before .before .before .args in let ins = c .before .before .before .before .before .before .before .part .ensures .inside in let f = whole-length (a .xs .now) (a .bit) (c .before .before .before .before .before .before .before .part .last .0) (c .before .before .before .before .before .before .before .part .result) (c .before .before .before .before .before .before .before .part .ensures) (c .before .before .before .before .before .before .before .before .before .if2 .left) (c .before .before .before .before .before .before .before .before .before .before .before .before .pre .1 .1) (c .before .before .before .distinct-below .last .0) (c .before .before .before .distinct-below .kept .0) in omega arith
+    let the-distinct-below = c .before .before .before .distinct-below in
+    let the-part = c .before .before .before .before .before .before .before .part in
+    let a = c .before .before .before .before .before .before .before .before .before .before .before .before .args in let ins = the-part .ensures .inside in let f = whole-length (a .xs .now) (a .bit)
+    (the-part .last .0)
+    (the-part .result)
+    (the-part .ensures)
+    (c .before .before .before .before .before .before .before .before .before .if2 .left)
+    (c .before .before .before .before .before .before .before .before .before .before .before .before .pre .1 .1)
+    (the-distinct-below .last .0) (the-distinct-below .kept .0) in omega arith
 
 distinct-below-part-distinct-below-start :
     (t : ℕ) → distinct-below-lts.Need-part-distinct-below-start (
@@ -151,7 +189,15 @@ distinct-below-part-distinct-below-start :
       distinct-below.Post,
     ) (distinct-below-at t) distinct-below.Post
 distinct-below-part-distinct-below-start t c =
-    let a = c .before .before .before .before .before .before .before .before .before .before .before .before .args in let ins = c .before .before .before .before .before .before .before .part .ensures .inside in let f = whole-length (a .xs .now) (a .bit) (c .before .before .before .before .before .before .before .part .last .0) (c .before .before .before .before .before .before .before .part .result) (c .before .before .before .before .before .before .before .part .ensures) (c .before .before .before .before .before .before .before .before .before .if2 .left) (c .before .before .before .before .before .before .before .before .before .before .before .before .pre .1 .1) (c .before .before .before .distinct-below .last .0) (c .before .before .before .distinct-below .kept .0) in omega arith
+    let the-distinct-below = c .before .before .before .distinct-below in
+    let the-part = c .before .before .before .before .before .before .before .part in
+    let a = c .before .before .before .before .before .before .before .before .before .before .before .before .args in let ins = the-part .ensures .inside in let f = whole-length (a .xs .now) (a .bit)
+    (the-part .last .0)
+    (the-part .result)
+    (the-part .ensures)
+    (c .before .before .before .before .before .before .before .before .before .if2 .left)
+    (c .before .before .before .before .before .before .before .before .before .before .before .before .pre .1 .1)
+    (the-distinct-below .last .0) (the-distinct-below .kept .0) in omega arith
 
 distinct-below-part-distinct-below-end : (t : ℕ) → distinct-below-lts.Need-part-distinct-below-end (
   part-reads.Asked,
@@ -159,8 +205,7 @@ distinct-below-part-distinct-below-end : (t : ℕ) → distinct-below-lts.Need-p
   distinct-below-below t,
   distinct-below.Post,
 ) (distinct-below-at t) distinct-below.Post
-distinct-below-part-distinct-below-end t c =
-    omega arith
+distinct-below-part-distinct-below-end t c = omega arith
 
 distinct-below-sub-distinct-below-3 : (t : ℕ) → distinct-below-lts.Need-sub-distinct-below-3 (
   part-reads.Asked,
@@ -179,7 +224,20 @@ distinct-below-distinct-below-requires-2 :
       distinct-below.Post,
     ) (distinct-below-at t) distinct-below.Post
 distinct-below-distinct-below-requires-2 t c κs =
-    let a = c .before .before .before .before .before .before .before .before .before .before .before .before .before .args in let d = c .before .before .before .before .before .before .before .before .before .before .if2 .left in let h = c .before .before .before .before .before .before .before .before .before .before .before .before .before .pre .1 .0 in let e = c .before .before .before .before .before .before .before .before .before .before .before .before .before .pre .0 in (omega arith, (omega arith, back-calls (a .xs .now) (a .bit) (c .before .before .before .before .before .before .before .before .part .last .0) (c .before .before .before .before .before .before .before .before .part .result) (c .before .before .before .before .before .before .before .before .part .ensures) (c .before .before .before .before .before .before .before .before .before .before .if2 .left) (c .before .before .before .before .before .before .before .before .before .before .before .before .before .pre .1 .1) (c .before .before .before .before .distinct-below .last .0) (c .before .before .before .before .distinct-below .kept .0)))
+    let the-distinct-below = c .before .before .before .before .distinct-below in
+    let the-part = c .before .before .before .before .before .before .before .before .part in
+    let the-if2 = c .before .before .before .before .before .before .before .before .before .before .if2 in
+    let start = c .before .before .before .before .before .before .before .before .before .before .before .before .before in
+    let the-pre = start .pre in
+    let a = start .args in let d = the-if2 .left in let h = the-pre .1 .0 in let e = the-pre .0 in (
+      omega arith,
+      (
+        omega arith,
+        back-calls (a .xs .now) (a .bit) (the-part .last .0) (the-part
+            .result) (the-part .ensures) (the-if2 .left) (the-pre .1
+            .1) (the-distinct-below .last .0) (the-distinct-below .kept .0),
+      ),
+    )
 
 distinct-below-same-length-2 : (t : ℕ) → distinct-below-lts.Need-same-length-2 (
   part-reads.Asked,
@@ -187,8 +245,7 @@ distinct-below-same-length-2 : (t : ℕ) → distinct-below-lts.Need-same-length
   distinct-below-below t,
   distinct-below.Post,
 ) (distinct-below-at t) distinct-below.Post
-distinct-below-same-length-2 t c =
-    search needs
+distinct-below-same-length-2 t c = search needs
 
 distinct-below-returns-4 : (t : ℕ) → distinct-below-lts.Need-returns-4 (
   part-reads.Asked,
@@ -197,7 +254,20 @@ distinct-below-returns-4 : (t : ℕ) → distinct-below-lts.Need-returns-4 (
   distinct-below.Post,
 ) (distinct-below-at t) distinct-below.Post
 distinct-below-returns-4 t c =
-    let a = c .before .before .before .before .before .before .before .before .before .before .before .before .before .before .before .before .args in back-decides (a .xs .now) (a .bit) (c .before .before .before .before .before .before .before .before .before .before .before .part .last .0) (c .before .before .before .before .before .before .before .before .before .before .before .part .result) (c .before .before .before .before .before .before .before .before .before .before .before .part .ensures) (c .before .before .before .before .before .before .before .before .before .before .before .before .before .if2 .left) (c .before .before .before .before .before .before .before .before .before .before .before .before .before .before .before .before .pre .1 .1) (c .before .before .before .before .before .before .before .distinct-below .last .0) (c .before .before .before .before .before .before .before .distinct-below .kept .0) (c .before .before .before .before .before .before .before .distinct-below .result) (c .before .before .distinct-below2 .result) (c .before .before .before .before .before .before .before .distinct-below .ensures) (c .before .before .before .before .if3 .left) (c .before .before .distinct-below2 .ensures)
+    let the-distinct-below2 = c .before .before .distinct-below2 in
+    let the-distinct-below = c .before .before .before .before .before .before .before .distinct-below in
+    let the-part = c .before .before .before .before .before .before .before .before .before .before .before .part in
+    let a = c .before .before .before .before .before .before .before .before .before .before .before .before .before .before .before .before .args in
+    back-decides (a .xs .now) (a .bit) (the-part .last .0)
+    (the-part .result)
+    (the-part .ensures)
+    (c .before .before .before .before .before .before .before .before .before .before .before .before .before .if2 .left)
+    (c .before .before .before .before .before .before .before .before .before .before .before .before .before .before .before .before .pre .1 .1)
+    (the-distinct-below .last .0)
+    (the-distinct-below .kept .0)
+    (the-distinct-below .result) (the-distinct-below2 .result)
+    (the-distinct-below .ensures) (c .before .before .before .before .if3 .left)
+    (the-distinct-below2 .ensures)
 
 pub +distinct-below-spec : {M : Type 1} → statement M
 +distinct-below-spec = close μ-distinct-below λ t. distinct-below-lts.spec (

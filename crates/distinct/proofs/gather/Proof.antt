@@ -15,63 +15,45 @@ abbrev μ-sectors : tie.MeasureT-sectors
 μ-sectors image n marks xs₀ from₀ k₀ xs from k = n - k
 
 sectors-holds : tie.Need-sectors-holds Inv-sectors μ-sectors
-sectors-holds c = let a = c .before .before .before .args in (omega arith, gathering-none (numberAt (bitAt (a .marks .now)) (sectorAt (a .image .now))) (a .xs .now))
+sectors-holds c = (omega arith, gathering-none (numberAt _ _) _)
 
 number-at-requires : tie.Need-number-at-requires Inv-sectors μ-sectors
-number-at-requires c κs = let t = c .sectors-test .taken in let e = c .before .before .before .before .before .pre .0 in let m = c .before .before .before .before .before .pre .1 .0 in (omega arith, omega arith)
+number-at-requires c κs =
+    (omega arith, omega arith)
 
 add-k : tie.Need-add-k Inv-sectors μ-sectors
-add-k c = let t = c .before .before .sectors-test .taken in omega arith
+add-k c = omega arith
 
 sectors-less : tie.Need-sectors-less Inv-sectors μ-sectors
-sectors-less c = let t = c .before .before .sectors-test .taken in omega arith
+sectors-less c = omega arith
 
 sectors-again : tie.Need-sectors-again Inv-sectors μ-sectors
 sectors-again c =
-    let a = c .before .before .before .before .before .before .before .args in
+    let the-number-at = c .before .number-at in
     let l = c .before .before .before .sectors in
-    let t = c .before .before .sectors-test .taken in
-    (omega arith, gathering-skips (numberAt (bitAt (a .marks .now)) (sectorAt (a .image .now))) (a .xs .now) (l .xs) (l .from) (l .k) (c .before .number-at .result) (c .before .number-at .ensures) (c .if1 .taken) (l .inv .1))
+    (omega arith, gathering-skips (numberAt _ _) _ (l .xs) (l .from) (l .k) (the-number-at .result) (the-number-at .ensures) (c .if1 .taken) (l .inv .1))
 
 sub-from : tie.Need-sub-from Inv-sectors μ-sectors
-sub-from c =
-    let t = c .before .before .sectors-test .taken in
-    let r = c .before .before .before .sectors .inv .1 .room in
-    let h = c .before .before .before .before .before .before .before .pre .1 .1 in
-    omega arith
+sub-from c = omega arith
 
 mul-xs : tie.Need-mul-xs Inv-sectors μ-sectors
-mul-xs c =
-    let t = c .before .before .sectors-test .taken in
-    let r = c .before .before .before .sectors .inv .1 .room in
-    let o = c .before .before .before .sectors .inv .1 .inside in
-    let n = c .before .before .before .sectors .inv .1 .long in
-    let h = c .before .before .before .before .before .before .before .pre .1 .1 in
-    omega arith
+mul-xs c = omega arith
 
 slice-write-xs : tie.Need-slice-write-xs Inv-sectors μ-sectors
-slice-write-xs c =
-    let t = c .before .before .sectors-test .taken in
-    let r = c .before .before .before .sectors .inv .1 .room in
-    let o = c .before .before .before .sectors .inv .1 .inside in
-    let n = c .before .before .before .sectors .inv .1 .long in
-    let h = c .before .before .before .before .before .before .before .pre .1 .1 in
-    omega arith
+slice-write-xs c = omega arith
 
 add-k-2 : tie.Need-add-k-2 Inv-sectors μ-sectors
-add-k-2 c = let t = c .before .before .sectors-test .taken in omega arith
+add-k-2 c = omega arith
 
 sectors-less-2 : tie.Need-sectors-less-2 Inv-sectors μ-sectors
-sectors-less-2 c = let t = c .before .before .sectors-test .taken in omega arith
+sectors-less-2 c = omega arith
 
 sectors-again-2 : tie.Need-sectors-again-2 Inv-sectors μ-sectors
 sectors-again-2 c =
-    let a = c .before .before .before .before .before .before .before .args in
-    let l = c .before .before .before .sectors in
-    let t = c .before .before .sectors-test .taken in
-    let h = c .before .before .before .before .before .before .before .pre .1 .1 in (
+    let the-number-at = c .before .number-at in
+    let l = c .before .before .before .sectors in (
       omega arith,
-      gathering-more (numberAt (bitAt (a .marks .now)) (sectorAt (a .image .now))) (a .xs .now) (l .xs) (l .from) (l .k) (c .before .number-at .result) (c .before .number-at .ensures) (c .if1 .left) (omega arith) (l .inv .1),
+      gathering-more (numberAt _ _) _ (l .xs) (l .from) (l .k) (the-number-at .result) (the-number-at .ensures) (c .if1 .left) (omega arith) (l .inv .1),
     )
 
 same-length : tie.Need-same-length Inv-sectors μ-sectors

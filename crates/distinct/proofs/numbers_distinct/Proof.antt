@@ -30,7 +30,9 @@ words-distinct-requires : tie.Need-words-distinct-requires
 words-distinct-requires c κs = search needs
 
 returns : tie.Need-returns
-returns c = c .before .words-distinct .ensures ∙ ap distinct (lent-end _ 65536 (c .before .before .before .before .gather .result) (c .before .before .before .before .gather .kept .1 .1 .1 .0 ∙ length-replicate {A = ℕ} 65536 0) (c .before .before .before .before .gather .ensures .0) ∙ c .before .before .before .before .gather .ensures .1)
+returns c =
+    let the-gather = c .before .before .before .before .gather in
+    c .before .words-distinct .ensures ∙ ap distinct (lent-end _ 65536 (the-gather .result) (the-gather .kept .1 .1 .1 .0 ∙ length-replicate {A = ℕ} 65536 0) (the-gather .ensures .0) ∙ the-gather .ensures .1)
 
 pub numbers-distinct-spec : {M : Type 1} → statement M
 numbers-distinct-spec =

@@ -13,7 +13,7 @@ abbrev μ-numbers : tie.MeasureT-numbers
 μ-numbers xs₀ bit m₀ i₀ xs m i = length xs₀ - i
 
 numbers-holds : tie.Need-numbers-holds Inv-numbers μ-numbers
-numbers-holds c = let a = c .before .args in parting-none (a .xs .now) (a .bit)
+numbers-holds c = parting-none _ _
 
 mul-if1 : tie.Need-mul-if1 Inv-numbers μ-numbers
 mul-if1 c = let t = c .numbers-test .taken in omega arith
@@ -22,46 +22,49 @@ slice-read-if1 : tie.Need-slice-read-if1 Inv-numbers μ-numbers
 slice-read-if1 c = c .before .numbers-test .taken
 
 shr-if1 : tie.Need-shr-if1 Inv-numbers μ-numbers
-shr-if1 c = let t = c .before .before .before .before .pre in omega arith
+shr-if1 c = omega arith
 
 add-i : tie.Need-add-i Inv-numbers μ-numbers
-add-i c = let t = c .before .before .numbers-test .taken in omega arith
+add-i c = omega arith
 
 numbers-less : tie.Need-numbers-less Inv-numbers μ-numbers
-numbers-less c = let t = c .before .before .numbers-test .taken in let e = c .before .before .before .numbers .inv .long in omega arith
+numbers-less c = omega arith
 
 numbers-again : tie.Need-numbers-again Inv-numbers μ-numbers
 numbers-again c =
-    let a = c .before .before .before .before .before .args in
+    let the-numbers-test = c .before .before .numbers-test in
     let l = c .before .before .before .numbers in
-    parting-set (a .xs .now) (a .bit) (l .xs) (l .m) (l .i) (l .inv) (c .before .before .numbers-test .taken) (c .if1 .taken)
+    parting-set _ _ (l .xs) (l .m) (l .i) (l .inv) (the-numbers-test .taken) (c .if1 .taken)
 
 swap-requires : tie.Need-swap-requires Inv-numbers μ-numbers
-swap-requires c κs = let t = c .before .before .before .numbers-test .taken in let o = c .before .before .before .before .numbers .inv .order in (omega arith, t)
+swap-requires c κs =
+    let the-numbers-test = c .before .before .before .numbers-test in
+    let t = the-numbers-test .taken in (omega arith, t)
 
 add-m : tie.Need-add-m Inv-numbers μ-numbers
-add-m c = let t = c .before .before .before .before .before .before .numbers-test .taken in let o = c .before .before .before .before .before .before .before .numbers .inv .order in omega arith
+add-m c = omega arith
 
 add-i-2 : tie.Need-add-i-2 Inv-numbers μ-numbers
-add-i-2 c = let t = c .before .before .before .before .before .before .numbers-test .taken in omega arith
+add-i-2 c = omega arith
 
 numbers-less-2 : tie.Need-numbers-less-2 Inv-numbers μ-numbers
-numbers-less-2 c = let t = c .before .before .before .before .before .before .numbers-test .taken in let e = c .before .before .before .before .before .before .before .numbers .inv .long in omega arith
+numbers-less-2 c = omega arith
 
 numbers-again-2 : tie.Need-numbers-again-2 Inv-numbers μ-numbers
 numbers-again-2 c =
-    let a = c .before .before .before .before .before .before .before .before .before .args in
+    let the-swap = c .before .before .swap in
+    let the-if1 = c .before .before .before .before .if1 in
+    let the-numbers-test = c .before .before .before .before .before .before .numbers-test in
     let l = c .before .before .before .before .before .before .before .numbers in
-    parting-clear (a .xs .now) (a .bit) (l .xs) (l .m) (l .i) (l .inv) (c .before .before .before .before .before .before .numbers-test .taken) (c .before .before .before .before .if1 .left) _ (c .before .before .swap .ensures)
+    parting-clear _ _ (l .xs) (l .m) (l .i) (l .inv) (the-numbers-test .taken) (the-if1 .left) _ (the-swap .ensures)
 
 same-length : tie.Need-same-length Inv-numbers μ-numbers
 same-length c = c .before .numbers .inv .long
 
 returns : tie.Need-returns Inv-numbers μ-numbers
 returns c =
-    let a = c .before .before .before .args in
     let l = c .before .numbers in
-    parting-ends (a .xs .now) (a .bit) (l .xs) (l .m) (l .i) (l .inv) (c .numbers-test .left)
+    parting-ends _ _ (l .xs) (l .m) (l .i) (l .inv) (c .numbers-test .left)
 
 pub part-spec : {M : Type 1} → statement M
 part-spec =

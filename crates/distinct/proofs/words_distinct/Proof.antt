@@ -6,13 +6,19 @@ use Rattle.distinct.proofs.words_distinct.Statement.{statement}
 use Rattle.distinct.proofs.words_distinct.Tie as tie
 
 distinct-below-requires : tie.Need-distinct-below-requires
-distinct-below-requires c κs = (omega arith, words-agree (c .before .before .args .xs .now) (λ i. (c .before .slice-known .given i) .fits))
+distinct-below-requires c κs =
+    let the-args = c .before .before .args in
+    (omega arith, words-agree (the-args .xs .now) (λ i. (c .before .slice-known .given i) .fits))
 
 same-length : tie.Need-same-length
-same-length c = c .before .before .distinct-below .kept .0
+same-length c =
+    let the-distinct-below = c .before .before .distinct-below in
+    the-distinct-below .kept .0
 
 returns : tie.Need-returns
-returns c = c .before .before .distinct-below .ensures
+returns c =
+    let the-distinct-below = c .before .before .distinct-below in
+    the-distinct-below .ensures
 
 pub words-distinct-spec : {M : Type 1} → statement M
 words-distinct-spec = tie.close (tie.spec distinct-below-requires same-length returns)

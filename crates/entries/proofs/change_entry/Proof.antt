@@ -13,8 +13,7 @@ piece-of-requires c κs = search needs
 
 returns : tie.Need-returns
 returns c =
-    let a = c .before .before .before .args in
-    λ f e. entry-elsewhere (a .l) (a .b) (a .entry) (a .p) f (a .entries .now) (λ z. c .if1 .taken (c .before .piece-of .ensures ∙ z)) e
+    λ f e. entry-elsewhere _ _ _ _ f _ (λ z. c .if1 .taken (c .before .piece-of .ensures ∙ z)) e
 
 index-of-requires : tie.Need-index-of-requires
 index-of-requires c κs = search needs
@@ -33,8 +32,10 @@ same-length c = search needs
 
 returns-2 : tie.Need-returns-2
 returns-2 c =
+    let the-piece-of = c .before .before .piece-of in
+    let the-pre = c .before .before .before .before .pre in
     let a = c .before .before .before .before .args in
-    λ f e. ap (λ x. set (a .entries .now) x (a .entry)) (c .index-of .ensures) ∙ entry-here (a .l) (a .b) (a .entry) (a .p) f (a .entries .now) (sym (c .before .before .piece-of .ensures) ∙ c .before .if1 .left) (c .before .before .before .before .pre .1) e
+    λ f e. ap (λ x. set (a .entries .now) x (a .entry)) (c .index-of .ensures) ∙ entry-here (a .l) (a .b) (a .entry) (a .p) f (a .entries .now) (sym (the-piece-of .ensures) ∙ c .before .if1 .left) (the-pre .1) e
 
 pub change-entry-spec : {M : Type 1} → statement M
 change-entry-spec =

@@ -19,46 +19,54 @@ abbrev μ-loop : tie.MeasureT-loop
 μ-loop map l p blocks news entries₀ i₀ entries i = length blocks - i
 
 copy-piece-requires : tie.Need-copy-piece-requires Inv-loop μ-loop
-copy-piece-requires c κs = (c .before .before .before .before .before .pre .1 .0, c .before .before .before .before .before .pre .1 .1 .1 .0)
+copy-piece-requires c κs =
+    let the-pre = c .before .before .before .before .before .pre in
+    (the-pre .1 .0, the-pre .1 .1 .1 .0)
 
 loop-holds : tie.Need-loop-holds Inv-loop μ-loop
 loop-holds c =
-    let a = c .before .before .before .before .before .before .before .before .args in
-    (omega arith, c .before .before .copy-piece .kept .1 .1 .0 ∙ c .before .before .before .before .before .before .before .before .pre .1 .1 .1 .0, changes-none (a .l) (a .p) (a .map .now) (a .blocks .now) (a .news .now) _ (c .before .before .before .before .before .before .before .before .pre .0) (c .before .before .copy-piece .ensures))
+    let the-copy-piece = c .before .before .copy-piece in
+    let start = c .before .before .before .before .before .before .before .before in
+    let the-pre = start .pre in
+    let a = start .args in
+    (omega arith, the-copy-piece .kept .1 .1 .0 ∙ the-pre .1 .1 .1 .0, changes-none (a .l) (a .p) (a .map .now) (a .blocks .now) (a .news .now) _ (the-pre .0) (the-copy-piece .ensures))
 
 mul-change-entry : tie.Need-mul-change-entry Inv-loop μ-loop
 mul-change-entry c = search needs
 
 shared-slice-read-change-entry : tie.Need-shared-slice-read-change-entry Inv-loop μ-loop
-shared-slice-read-change-entry c = let t = c .before .before .loop-test .taken in omega arith
+shared-slice-read-change-entry c = omega arith
 
 mul-change-entry-2 : tie.Need-mul-change-entry-2 Inv-loop μ-loop
 mul-change-entry-2 c = search needs
 
 shared-slice-read-change-entry-2 : tie.Need-shared-slice-read-change-entry-2 Inv-loop μ-loop
-shared-slice-read-change-entry-2 c =
-    let t = c .before .before .before .loop-test .taken in
-    let h = c .before .before .before .before .before .before .before .before .before .before .before .before .before .pre .1 .1 .0 in
-    omega arith
+shared-slice-read-change-entry-2 c = omega arith
 
 change-entry-requires : tie.Need-change-entry-requires Inv-loop μ-loop
-change-entry-requires c κs = (c .before .before .before .before .loop .inv .1, c .before .before .before .before .before .before .before .before .before .before .before .before .before .pre .1 .1 .1 .1 (c .before .before .before .before .loop .i) (c .before .before .before .loop-test .taken))
+change-entry-requires c κs =
+    let the-loop-test = c .before .before .before .loop-test in
+    let the-loop = c .before .before .before .before .loop in
+    let the-pre = c .before .before .before .before .before .before .before .before .before .before .before .before .before .pre in
+    (the-loop .inv .1, the-pre .1 .1 .1 .1 (the-loop .i) (the-loop-test .taken))
 
 add-i : tie.Need-add-i Inv-loop μ-loop
-add-i c = let t = c .before .before .before .before .before .before .loop-test .taken in omega arith
+add-i c = omega arith
 
 loop-less : tie.Need-loop-less Inv-loop μ-loop
-loop-less c = let t = c .before .before .before .before .before .before .loop-test .taken in omega arith
+loop-less c = omega arith
 
 loop-again : tie.Need-loop-again Inv-loop μ-loop
 loop-again c =
+    let the-change-entry = c .before .before .change-entry in
     let a = c .before .before .before .before .before .before .before .before .before .before .before .before .before .before .before .before .args in
     let l = c .before .before .before .before .before .before .before .loop in
-    let t = c .before .before .before .before .before .before .loop-test .taken in
-    (omega arith, c .before .before .change-entry .kept .0 ∙ l .inv .1, changes-more (a .l) (a .p) (l .i) (a .map .now) (a .blocks .now) (a .news .now) _ (c .before .before .change-entry .ensures (updates (at (a .map .now)) (at (a .blocks .now)) (at (a .news .now)) (l .i)) (l .inv .2)))
+    (omega arith, the-change-entry .kept .0 ∙ l .inv .1, changes-more (a .l) (a .p) (l .i) (a .map .now) (a .blocks .now) (a .news .now) _ (the-change-entry .ensures (updates (at (a .map .now)) (at (a .blocks .now)) (at (a .news .now)) (l .i)) (l .inv .2)))
 
 same-length : tie.Need-same-length Inv-loop μ-loop
-same-length c = c .before .loop .inv .1 ∙ sym (c .before .before .before .before .before .before .before .before .before .before .pre .1 .1 .1 .0)
+same-length c =
+    let the-pre = c .before .before .before .before .before .before .before .before .before .before .pre in
+    c .before .loop .inv .1 ∙ sym (the-pre .1 .1 .1 .0)
 
 returns : tie.Need-returns Inv-loop μ-loop
 returns c =

@@ -9,46 +9,53 @@ use Rattle.laws.proofs.Filling.{Filled, filled-none, filled-length, filled-more
 use Rattle.entries.proofs.EntryLaws.{piece-copied}
 use Rattle.entries.proofs.copy_piece.Statement.{statement}
 use Rattle.entries.proofs.copy_piece.Tie as tie
-use Rattle.entries.proofs.entry_of.Reads as entry-of-reads
 
 abbrev Inv-loop : tie.InvT-loop
-Inv-loop map p entries₀ i₀ entries i = (i ≤ 96) × Filled (λ k. at map (96 * p + k)) entries₀ i entries
+Inv-loop map p entries₀ first i₀ entries i = (i ≤ 96) × Filled (λ k. at map (96 * p + k)) entries₀ i entries
 
 abbrev μ-loop : tie.MeasureT-loop
-μ-loop map p entries₀ i₀ entries i = 96 - i
+μ-loop map p entries₀ first i₀ entries i = 96 - i
+
+mul-first : tie.Need-mul-first Inv-loop μ-loop
+mul-first c = omega arith
+
+cast-first : tie.Need-cast-first Inv-loop μ-loop
+cast-first c = omega arith
 
 loop-holds : tie.Need-loop-holds Inv-loop μ-loop
 loop-holds c =
     let a = c .before .before .args in
     (omega arith, filled-none (λ k. at (a .map .now) (96 * a .p + k)) (a .entries .now))
 
+add-entry-of : tie.Need-add-entry-of Inv-loop μ-loop
+add-entry-of c = omega arith
+
 entry-of-requires : tie.Need-entry-of-requires Inv-loop μ-loop
-entry-of-requires c κs = (c .before .before .before .before .pre .0, c .loop-test .taken)
+entry-of-requires c κs = search needs
 
 mul-entries : tie.Need-mul-entries Inv-loop μ-loop
 mul-entries c = search needs
 
 slice-write-entries : tie.Need-slice-write-entries Inv-loop μ-loop
 slice-write-entries c =
+    let the-pre = c .before .before .before .before .before .pre in
     let a = c .before .before .before .before .before .args in
     let l = c .before .before .loop in
     let e = filled-length (λ k. at (a .map .now) (96 * a .p + k)) (a .entries .now) (l .i) (l .entries) (l .inv .1) in
-    let h = c .before .before .before .before .before .pre .1 in
+    let h = the-pre .1 in
     let t = c .before .loop-test .taken in
     omega arith
 
 add-i : tie.Need-add-i Inv-loop μ-loop
-add-i c = let t = c .before .loop-test .taken in omega arith
+add-i c = omega arith
 
 loop-less : tie.Need-loop-less Inv-loop μ-loop
-loop-less c = let t = c .before .loop-test .taken in omega arith
+loop-less c = omega arith
 
 loop-again : tie.Need-loop-again Inv-loop μ-loop
 loop-again c =
     let a = c .before .before .before .before .before .args in
     let l = c .before .before .loop in
-    let t = c .before .loop-test .taken in
-    let h = c .before .before .before .before .before .pre .1 in
     let g : ℕ → ℕ = (λ k. at (a .map .now) (96 * a .p + k)) in
     (omega arith, subst (λ (x : ℕ). Filled g (a .entries .now) (l .i + 1) (set (l .entries) (l .i) x)) (sym (c .entry-of .ensures)) (filled-more g (a .entries .now) (l .i) (l .entries) (omega arith) (l .inv .1)))
 
@@ -60,10 +67,11 @@ same-length c =
 
 returns : tie.Need-returns Inv-loop μ-loop
 returns c =
+    let the-pre = c .before .before .before .before .pre in
     let a = c .before .before .before .before .args in
     let l = c .before .loop in
     let t = c .loop-test .left in
-    let h = c .before .before .before .before .pre .1 in
+    let h = the-pre .1 in
     filled-all (λ k. at (a .map .now) (96 * a .p + k)) (a .entries .now) (l .i) (l .entries) (omega arith) (l .inv .1) ∙ ap (listFrom (λ k. at (a .map .now) (96 * a .p + k)) 0) h ∙ piece-copied (a .map .now) (a .p)
 
 pub copy-piece-spec : {M : Type 1} → statement M
@@ -72,7 +80,10 @@ copy-piece-spec =
     (tie.spec
     Inv-loop
     μ-loop
+    mul-first
+    cast-first
     loop-holds
+    add-entry-of
     entry-of-requires
     mul-entries
     slice-write-entries

@@ -25,49 +25,49 @@ loop-holds c =
     (omega arith, filled-none (λ i. entryFor (sectorAt (a .bytes .now) i) (at (a .places .now) i)) (a .entries .now))
 
 sector-requires : tie.Need-sector-requires Inv-loop μ-loop
-sector-requires c κs =
-    let e = c .before .before .before .before .before .pre .0 in
-    let t = c .loop-test .taken in
-    omega arith
+sector-requires c κs = omega arith
 
 mul-entry-for : tie.Need-mul-entry-for Inv-loop μ-loop
 mul-entry-for c = search needs
 
 shared-slice-read-entry-for : tie.Need-shared-slice-read-entry-for Inv-loop μ-loop
-shared-slice-read-entry-for c =
-    let h = c .before .before .before .before .before .before .before .pre .1 .0 in
-    let t = c .before .before .loop-test .taken in
-    omega arith
+shared-slice-read-entry-for c = omega arith
 
 entry-for-requires : tie.Need-entry-for-requires Inv-loop μ-loop
-entry-for-requires c κs = c .before .before .before .before .before .before .before .pre .1 .1 .1 (c .before .before .before .loop .i) (c .before .before .loop-test .taken)
+entry-for-requires c κs =
+    let the-loop-test = c .before .before .loop-test in
+    let the-loop = c .before .before .before .loop in
+    let the-pre = c .before .before .before .before .before .before .before .pre in
+    the-pre .1 .1 .1 (the-loop .i) (the-loop-test .taken)
 
 mul-entries : tie.Need-mul-entries Inv-loop μ-loop
 mul-entries c = search needs
 
 slice-write-entries : tie.Need-slice-write-entries Inv-loop μ-loop
 slice-write-entries c =
-    let a = c .before .before .before .before .before .before .before .before .args in
+    let the-loop-test = c .before .before .before .loop-test in
+    let start = c .before .before .before .before .before .before .before .before in
+    let the-pre = start .pre in
+    let a = start .args in
     let l = c .before .before .before .before .loop in
     let e = filled-length (λ i. entryFor (sectorAt (a .bytes .now) i) (at (a .places .now) i)) (a .entries .now) (l .i) (l .entries) (l .inv .1) in
-    let h = c .before .before .before .before .before .before .before .before .pre .1 .1 .0 in
-    let t = c .before .before .before .loop-test .taken in
+    let h = the-pre .1 .1 .0 in
+    let t = the-loop-test .taken in
     omega arith
 
 add-i : tie.Need-add-i Inv-loop μ-loop
-add-i c = let t = c .before .before .before .loop-test .taken in omega arith
+add-i c = omega arith
 
 loop-less : tie.Need-loop-less Inv-loop μ-loop
-loop-less c = let t = c .before .before .before .loop-test .taken in omega arith
+loop-less c = omega arith
 
 loop-again : tie.Need-loop-again Inv-loop μ-loop
 loop-again c =
+    let the-sector = c .before .before .sector in
     let a = c .before .before .before .before .before .before .before .before .args in
     let l = c .before .before .before .before .loop in
-    let t = c .before .before .before .loop-test .taken in
-    let h = c .before .before .before .before .before .before .before .before .pre .1 .1 .0 in
     let g : ℕ → ℕ = (λ i. entryFor (sectorAt (a .bytes .now) i) (at (a .places .now) i)) in
-    let here : c .entry-for .result ≡ g (l .i) = c .entry-for .ensures ∙ ap (λ (x : List ℕ). entryFor x (at (a .places .now) (l .i))) (c .before .before .sector .ensures) in
+    let here : c .entry-for .result ≡ g (l .i) = c .entry-for .ensures ∙ ap (λ (x : List ℕ). entryFor x (at (a .places .now) (l .i))) (the-sector .ensures) in
     (omega arith, subst (λ (x : ℕ). Filled g (a .entries .now) (l .i + 1) (set (l .entries) (l .i) x)) (sym here) (filled-more g (a .entries .now) (l .i) (l .entries) (omega arith) (l .inv .1)))
 
 same-length : tie.Need-same-length Inv-loop μ-loop

@@ -19,56 +19,47 @@ loop-holds : tie.Need-loop-holds Inv-loop μ-loop
 loop-holds c = filled-none _ _
 
 cast-words : tie.Need-cast-words Inv-loop μ-loop
-cast-words c =
-    let e = filled-length (λ k. k + 1) (c .before .before .args .words .now) (c .before .loop .i) (c .before .loop .words) (c .before .loop .inv) in
-    let t = c .loop-test .taken in
-    omega arith
+cast-words c = omega arith
 
 add-words : tie.Need-add-words Inv-loop μ-loop
-add-words c =
-    let e = filled-length (λ k. k + 1) (c .before .before .args .words .now) (c .before .loop .i) (c .before .loop .words) (c .before .loop .inv) in
-    let t = c .loop-test .taken in
-    omega arith
+add-words c = omega arith
 
 mul-words : tie.Need-mul-words Inv-loop μ-loop
-mul-words c =
-    let e = filled-length (λ k. k + 1) (c .before .before .args .words .now) (c .before .loop .i) (c .before .loop .words) (c .before .loop .inv) in
-    let t = c .loop-test .taken in
-    omega arith
+mul-words c = omega arith
 
 slice-write-words : tie.Need-slice-write-words Inv-loop μ-loop
-slice-write-words c =
-    let e = filled-length (λ k. k + 1) (c .before .before .args .words .now) (c .before .loop .i) (c .before .loop .words) (c .before .loop .inv) in
-    let t = c .loop-test .taken in
-    omega arith
+slice-write-words c = omega arith
 
 add-i : tie.Need-add-i Inv-loop μ-loop
-add-i c =
-    let e = filled-length (λ k. k + 1) (c .before .before .args .words .now) (c .before .loop .i) (c .before .loop .words) (c .before .loop .inv) in
-    let t = c .loop-test .taken in
-    omega arith
+add-i c = omega arith
 
 loop-less : tie.Need-loop-less Inv-loop μ-loop
 loop-less c =
-    let e = filled-length (λ k. k + 1) (c .before .before .args .words .now) (c .before .loop .i) (c .before .loop .words) (c .before .loop .inv) in
+    let the-loop = c .before .loop in
+    let e = filled-length (λ k. k + 1) _ (the-loop .i) (the-loop .words) (the-loop .inv) in
     let t = c .loop-test .taken in
     omega arith
 
 loop-again : tie.Need-loop-again Inv-loop μ-loop
 loop-again c =
-    let e = filled-length (λ k. k + 1) (c .before .before .args .words .now) (c .before .loop .i) (c .before .loop .words) (c .before .loop .inv) in
+    let the-loop = c .before .loop in
+    let e = filled-length (λ k. k + 1) _ (the-loop .i) (the-loop .words) (the-loop .inv) in
     let t = c .loop-test .taken in
-    filled-more (λ k. k + 1) (c .before .before .args .words .now) (c .before .loop .i) (c .before .loop .words) (omega arith) (c .before .loop .inv)
+    filled-more (λ k. k + 1) _ (the-loop .i) (the-loop .words) (omega arith) (the-loop .inv)
 
 same-length : tie.Need-same-length Inv-loop μ-loop
-same-length c = filled-length (λ k. k + 1) (c .before .before .args .words .now) (c .before .loop .i) (c .before .loop .words) (c .before .loop .inv)
+same-length c =
+    let the-loop = c .before .loop in
+    filled-length (λ k. k + 1) _ (the-loop .i) (the-loop .words) (the-loop .inv)
 
 returns : tie.Need-returns Inv-loop μ-loop
 returns c =
-    let e = filled-length (λ k. k + 1) (c .before .before .args .words .now) (c .before .loop .i) (c .before .loop .words) (c .before .loop .inv) in
+    let the-loop = c .before .loop in
+    let the-args = c .before .before .args in
+    let e = filled-length (λ k. k + 1) (the-args .words .now) (the-loop .i) (the-loop .words) (the-loop .inv) in
     let t = c .loop-test .left in
-    filled-all (λ k. k + 1) (c .before .before .args .words .now) (c .before .loop .i) (c .before .loop .words) (omega arith) (c .before .loop .inv)
-    ∙ ap (λ (f : ℕ → ℕ). listFrom f 0 (length (c .before .before .args .words .now))) (fun-ext add-one)
+    filled-all (λ k. k + 1) (the-args .words .now) (the-loop .i) (the-loop .words) (omega arith) (the-loop .inv)
+    ∙ ap (λ (f : ℕ → ℕ). listFrom f 0 (length (the-args .words .now))) (fun-ext add-one)
 
 pub count-up-spec : {M : Type 1} → statement M
 count-up-spec =

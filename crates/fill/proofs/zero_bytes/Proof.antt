@@ -17,37 +17,36 @@ loop-holds : tie.Need-loop-holds Inv-loop μ-loop
 loop-holds c = filled-none _ _
 
 slice-write-bytes : tie.Need-slice-write-bytes Inv-loop μ-loop
-slice-write-bytes c =
-    let e = filled-length (λ _. 0) (c .before .before .args .bytes .now) (c .before .loop .i) (c .before .loop .bytes) (c .before .loop .inv) in
-    let t = c .loop-test .taken in
-    omega arith
+slice-write-bytes c = omega arith
 
 add-i : tie.Need-add-i Inv-loop μ-loop
-add-i c =
-    let e = filled-length (λ _. 0) (c .before .before .args .bytes .now) (c .before .loop .i) (c .before .loop .bytes) (c .before .loop .inv) in
-    let t = c .loop-test .taken in
-    omega arith
+add-i c = omega arith
 
 loop-less : tie.Need-loop-less Inv-loop μ-loop
 loop-less c =
-    let e = filled-length (λ _. 0) (c .before .before .args .bytes .now) (c .before .loop .i) (c .before .loop .bytes) (c .before .loop .inv) in
+    let the-loop = c .before .loop in
+    let e = filled-length (λ _. 0) _ (the-loop .i) (the-loop .bytes) (the-loop .inv) in
     let t = c .loop-test .taken in
     omega arith
 
 loop-again : tie.Need-loop-again Inv-loop μ-loop
 loop-again c =
-    let e = filled-length (λ _. 0) (c .before .before .args .bytes .now) (c .before .loop .i) (c .before .loop .bytes) (c .before .loop .inv) in
+    let the-loop = c .before .loop in
+    let e = filled-length (λ _. 0) _ (the-loop .i) (the-loop .bytes) (the-loop .inv) in
     let t = c .loop-test .taken in
-    filled-more (λ _. 0) (c .before .before .args .bytes .now) (c .before .loop .i) (c .before .loop .bytes) (omega arith) (c .before .loop .inv)
+    filled-more (λ _. 0) _ (the-loop .i) (the-loop .bytes) (omega arith) (the-loop .inv)
 
 same-length : tie.Need-same-length Inv-loop μ-loop
-same-length c = filled-length (λ _. 0) (c .before .before .args .bytes .now) (c .before .loop .i) (c .before .loop .bytes) (c .before .loop .inv)
+same-length c =
+    let the-loop = c .before .loop in
+    filled-length (λ _. 0) _ (the-loop .i) (the-loop .bytes) (the-loop .inv)
 
 returns : tie.Need-returns Inv-loop μ-loop
 returns c =
-    let e = filled-length (λ _. 0) (c .before .before .args .bytes .now) (c .before .loop .i) (c .before .loop .bytes) (c .before .loop .inv) in
+    let the-loop = c .before .loop in
+    let e = filled-length (λ _. 0) _ (the-loop .i) (the-loop .bytes) (the-loop .inv) in
     let t = c .loop-test .left in
-    filled-all (λ _. 0) (c .before .before .args .bytes .now) (c .before .loop .i) (c .before .loop .bytes) (omega arith) (c .before .loop .inv) ∙ zeros 0 (length (c .before .before .args .bytes .now))
+    filled-all (λ _. 0) _ (the-loop .i) (the-loop .bytes) (omega arith) (the-loop .inv) ∙ zeros 0 _
 
 pub zero-bytes-spec : {M : Type 1} → statement M
 zero-bytes-spec =

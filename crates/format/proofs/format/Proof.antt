@@ -18,13 +18,16 @@ enum-told c = search needs
 
 make-requires : tie.Need-make-requires
 make-requires c κs =
-    let a = c .before .before .before .before .before .before .before .before .before .before .before .before .before .args in
-    sym (c .before .before .before .before .before .enum-told .given .1) ∙ c .before .before .before .before .before .before .before .size-verdict .ensures ∙ by-lengths (a .image .now) (a .map .now) (a .places .now) (a .numbers .now) (a .used .now) (a .l)
+    let the-enum-told = c .before .before .before .before .before .enum-told in
+    let the-size-verdict = c .before .before .before .before .before .before .before .size-verdict in
+    sym (the-enum-told .given .1) ∙ the-size-verdict .ensures ∙ by-lengths _ _ _ _ _ _
 
 returns : tie.Need-returns
 returns c =
-    let a = c .before .before .before .before .before .before .before .before .before .args in
-    format-refused (a .s) (a .image .now) (a .map .now) (a .places .now) (a .numbers .now) (a .used .now) (a .l) (a .allowance) _ (sym (c .before .verdict .given .1) ∙ c .before .before .before .size-verdict .ensures ∙ by-lengths (a .image .now) (a .map .now) (a .places .now) (a .numbers .now) (a .used .now) (a .l))
+    let the-size-verdict = c .before .before .before .size-verdict in
+    format-refused _ _ _ _ _ _ _ _ _
+    (sym (c .before .verdict .given .1) ∙ the-size-verdict .ensures ∙ by-lengths
+    _ _ _ _ _ _)
 
 same-length : tie.Need-same-length
 same-length c = search needs
@@ -43,8 +46,13 @@ same-length-5 c = search needs
 
 returns-2 : tie.Need-returns-2
 returns-2 c =
+    let the-make = c .before .before .before .before .before .before .before .before .before .before .make in
+    let the-enum-told = c .before .before .before .before .before .before .before .before .before .before .before .before .before .before .before .before .enum-told in
+    let the-size-verdict = c .before .before .before .before .before .before .before .before .before .before .before .before .before .before .before .before .before .before .size-verdict in
     let a = c .before .before .before .before .before .before .before .before .before .before .before .before .before .before .before .before .before .before .before .before .before .before .before .before .args in
-    format-passed (a .s) (a .image .now) (a .map .now) (a .places .now) (a .numbers .now) (a .used .now) (a .l) (a .allowance) _ (sym (c .before .before .before .before .before .before .before .before .before .before .before .before .before .before .before .before .enum-told .given .1) ∙ c .before .before .before .before .before .before .before .before .before .before .before .before .before .before .before .before .before .before .size-verdict .ensures ∙ by-lengths (a .image .now) (a .map .now) (a .places .now) (a .numbers .now) (a .used .now) (a .l)) (c .before .before .before .before .before .before .before .before .before .before .make .ensures)
+    format-passed (a .s) (a .image .now) (a .map .now) (a .places .now) (a .numbers .now) (a .used .now) (a .settings) (a .allowance) _
+    (sym (the-enum-told .given .1) ∙ the-size-verdict .ensures ∙ by-lengths (a .image .now) (a .map .now) (a .places .now) (a .numbers .now) (a .used
+    .now) (a .settings)) (the-make .ensures)
 
 pub format-spec : {M : Type 1} → statement M
 format-spec =

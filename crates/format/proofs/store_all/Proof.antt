@@ -24,19 +24,19 @@ same-length c = search needs
 
 returns : tie.Need-returns
 returns c =
-    let a = c .before .before .before .before .before .before .before .args in
     let b = c .before .before .before .before .blank-sectors in
-    format-fails (a .n) (a .l) (a .allowance) _ _ (sym (c .enum-told .given .1) ∙ b .ensures .0) (b .ensures .1)
+    format-fails _ _ _ _ (sym (c .enum-told .given .1) ∙ b .ensures .0) (b .ensures .1)
 
 same-length-2 : tie.Need-same-length-2
 same-length-2 c = search needs
 
 returns-2 : tie.Need-returns-2
 returns-2 c =
-    let a = c .before .before .before .before .before .before .before .before .before .before .before .before .args in
+    let the-blanked = c .before .before .before .before .before .blanked in
+    let the-pre = c .before .before .before .before .before .before .before .before .before .before .before .before .pre in
     let b = c .before .before .before .before .before .before .before .before .before .blank-sectors in
     let d = c .before .before .store-pieces in
-    format-runs (a .n) (a .l) (a .pieces) (a .allowance) _ _ _ _ (d .result) (c .before .before .before .before .before .before .before .before .before .before .before .before .pre .0) (sym (c .before .before .before .before .before .blanked .given .1) ∙ b .ensures .0) (b .ensures .1) (d .ensures .0) (d .ensures .1)
+    format-runs _ _ _ _ _ _ _ (d .result) (the-pre .0) (sym (the-blanked .given .1) ∙ b .ensures .0) (b .ensures .1) (d .ensures .0) (d .ensures .1)
 
 pub store-all-spec : {M : Type 1} → statement M
 store-all-spec =

@@ -19,10 +19,14 @@ abbrev μ-loop : tie.MeasureT-loop
 μ-loop image₀ n allowance left₀ k₀ image left k = n - k
 
 loop-holds : tie.Need-loop-holds Inv-loop μ-loop
-loop-holds c = (omega arith, refl, storing-starts always blankStore (sectorAt (c .before .args .image .now)) (c .before .args .allowance))
+loop-holds c =
+    let the-args = c .before .args in
+    (omega arith, refl, storing-starts always blankStore (sectorAt (the-args .image .now)) (the-args .allowance))
 
 same-length : tie.Need-same-length Inv-loop μ-loop
-same-length c = c .before .before .loop .inv .1
+same-length c =
+    let the-loop = c .before .before .loop in
+    the-loop .inv .1
 
 returns : tie.Need-returns Inv-loop μ-loop
 returns c =
@@ -35,15 +39,13 @@ cast-blank-sector : tie.Need-cast-blank-sector Inv-loop μ-loop
 cast-blank-sector c = omega arith
 
 blank-sector-requires : tie.Need-blank-sector-requires Inv-loop μ-loop
-blank-sector-requires c κs =
-    let l = c .before .before .before .loop in
-    let p = c .before .before .before .before .before .pre in
-    let h = c .before .before .loop-test .taken in
-    let e = l .inv .1 in
-    omega arith
+blank-sector-requires c κs = omega arith
 
 sub-left : tie.Need-sub-left Inv-loop μ-loop
-sub-left c = positive (c .before .before .before .before .before .before .loop .left) (c .before .before .before .before .if1 .left)
+sub-left c =
+    let the-if1 = c .before .before .before .before .if1 in
+    let the-loop = c .before .before .before .before .before .before .loop in
+    positive (the-loop .left) (the-if1 .left)
 
 add-k : tie.Need-add-k Inv-loop μ-loop
 add-k c = omega arith
@@ -53,14 +55,14 @@ loop-less c = omega arith
 
 loop-again : tie.Need-loop-again Inv-loop μ-loop
 loop-again c =
-    let a = c .before .before .before .before .before .before .before .before .args in
-    let l = c .before .before .before .before .before .before .loop in
-    let t = c .before .before .before .before .before .loop-test .taken in (
+    let the-blank-sector = c .before .before .blank-sector in
+    let the-if1 = c .before .before .before .before .if1 in
+    let l = c .before .before .before .before .before .before .loop in (
       omega arith,
-      c .before .before .blank-sector .kept .0 ∙ l .inv .1,
+      the-blank-sector .kept .0 ∙ l .inv .1,
       rw add-one
-          (storing-stores always blankStore (sectorAt (a .image .now)) (a .allowance) (l .k) (l .left) (sectorAt (l .image)) _ refl
-          (positive (l .left) (c .before .before .before .before .if1 .left)) (l .inv .2) (c .before .before .blank-sector .ensures)),
+          (storing-stores always blankStore _ _ (l .k) (l .left) (sectorAt (l .image)) _ refl
+          (positive (l .left) (the-if1 .left)) (l .inv .2) (the-blank-sector .ensures)),
     )
 
 same-length-2 : tie.Need-same-length-2 Inv-loop μ-loop

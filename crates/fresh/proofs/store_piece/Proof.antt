@@ -32,9 +32,13 @@ same-length c = search needs
 
 returns : tie.Need-returns
 returns c =
-    let a = c .before .before .before .before .before .before .before .before .args in
-    c .before .before .store-map .ensures
-    ∙ ap (updated (sectorAt (a .image .now)) (a .p + 1)) (piece-made (a .l) (a .p) (a .pieces) [] (c .before .before .before .before .before .before .before .before .pre .0) (no-branch (a .p) (c .before .before .before .before .before .before .if1 .taken)))
+    let the-store-map = c .before .before .store-map in
+    let the-if1 = c .before .before .before .before .before .before .if1 in
+    let start = c .before .before .before .before .before .before .before .before in
+    let the-pre = start .pre in
+    let a = start .args in
+    the-store-map .ensures
+    ∙ ap (updated (sectorAt (a .image .now)) (a .p + 1)) (piece-made (a .l) (a .p) (a .pieces) [] (the-pre .0) (no-branch (a .p) (the-if1 .taken)))
 
 cast-store-map-2 : tie.Need-cast-store-map-2
 cast-store-map-2 c = search needs
@@ -53,9 +57,13 @@ same-length-2 c = search needs
 
 returns-2 : tie.Need-returns-2
 returns-2 c =
-    let a = c .before .before .before .before .before .before .before .before .args in
-    c .before .before .store-map2 .ensures
-    ∙ ap (updated (sectorAt (a .image .now)) (a .p + 1)) (piece-made (a .l) (a .p) (a .pieces) (a .p ∷ []) (c .before .before .before .before .before .before .before .before .pre .0) (one-branch (a .p) (c .before .before .before .before .before .before .if1 .left)))
+    let the-store-map2 = c .before .before .store-map2 in
+    let the-if1 = c .before .before .before .before .before .before .if1 in
+    let start = c .before .before .before .before .before .before .before .before in
+    let the-pre = start .pre in
+    let a = start .args in
+    the-store-map2 .ensures
+    ∙ ap (updated (sectorAt (a .image .now)) (a .p + 1)) (piece-made (a .l) (a .p) (a .pieces) (a .p ∷ []) (the-pre .0) (one-branch (a .p) (the-if1 .left)))
 
 pub store-piece-spec : {M : Type 1} → statement M
 store-piece-spec =

@@ -20,11 +20,12 @@ abbrev μ-loop : tie.MeasureT-loop
 
 loop-holds : tie.Need-loop-holds Inv-loop μ-loop
 loop-holds c =
-    let a = c .before .args in
-    (omega arith, refl, storing-starts always (pieceStore (a .l)) (sectorAt (a .image .now)) (a .allowance))
+    (omega arith, refl, storing-starts always (pieceStore _) _ _)
 
 same-length : tie.Need-same-length Inv-loop μ-loop
-same-length c = c .before .before .loop .inv .1
+same-length c =
+    let the-loop = c .before .before .loop in
+    the-loop .inv .1
 
 returns : tie.Need-returns Inv-loop μ-loop
 returns c =
@@ -35,14 +36,14 @@ returns c =
 
 store-piece-requires : tie.Need-store-piece-requires Inv-loop μ-loop
 store-piece-requires c κs =
-    let l = c .before .before .before .loop in
     let r = c .before .before .before .before .before .pre in
-    let h = c .before .before .loop-test .taken in
-    let e = l .inv .1 in
     (r .0, (omega arith, omega arith))
 
 sub-left : tie.Need-sub-left Inv-loop μ-loop
-sub-left c = positive (c .before .before .before .before .before .before .loop .left) (c .before .before .before .before .if1 .left)
+sub-left c =
+    let the-if1 = c .before .before .before .before .if1 in
+    let the-loop = c .before .before .before .before .before .before .loop in
+    positive (the-loop .left) (the-if1 .left)
 
 add-p : tie.Need-add-p Inv-loop μ-loop
 add-p c = omega arith
@@ -52,14 +53,14 @@ loop-less c = omega arith
 
 loop-again : tie.Need-loop-again Inv-loop μ-loop
 loop-again c =
-    let a = c .before .before .before .before .before .before .before .before .args in
-    let l = c .before .before .before .before .before .before .loop in
-    let t = c .before .before .before .before .before .loop-test .taken in (
+    let the-store-piece = c .before .before .store-piece in
+    let the-if1 = c .before .before .before .before .if1 in
+    let l = c .before .before .before .before .before .before .loop in (
       omega arith,
-      c .before .before .store-piece .kept .0 ∙ l .inv .1,
+      the-store-piece .kept .0 ∙ l .inv .1,
       rw add-one
-          (storing-stores always (pieceStore (a .l)) (sectorAt (a .image .now)) (a .allowance) (l .p) (l .left) (sectorAt (l .image)) _ refl
-          (positive (l .left) (c .before .before .before .before .if1 .left)) (l .inv .2) (rw add-one at (c .before .before .store-piece .ensures))),
+          (storing-stores always (pieceStore _) _ _ (l .p) (l .left) (sectorAt (l .image)) _ refl
+          (positive (l .left) (the-if1 .left)) (l .inv .2) (rw add-one at (the-store-piece .ensures))),
     )
 
 same-length-2 : tie.Need-same-length-2 Inv-loop μ-loop

@@ -30,11 +30,10 @@ add-mark-first c = search needs
 
 mark-first-requires : tie.Need-mark-first-requires
 mark-first-requires c κs =
-    let a = c .before .before .before .before .before .before .before .before .before .before .before .before .before .before .before .before .before .before .before .before .before .args in
-    let p = c .before .before .before .before .before .before .before .before .before .before .before .before .before .before .before .before .before .before .before .before .before .pre in
-    let k = c .before .before .before .zero-bytes .kept .0 in
-    let e = c .before .before .before .zero-bytes .ensures in
-    (e ∙ ap (λ (x : ℕ). replicate x 0) (sym k), let h = p .1 .1 .1 .1 in omega arith)
+    let the-zero-bytes = c .before .before .before .zero-bytes in
+    let k = the-zero-bytes .kept .0 in
+    let e = the-zero-bytes .ensures in
+    (e ∙ ap (λ (x : ℕ). replicate x 0) (sym k), omega arith)
 
 same-length : tie.Need-same-length
 same-length c = search needs
@@ -50,9 +49,14 @@ same-length-4 c = search needs
 
 returns : tie.Need-returns
 returns c =
-    let a = c .before .before .before .before .before .before .before .before .before .before .before .before .before .before .before .before .before .before .before .before .before .before .before .before .args in
-    let p = c .before .before .before .before .before .before .before .before .before .before .before .before .before .before .before .before .before .before .before .before .before .before .before .before .pre in
-    fresh-tables (a .l) _ _ _ _ (length (a .map .now)) (a .pieces) (p .0) (c .before .before .before .before .before .before .before .before .before .before .before .before .before .before .before .before .before .before .zero-words .ensures) (c .before .before .before .before .before .before .before .before .before .before .before .before .before .before .count-up .ensures ∙ ap (λ (x : ℕ). listFrom suc 0 x) (p .1 .1 .0)) (c .before .before .before .before .before .before .before .before .before .before .count-up2 .ensures ∙ ap (λ (x : ℕ). listFrom suc 0 x) (p .1 .1 .1 .0)) (c .before .before .mark-first .ensures)
+    let the-mark-first = c .before .before .mark-first in
+    let the-count-up2 = c .before .before .before .before .before .before .before .before .before .before .count-up2 in
+    let the-count-up = c .before .before .before .before .before .before .before .before .before .before .before .before .before .before .count-up in
+    let the-zero-words = c .before .before .before .before .before .before .before .before .before .before .before .before .before .before .before .before .before .before .zero-words in
+    let start = c .before .before .before .before .before .before .before .before .before .before .before .before .before .before .before .before .before .before .before .before .before .before .before .before in
+    let a = start .args in
+    let p = start .pre in
+    fresh-tables (a .l) _ _ _ _ (length (a .map .now)) (a .pieces) (p .0) (the-zero-words .ensures) (the-count-up .ensures ∙ ap (λ (x : ℕ). listFrom suc 0 x) (p .1 .1 .0)) (the-count-up2 .ensures ∙ ap (λ (x : ℕ). listFrom suc 0 x) (p .1 .1 .1 .0)) (the-mark-first .ensures)
 
 pub fresh-tables-spec : {M : Type 1} → statement M
 fresh-tables-spec =

@@ -18,17 +18,15 @@ abbrev μ-loop : tie.MeasureT-loop
 μ-loop used₀ count k₀ used k = count - k
 
 loop-holds : tie.Need-loop-holds Inv-loop μ-loop
-loop-holds c = (omega arith, refl, first-none (c .before .args .used .now) (length (c .before .args .used .now)) (c .before .pre .0))
+loop-holds c =
+    let the-args = c .before .args in
+    (omega arith, refl, first-none (the-args .used .now) (length (the-args .used .now)) (c .before .pre .0))
 
 cast-set-bit : tie.Need-cast-set-bit Inv-loop μ-loop
 cast-set-bit c = omega arith
 
 set-bit-requires : tie.Need-set-bit-requires Inv-loop μ-loop
-set-bit-requires c κs =
-    let e = c .before .before .loop .inv .1 in
-    let r = c .before .before .before .before .pre .1 in
-    let t = c .before .loop-test .taken in
-    omega arith
+set-bit-requires c κs = omega arith
 
 add-k : tie.Need-add-k Inv-loop μ-loop
 add-k c = omega arith
@@ -38,19 +36,20 @@ loop-less c = omega arith
 
 loop-again : tie.Need-loop-again Inv-loop μ-loop
 loop-again c =
+    let the-set-bit = c .before .before .set-bit in
     let l = c .before .before .before .before .before .loop in
-    let t = c .before .before .before .before .loop-test .taken in
-    (omega arith, c .before .before .set-bit .kept .0 ∙ l .inv .1, first-more (l .used) _ (l .k) (l .inv .2) (c .before .before .set-bit .ensures))
+    (omega arith, the-set-bit .kept .0 ∙ l .inv .1, first-more (l .used) _ (l .k) (l .inv .2) (the-set-bit .ensures))
 
 same-length : tie.Need-same-length Inv-loop μ-loop
 same-length c = c .before .loop .inv .1
 
 returns : tie.Need-returns Inv-loop μ-loop
 returns c =
+    let the-args = c .before .before .before .args in
     let l = c .before .loop in
     let t = c .loop-test .left in
     let i = l .inv .0 in
-    l .inv .2 ∙ ap {B = ℕ → Bool} (λ (x : ℕ). λ j. ltb j x) (let e : l .k ≡ c .before .before .before .args .count = omega arith in e)
+    l .inv .2 ∙ ap {B = ℕ → Bool} (λ (x : ℕ). λ j. ltb j x) (let e : l .k ≡ the-args .count = omega arith in e)
 
 pub mark-first-spec : {M : Type 1} → statement M
 mark-first-spec =

@@ -33,8 +33,12 @@ same-length-4 c = search needs
 
 returns : tie.Need-returns
 returns c =
+    let the-zero-bytes = c .before .before .zero-bytes in
+    let the-zero-words3 = c .before .before .before .before .before .before .zero-words3 in
+    let the-zero-words2 = c .before .before .before .before .before .before .before .before .before .before .zero-words2 in
+    let the-zero-words = c .before .before .before .before .before .before .before .before .before .before .before .before .before .before .zero-words in
     let a = c .before .before .before .before .before .before .before .before .before .before .before .before .before .before .before .before .before .before .before .before .args in
-    zero-tables _ _ _ _ (length (a .map .now)) (length (a .places .now)) (length (a .numbers .now)) (length (a .used .now)) (c .before .before .before .before .before .before .before .before .before .before .before .before .before .before .zero-words .ensures) (c .before .before .before .before .before .before .before .before .before .before .zero-words2 .ensures) (c .before .before .before .before .before .before .zero-words3 .ensures) (c .before .before .zero-bytes .ensures)
+    zero-tables _ _ _ _ (length (a .map .now)) (length (a .places .now)) (length (a .numbers .now)) (length (a .used .now)) (the-zero-words .ensures) (the-zero-words2 .ensures) (the-zero-words3 .ensures) (the-zero-bytes .ensures)
 
 pub zero-tables-spec : {M : Type 1} → statement M
 zero-tables-spec =

@@ -6,6 +6,7 @@ use mathlib.Core.List.{List}
 use native.Mathlib.Omega.{arith}
 use lib.ListN.{length, take}
 use lib.Dec.{eqb}
+use Rattle.geometry.specs.declared.Geometry.{Geometry}
 use Rattle.layout.specs.Bounded.{at}
 use Rattle.layout.specs.Word.{wordsOf}
 use Rattle.layout.specs.MapSector.{branchWords}
@@ -23,208 +24,297 @@ use Rattle.map_sector.proofs.branch_count.Reads as branch-count-reads
 use Rattle.map_sector.proofs.piece_of.Reads as piece-of-reads
 
 abbrev Inv-branch : tie.InvT-branch
-Inv-branch image n l places numbers touched number branches reached₀ count bound steps q place s branch-count i₀ reached i = (i ≤ branch-count) × (length reached ≡ 256) × (flagged reached ≡ reachedBy (flagged reached₀) places numbers (branchWords (wordsOf s)) bound i)
+Inv-branch image places numbers touched number branches reached₀ count bound steps q place s branch-count i₀ reached i = (i ≤ branch-count) × (length reached ≡ 256) × (flagged reached ≡ reachedBy (flagged reached₀) places numbers (branchWords (wordsOf s)) bound i)
 
 abbrev μ-branch : tie.MeasureT-branch
-μ-branch image n l places numbers touched number branches reached₀ count bound steps q place s branch-count i₀ reached i = branch-count - i
+μ-branch image places numbers touched number branches reached₀ count bound steps q place s branch-count i₀ reached i = branch-count - i
 
 abbrev Inv-newest : tie.InvT-newest
-Inv-newest image n l places numbers touched number branches₀ reached₀ count₀ bound₀ steps₀ branches reached count bound steps = (steps ≤ length numbers) × (length branches ≡ 25) × (count ≤ 25) × (length reached ≡ 256) × Listing n l (sectorAt image) places numbers touched number (take count branches) steps bound (flagged reached)
+Inv-newest image places numbers touched number branches₀ reached₀ count₀ bound₀ steps₀ branches reached count bound steps =
+    (steps ≤ length numbers) × (length branches ≡ 25) × (count ≤ 25) × (length reached ≡ 256) ×
+    ((g : Geometry) → Live g (sectorAt image) (at places) (length numbers) →
+    Listing g (sectorAt image) places numbers touched number (take count branches) steps bound (flagged reached))
 
 abbrev μ-newest : tie.MeasureT-newest
-μ-newest image n l places numbers touched number branches₀ reached₀ count₀ bound₀ steps₀ branches reached count bound steps = steps
+μ-newest image places numbers touched number branches₀ reached₀ count₀ bound₀ steps₀ branches reached count bound steps = steps
 
 add-bound : tie.Need-add-bound Inv-branch μ-branch Inv-newest μ-newest
-add-bound c = let h = c .before .before .before .before .before .pre .1 .1 .1 .1 .0 in omega arith
+add-bound c = omega arith
 
 newest-holds : tie.Need-newest-holds Inv-branch μ-branch Inv-newest μ-newest
 newest-holds c =
+    let the-pre = c .before .before .before .before .before .pre in
     let a = c .before .before .before .before .before .args in
-    (omega arith, c .before .before .before .before .before .pre .1 .1 .1 .1 .1 .0, omega arith, refl, listing-starts (a .n) (a .l) (sectorAt (a .image .now)) (a .places .now) (a .numbers .now) (a .touched .now) (a .number) _ (a .branches .now) 256 refl)
+    (omega arith, the-pre .1 .1 .1 .1 .1 .0, omega arith, refl, λ g live. listing-starts g (sectorAt (a .image .now)) (a .places .now) (a .numbers .now) (a .touched .now) (a .number) _ (a .branches .now) 256 refl)
 
 newest-older-requires : tie.Need-newest-older-requires Inv-branch μ-branch Inv-newest μ-newest
 newest-older-requires c κs =
-    let h = c .before .newest-test .taken in
-    let i = c .before .before .newest .inv .0 in
-    (omega arith, c .before .before .before .before .before .before .before .before .pre .1 .1 .1 .0)
+    let the-pre = c .before .before .before .before .before .before .before .before .pre in
+    (omega arith, the-pre .1 .1 .1 .0)
 
 older-key-requires : tie.Need-older-key-requires Inv-branch μ-branch Inv-newest μ-newest
-older-key-requires c κs = (c .newest-older .ensures .1, c .before .before .before .before .before .before .before .before .before .pre .1 .1 .1 .0)
+older-key-requires c κs =
+    let the-pre = c .before .before .before .before .before .before .before .before .before .pre in
+    (c .newest-older .ensures .1, the-pre .1 .1 .1 .0)
 
 mul-place : tie.Need-mul-place Inv-branch μ-branch Inv-newest μ-newest
 mul-place c = search needs
 
 shared-slice-read-place : tie.Need-shared-slice-read-place Inv-branch μ-branch Inv-newest μ-newest
-shared-slice-read-place c =
-    let h = c .before .before .before .newest-older .ensures .1 in
-    let e = c .before .before .before .before .before .before .before .before .before .before .before .before .pre .1 .0 in
-    omega arith
+shared-slice-read-place c = omega arith
 
 array-read-list-place : tie.Need-array-read-list-place Inv-branch μ-branch Inv-newest μ-newest
-array-read-list-place c =
-    let h = c .before .before .before .before .newest-older .ensures .1 in
-    let e = c .before .before .before .before .before .before .before .before .before .before .before .before .before .pre .1 .1 .0 in
-    let k = c .before .before .before .before .before .before .before .newest .inv .3 in
-    omega arith
+array-read-list-place c = omega arith
 
 list-place-requires : tie.Need-list-place-requires Inv-branch μ-branch Inv-newest μ-newest
-list-place-requires c κs =
-    let h = c .before .before .before .before .before .before .before .newest .inv .2 in
-    let e = c .before .before .before .before .before .before .before .newest .inv .1 in
-    let d = c .before .before .before .before .before .if1 .left in
-    omega arith
+list-place-requires c κs = omega arith
 
 cast-sector : tie.Need-cast-sector Inv-branch μ-branch Inv-newest μ-newest
 cast-sector c =
-    let a = c .before .before .before .before .before .before .before .before .before .before .before .before .before .before .before .before .args in
-    let v = c .before .before .before .before .before .before .before .before .before .before .before .before .before .before .before .before .pre .1 .1 .1 .1 .1 .1 in
-    let h = v .high (c .before .before .before .before .before .before .before .newest-older .result) (c .before .before .before .before .before .before .before .newest-older .ensures .1) in
+    let the-newest-older = c .before .before .before .before .before .before .before .newest-older in
+    let the-pre = c .before .before .before .before .before .before .before .before .before .before .before .before .before .before .before .before .pre in
+    let v = the-pre .1 .1 .1 .1 .1 .1 in
+    let h = v .high (the-newest-older .result) (the-newest-older .ensures .1) in
     let e = c .before .before .before .before .before .before .before .before .before .before .before .before .before .before .before .before .fits in
     omega arith
 
 sector-requires : tie.Need-sector-requires Inv-branch μ-branch Inv-newest μ-newest
 sector-requires c κs =
-    let a = c .before .before .before .before .before .before .before .before .before .before .before .before .before .before .before .before .args in
-    let v = c .before .before .before .before .before .before .before .before .before .before .before .before .before .before .before .before .pre .1 .1 .1 .1 .1 .1 in
-    let h = v .high (c .before .before .before .before .before .before .before .newest-older .result) (c .before .before .before .before .before .before .before .newest-older .ensures .1) in
-    let e = c .before .before .before .before .before .before .before .before .before .before .before .before .before .before .before .before .pre .0 in
+    let the-newest-older = c .before .before .before .before .before .before .before .newest-older in
+    let the-pre = c .before .before .before .before .before .before .before .before .before .before .before .before .before .before .before .before .pre in
+    let v = the-pre .1 .1 .1 .1 .1 .1 in
+    let h = v .high (the-newest-older .result) (the-newest-older .ensures .1) in
+    let e = the-pre .0 in
     omega arith
 
 branch-count-requires : tie.Need-branch-count-requires Inv-branch μ-branch Inv-newest μ-newest
 branch-count-requires c κs =
-    let a = c .before .before .before .before .before .before .before .before .before .before .before .before .before .before .before .before .before .args in
-    let v = c .before .before .before .before .before .before .before .before .before .before .before .before .before .before .before .before .before .pre .1 .1 .1 .1 .1 .1 in
-    whole-sector (a .n) (a .l) (a .image .now) (c .sector .result .now) (at (a .places .now) (c .before .before .before .before .before .before .before .before .newest-older .result)) (c .before .before .before .before .before .before .before .before .before .before .before .before .before .before .before .before .before .pre .0) (v .high (c .before .before .before .before .before .before .before .before .newest-older .result) (c .before .before .before .before .before .before .before .before .newest-older .ensures .1)) (c .sector .ensures) (v .signed (c .before .before .before .before .before .before .before .before .newest-older .result) (c .before .before .before .before .before .before .before .before .newest-older .ensures .1))
+    let the-newest-older = c .before .before .before .before .before .before .before .before .newest-older in
+    let start = c .before .before .before .before .before .before .before .before .before .before .before .before .before .before .before .before .before in
+    let the-pre = start .pre in
+    let a = start .args in
+    let v = the-pre .1 .1 .1 .1 .1 .1 in
+    whole-sector (a .g) (a .image .now) (c .sector .result .now) (at (a .places .now) (the-newest-older .result)) (the-pre .0) (v .high (the-newest-older .result) (the-newest-older .ensures .1)) (c .sector .ensures) (v .signed (the-newest-older .result) (the-newest-older .ensures .1))
 
 cast-branch-count : tie.Need-cast-branch-count Inv-branch μ-branch Inv-newest μ-newest
 cast-branch-count c = search needs
 
 sub-steps : tie.Need-sub-steps Inv-branch μ-branch Inv-newest μ-newest
-sub-steps c = let h = c .before .before .before .before .before .before .before .before .before .before .before .newest-test .taken in omega arith
+sub-steps c = omega arith
 
 branch-holds : tie.Need-branch-holds Inv-branch μ-branch Inv-newest μ-newest
 branch-holds c =
+    let the-older-key = c .before .before .before .before .before .before .before .before .older-key in
+    let the-newest = c .before .before .before .before .before .before .before .before .before .before .before .before .newest in
     let a = c .before .before .before .before .before .before .before .before .before .before .before .before .before .before .before .before .before .before .args in
-    (omega arith, c .before .before .before .before .before .before .before .before .before .before .before .before .newest .inv .3, reached-none (flagged (c .before .before .before .before .before .before .before .before .before .before .before .before .newest .reached)) (a .places .now) (a .numbers .now) (branchWords (wordsOf (c .before .sector .result .now))) (c .before .before .before .before .before .before .before .before .older-key .result))
+    (omega arith, the-newest .inv .3, reached-none (flagged (the-newest .reached)) (a .places .now) (a .numbers .now) (branchWords (wordsOf (c .before .sector .result .now))) (the-older-key .result))
 
 newest-less : tie.Need-newest-less Inv-branch μ-branch Inv-newest μ-newest
-newest-less c = let h = c .before .before .before .before .before .before .before .before .before .before .before .before .before .newest-test .taken in omega arith
+newest-less c = omega arith
 
 newest-again : tie.Need-newest-again Inv-branch μ-branch Inv-newest μ-newest
 unfolding flagged
 newest-again c =
+    let the-branch = c .before .branch in
+    let the-branch-count = c .before .before .branch-count in
+    let the-sector = c .before .before .before .sector in
+    let the-if2 = c .before .before .before .before .before .before .before .before .before .if2 in
+    let the-older-key = c .before .before .before .before .before .before .before .before .before .before .older-key in
+    let the-newest-older = c .before .before .before .before .before .before .before .before .before .before .before .newest-older in
+    let the-newest-test = c .before .before .before .before .before .before .before .before .before .before .before .before .before .newest-test in
     let a = c .before .before .before .before .before .before .before .before .before .before .before .before .before .before .before .before .before .before .before .before .args in
-    let v = c .before .before .before .before .before .before .before .before .before .before .before .before .before .before .before .before .before .before .before .before .pre .1 .1 .1 .1 .1 .1 in
     let l = c .before .before .before .before .before .before .before .before .before .before .before .before .before .before .newest in
-    let i = l .inv .0 in
-    let h = l .inv .2 in
-    let d = c .before .before .before .before .before .before .before .before .before .before .before .before .if1 .left in
-    let q = c .before .before .before .before .before .before .before .before .before .before .before .newest-older .result in
+    let q = the-newest-older .result in
     let p = c .before .before .before .before .before .before .list-place in (
       omega arith,
       p .kept .0 ∙ l .inv .1,
       one-more (l .count) (p .result) 25 (eqb (at (l .reached) q) 1) (p .ensures .0) (omega arith),
-      c .before .branch .inv .1,
-      listing-more (a .n) (a .l) (sectorAt (a .image .now)) (a .places .now) (a .numbers .now) (a .touched .now) (a .number) (take (l .count) (l .branches)) _ (l .steps) (l .bound) (c .before .before .before .before .before .before .before .before .before .before .older-key .result) q (at (a .places .now) q) (flagged (l .reached)) (flagged (c .before .branch .reached)) _ (l .inv .4) (c .before .before .before .before .before .before .before .before .before .before .before .before .before .newest-test .taken) (c .before .before .before .before .before .before .before .before .before .before .before .newest-older .ensures .0) (c .before .before .before .before .before .before .before .before .before .before .older-key .ensures) (c .before .before .before .before .before .before .before .before .before .if2 .left) refl refl (p .ensures .1)
-          (reached-all (a .n) (a .l) (sectorAt (a .image .now) (at (a .places .now) q)) (c .before .before .before .sector .result .now) (flagged (l .reached)) (flagged (c .before .branch .reached)) (a .places .now) (a .numbers .now) (c .before .before .before .before .before .before .before .before .before .before .older-key .result) (c .before .branch .i) (c .before .before .branch-count .result) (c .before .before .before .sector .ensures) (v .signed q (c .before .before .before .before .before .before .before .before .before .before .before .newest-older .ensures .1)) (c .before .before .branch-count .ensures) (c .branch-test .taken) (c .before .branch .inv .2)),
+      the-branch .inv .1,
+      λ g live. listing-more g (sectorAt (a .image .now)) (a .places .now) (a .numbers .now) (a .touched .now) (a .number)
+          (take (l .count) (l .branches)) _ (l .steps) (l .bound) (the-older-key .result) q (at (a .places .now) q) (flagged (l .reached))
+          (flagged (the-branch .reached)) _ (l .inv .4 g live) (the-newest-test .taken) (the-newest-older .ensures .0) (the-older-key .ensures)
+          (the-if2 .left) refl refl (p .ensures .1)
+          (reached-all g (sectorAt (a .image .now) (at (a .places .now) q)) (the-sector
+          .result .now) (flagged (l .reached)) (flagged (the-branch .reached))
+          (a .places .now) (a .numbers .now) (the-older-key .result) (the-branch
+          .i) (the-branch-count .result) (the-sector .ensures) (live .signed q (the-newest-older
+          .ensures .1)) (the-branch-count .ensures) (c .branch-test .taken) (the-branch .inv .2)),
     )
 
 branch-at-requires : tie.Need-branch-at-requires Inv-branch μ-branch Inv-newest μ-newest
 branch-at-requires c κs =
-    let a = c .before .before .before .before .before .before .before .before .before .before .before .before .before .before .before .before .before .before .before .before .args in
-    let v = c .before .before .before .before .before .before .before .before .before .before .before .before .before .before .before .before .before .before .before .before .pre .1 .1 .1 .1 .1 .1 in
-    let few = count-few (a .n) (a .l) (a .image .now) (c .before .before .before .sector .result .now) (at (a .places .now) (c .before .before .before .before .before .before .before .before .before .before .before .newest-older .result)) (c .before .before .before .before .before .before .before .before .before .before .before .before .before .before .before .before .before .before .before .before .pre .0) (v .high (c .before .before .before .before .before .before .before .before .before .before .before .newest-older .result) (c .before .before .before .before .before .before .before .before .before .before .before .newest-older .ensures .1)) (c .before .before .before .sector .ensures) (v .signed (c .before .before .before .before .before .before .before .before .before .before .before .newest-older .result) (c .before .before .before .before .before .before .before .before .before .before .before .newest-older .ensures .1)) (c .before .before .branch-count .result) (c .before .before .branch-count .ensures) in
+    let the-branch-count = c .before .before .branch-count in
+    let the-sector = c .before .before .before .sector in
+    let the-newest-older = c .before .before .before .before .before .before .before .before .before .before .before .newest-older in
+    let start = c .before .before .before .before .before .before .before .before .before .before .before .before .before .before .before .before .before .before .before .before in
+    let the-pre = start .pre in
+    let a = start .args in
+    let v = the-pre .1 .1 .1 .1 .1 .1 in
+    let few = count-few (a .g) (a .image .now) (the-sector .result .now) (at (a .places .now) (the-newest-older .result)) (the-pre .0)
+    (v .high (the-newest-older .result) (the-newest-older .ensures .1)) (the-sector .ensures)
+    (v .signed (the-newest-older .result) (the-newest-older .ensures .1)) (the-branch-count .result) (the-branch-count .ensures) in
     let i = c .before .branch .inv .0 in
-    let d = c .branch-test .left in
-    (whole-sector (a .n) (a .l) (a .image .now) (c .before .before .before .sector .result .now) (at (a .places .now) (c .before .before .before .before .before .before .before .before .before .before .before .newest-older .result)) (c .before .before .before .before .before .before .before .before .before .before .before .before .before .before .before .before .before .before .before .before .pre .0) (v .high (c .before .before .before .before .before .before .before .before .before .before .before .newest-older .result) (c .before .before .before .before .before .before .before .before .before .before .before .newest-older .ensures .1)) (c .before .before .before .sector .ensures) (v .signed (c .before .before .before .before .before .before .before .before .before .before .before .newest-older .result) (c .before .before .before .before .before .before .before .before .before .before .before .newest-older .ensures .1)), omega arith)
+    let d = c .branch-test .left in (
+      whole-sector (a .g) (a .image .now) (the-sector .result .now) (at (a .places
+          .now) (the-newest-older .result)) (the-pre .0) (v .high (the-newest-older
+          .result) (the-newest-older .ensures .1)) (the-sector .ensures) (v .signed (the-newest-older .result) (the-newest-older .ensures .1)),
+      omega arith,
+    )
 
 cast-sector-2 : tie.Need-cast-sector-2 Inv-branch μ-branch Inv-newest μ-newest
 cast-sector-2 c = search needs
 
 sector-requires-2 : tie.Need-sector-requires-2 Inv-branch μ-branch Inv-newest μ-newest
 sector-requires-2 c κs =
-    let a = c .before .before .before .before .before .before .before .before .before .before .before .before .before .before .before .before .before .before .before .before .before .args in
-    let v = c .before .before .before .before .before .before .before .before .before .before .before .before .before .before .before .before .before .before .before .before .before .pre .1 .1 .1 .1 .1 .1 in
-    let i = c .before .before .branch .inv .0 in
-    let d = c .before .branch-test .left in
-    branch-sector (a .n) (a .l) (a .image .now) (c .before .before .before .before .sector .result .now) (at (a .places .now) (c .before .before .before .before .before .before .before .before .before .before .before .before .newest-older .result)) (c .before .before .before .before .before .before .before .before .before .before .before .before .before .before .before .before .before .before .before .before .before .pre .0) (v .high (c .before .before .before .before .before .before .before .before .before .before .before .before .newest-older .result) (c .before .before .before .before .before .before .before .before .before .before .before .before .newest-older .ensures .1)) (c .before .before .before .before .sector .ensures) (v .signed (c .before .before .before .before .before .before .before .before .before .before .before .before .newest-older .result) (c .before .before .before .before .before .before .before .before .before .before .before .before .newest-older .ensures .1)) (c .before .before .before .branch-count .result) (c .before .before .branch .i) (c .branch-at .result) (c .before .before .before .branch-count .ensures) (omega arith) (c .branch-at .ensures) .1
+    let the-branch = c .before .before .branch in
+    let the-branch-count = c .before .before .before .branch-count in
+    let the-sector = c .before .before .before .before .sector in
+    let the-newest-older = c .before .before .before .before .before .before .before .before .before .before .before .before .newest-older in
+    let start = c .before .before .before .before .before .before .before .before .before .before .before .before .before .before .before .before .before .before .before .before .before in
+    let the-pre = start .pre in
+    let a = start .args in
+    let v = the-pre .1 .1 .1 .1 .1 .1 in
+    branch-sector (a .g) (a .image .now) (the-sector .result .now) (at (a .places .now) (the-newest-older .result)) (the-pre .0)
+    (v .high (the-newest-older .result) (the-newest-older .ensures .1)) (the-sector .ensures)
+    (v .signed (the-newest-older .result) (the-newest-older .ensures .1)) (the-branch-count .result) (the-branch .i) (c .branch-at .result)
+    (the-branch-count .ensures) (omega arith) (c .branch-at .ensures) .1
 
 piece-of-requires : tie.Need-piece-of-requires Inv-branch μ-branch Inv-newest μ-newest
 piece-of-requires c κs =
-    let a = c .before .before .before .before .before .before .before .before .before .before .before .before .before .before .before .before .before .before .before .before .before .before .args in
-    let v = c .before .before .before .before .before .before .before .before .before .before .before .before .before .before .before .before .before .before .before .before .before .before .pre .1 .1 .1 .1 .1 .1 in
-    let i = c .before .before .before .branch .inv .0 in
-    let d = c .before .before .branch-test .left in
-    ap length (c .sector2 .ensures) ∙ sector-length (a .image .now) (c .before .branch-at .result) (branch-sector (a .n) (a .l) (a .image .now) (c .before .before .before .before .before .sector .result .now) (at (a .places .now) (c .before .before .before .before .before .before .before .before .before .before .before .before .before .newest-older .result)) (c .before .before .before .before .before .before .before .before .before .before .before .before .before .before .before .before .before .before .before .before .before .before .pre .0) (v .high (c .before .before .before .before .before .before .before .before .before .before .before .before .before .newest-older .result) (c .before .before .before .before .before .before .before .before .before .before .before .before .before .newest-older .ensures .1)) (c .before .before .before .before .before .sector .ensures) (v .signed (c .before .before .before .before .before .before .before .before .before .before .before .before .before .newest-older .result) (c .before .before .before .before .before .before .before .before .before .before .before .before .before .newest-older .ensures .1)) (c .before .before .before .before .branch-count .result) (c .before .before .before .branch .i) (c .before .branch-at .result) (c .before .before .before .before .branch-count .ensures) (omega arith) (c .before .branch-at .ensures) .1)
+    let the-branch-at = c .before .branch-at in
+    let the-branch = c .before .before .before .branch in
+    let the-branch-count = c .before .before .before .before .branch-count in
+    let the-sector = c .before .before .before .before .before .sector in
+    let the-newest-older = c .before .before .before .before .before .before .before .before .before .before .before .before .before .newest-older in
+    let start = c .before .before .before .before .before .before .before .before .before .before .before .before .before .before .before .before .before .before .before .before .before .before in
+    let the-pre = start .pre in
+    let a = start .args in
+    let v = the-pre .1 .1 .1 .1 .1 .1 in
+    ap length (c .sector2 .ensures) ∙ sector-length (a .image .now) (the-branch-at .result)
+    (branch-sector (a .g) (a .image .now) (the-sector .result .now) (at (a .places
+    .now) (the-newest-older .result)) (the-pre .0) (v .high (the-newest-older
+    .result) (the-newest-older .ensures .1)) (the-sector .ensures) (v .signed
+    (the-newest-older .result) (the-newest-older .ensures .1)) (the-branch-count
+    .result) (the-branch .i) (the-branch-at .result) (the-branch-count .ensures) (omega arith) (the-branch-at .ensures) .1)
 
 slice-aggregate-reach : tie.Need-slice-aggregate-reach Inv-branch μ-branch Inv-newest μ-newest
 slice-aggregate-reach c = search needs
 
 reach-requires : tie.Need-reach-requires Inv-branch μ-branch Inv-newest μ-newest
 reach-requires c κs =
-    let a = c .before .before .before .before .before .before .before .before .before .before .before .before .before .before .before .before .before .before .before .before .before .before .before .before .args in
-    let v = c .before .before .before .before .before .before .before .before .before .before .before .before .before .before .before .before .before .before .before .before .before .before .before .before .pre .1 .1 .1 .1 .1 .1 in
-    let i = c .before .before .before .before .before .branch .inv .0 in
-    let d = c .before .before .before .before .branch-test .left in
-    let e = c .before .before .before .before .before .before .before .before .before .before .before .before .before .before .before .before .before .before .before .before .before .before .before .before .pre .1 .0 in
-    let k = c .before .before .before .before .before .branch .inv .1 in
-    let m = c .before .before .before .before .before .before .before .before .before .before .before .before .before .before .before .before .before .before .before .before .before .before .before .before .pre .1 .1 .0 in
-    (e, (omega arith, only-there (a .n) (a .l) (sectorAt (a .image .now)) (a .places .now) (c .before .before .before .branch-at .result) (c .before .piece-of .result) (subst (Live (a .n) (a .l) (sectorAt (a .image .now)) (at (a .places .now))) (sym e) v) (branch-sector (a .n) (a .l) (a .image .now) (c .before .before .before .before .before .before .before .sector .result .now) (at (a .places .now) (c .before .before .before .before .before .before .before .before .before .before .before .before .before .before .before .newest-older .result)) (c .before .before .before .before .before .before .before .before .before .before .before .before .before .before .before .before .before .before .before .before .before .before .before .before .pre .0) (v .high (c .before .before .before .before .before .before .before .before .before .before .before .before .before .before .before .newest-older .result) (c .before .before .before .before .before .before .before .before .before .before .before .before .before .before .before .newest-older .ensures .1)) (c .before .before .before .before .before .before .before .sector .ensures) (v .signed (c .before .before .before .before .before .before .before .before .before .before .before .before .before .before .before .newest-older .result) (c .before .before .before .before .before .before .before .before .before .before .before .before .before .before .before .newest-older .ensures .1)) (c .before .before .before .before .before .before .branch-count .result) (c .before .before .before .before .before .branch .i) (c .before .before .before .branch-at .result) (c .before .before .before .before .before .before .branch-count .ensures) (omega arith) (c .before .before .before .branch-at .ensures) .0) (c .before .piece-of .ensures ∙ ap (λ (x : List ℕ). at (wordsOf x) 4) (c .before .before .sector2 .ensures))))
+    let the-piece-of = c .before .piece-of in
+    let the-sector2 = c .before .before .sector2 in
+    let the-branch-at = c .before .before .before .branch-at in
+    let the-branch = c .before .before .before .before .before .branch in
+    let the-branch-count = c .before .before .before .before .before .before .branch-count in
+    let the-sector = c .before .before .before .before .before .before .before .sector in
+    let the-newest-older = c .before .before .before .before .before .before .before .before .before .before .before .before .before .before .before .newest-older in
+    let start = c .before .before .before .before .before .before .before .before .before .before .before .before .before .before .before .before .before .before .before .before .before .before .before .before in
+    let the-pre = start .pre in
+    let a = start .args in
+    let v = the-pre .1 .1 .1 .1 .1 .1 in
+    let e = the-pre .1 .0 in (
+      e,
+      (
+        omega arith,
+        only-there (a .g) (sectorAt (a .image .now)) (a .places .now) (the-branch-at .result) (the-piece-of .result) (subst (Live
+            (a .g) (sectorAt (a .image .now)) (at (a .places .now))) (sym e) v) (branch-sector
+            (a .g) (a .image .now) (the-sector .result .now) (at (a .places .now) (the-newest-older
+            .result)) (the-pre .0) (v .high (the-newest-older .result) (the-newest-older
+            .ensures .1)) (the-sector .ensures) (v .signed (the-newest-older .result)
+            (the-newest-older .ensures .1)) (the-branch-count .result) (the-branch .i)
+            (the-branch-at .result) (the-branch-count .ensures) (omega arith) (the-branch-at
+            .ensures) .0) (the-piece-of .ensures ∙ ap (λ (x : List ℕ). at (wordsOf x) 4) (the-sector2 .ensures)),
+      ),
+    )
 
 add-i : tie.Need-add-i Inv-branch μ-branch Inv-newest μ-newest
-add-i c =
-    let i = c .before .before .before .before .before .before .before .branch .inv .0 in
-    let d = c .before .before .before .before .before .before .branch-test .left in
-    omega arith
+add-i c = omega arith
 
 branch-less : tie.Need-branch-less Inv-branch μ-branch Inv-newest μ-newest
-branch-less c =
-    let i = c .before .before .before .before .before .before .before .branch .inv .0 in
-    let d = c .before .before .before .before .before .before .branch-test .left in
-    omega arith
+branch-less c = omega arith
 
 branch-again : tie.Need-branch-again Inv-branch μ-branch Inv-newest μ-newest
 branch-again c =
-    let a = c .before .before .before .before .before .before .before .before .before .before .before .before .before .before .before .before .before .before .before .before .before .before .before .before .before .before .args in
-    let v = c .before .before .before .before .before .before .before .before .before .before .before .before .before .before .before .before .before .before .before .before .before .before .before .before .before .before .pre .1 .1 .1 .1 .1 .1 in
+    let the-reach = c .before .reach in
+    let the-branch-at = c .before .before .before .before .before .branch-at in
+    let the-branch-test = c .before .before .before .before .before .before .branch-test in
+    let the-branch-count = c .before .before .before .before .before .before .before .before .branch-count in
+    let the-sector = c .before .before .before .before .before .before .before .before .before .sector in
+    let the-older-key = c .before .before .before .before .before .before .before .before .before .before .before .before .before .before .before .before .older-key in
+    let the-newest-older = c .before .before .before .before .before .before .before .before .before .before .before .before .before .before .before .before .before .newest-older in
+    let the-newest = c .before .before .before .before .before .before .before .before .before .before .before .before .before .before .before .before .before .before .before .before .newest in
+    let start = c .before .before .before .before .before .before .before .before .before .before .before .before .before .before .before .before .before .before .before .before .before .before .before .before .before .before in
+    let the-pre = start .pre in
+    let a = start .args in
+    let v = the-pre .1 .1 .1 .1 .1 .1 in
     let b = c .before .before .before .before .before .before .before .branch in
     let i = b .inv .0 in
-    let d = c .before .before .before .before .before .before .branch-test .left in
-    let few = count-few (a .n) (a .l) (a .image .now) (c .before .before .before .before .before .before .before .before .before .sector .result .now) (at (a .places .now) (c .before .before .before .before .before .before .before .before .before .before .before .before .before .before .before .before .before .newest-older .result)) (c .before .before .before .before .before .before .before .before .before .before .before .before .before .before .before .before .before .before .before .before .before .before .before .before .before .before .pre .0) (v .high (c .before .before .before .before .before .before .before .before .before .before .before .before .before .before .before .before .before .newest-older .result) (c .before .before .before .before .before .before .before .before .before .before .before .before .before .before .before .before .before .newest-older .ensures .1)) (c .before .before .before .before .before .before .before .before .before .sector .ensures) (v .signed (c .before .before .before .before .before .before .before .before .before .before .before .before .before .before .before .before .before .newest-older .result) (c .before .before .before .before .before .before .before .before .before .before .before .before .before .before .before .before .before .newest-older .ensures .1)) (c .before .before .before .before .before .before .before .before .branch-count .result) (c .before .before .before .before .before .before .before .before .branch-count .ensures) in
-    let room = branch-room (c .before .before .before .before .before .before .before .before .before .sector .result .now) (whole-sector (a .n) (a .l) (a .image .now) (c .before .before .before .before .before .before .before .before .before .sector .result .now) (at (a .places .now) (c .before .before .before .before .before .before .before .before .before .before .before .before .before .before .before .before .before .newest-older .result)) (c .before .before .before .before .before .before .before .before .before .before .before .before .before .before .before .before .before .before .before .before .before .before .before .before .before .before .pre .0) (v .high (c .before .before .before .before .before .before .before .before .before .before .before .before .before .before .before .before .before .newest-older .result) (c .before .before .before .before .before .before .before .before .before .before .before .before .before .before .before .before .before .newest-older .ensures .1)) (c .before .before .before .before .before .before .before .before .before .sector .ensures) (v .signed (c .before .before .before .before .before .before .before .before .before .before .before .before .before .before .before .before .before .newest-older .result) (c .before .before .before .before .before .before .before .before .before .before .before .before .before .before .before .before .before .newest-older .ensures .1))) in (
+    let d = the-branch-test .left in
+    let few = count-few (a .g) (a .image .now) (the-sector .result .now) (at (a .places .now) (the-newest-older .result)) (the-pre .0)
+    (v .high (the-newest-older .result) (the-newest-older .ensures .1)) (the-sector .ensures)
+    (v .signed (the-newest-older .result) (the-newest-older .ensures .1)) (the-branch-count .result) (the-branch-count .ensures) in
+    let room = branch-room (the-sector .result .now) (whole-sector (a .g) (a .image .now) (the-sector .result .now) (at (a .places
+    .now) (the-newest-older .result)) (the-pre .0) (v .high (the-newest-older
+    .result) (the-newest-older .ensures .1)) (the-sector .ensures) (v .signed (the-newest-older .result) (the-newest-older .ensures .1))) in (
       omega arith,
-      c .before .reach .kept .0 ∙ b .inv .1,
-      reached-more (flagged (c .before .before .before .before .before .before .before .before .before .before .before .before .before .before .before .before .before .before .before .before .newest .reached)) (a .places .now) (a .numbers .now) (branchWords (wordsOf (c .before .before .before .before .before .before .before .before .before .sector .result .now))) (c .before .before .before .before .before .before .before .before .before .before .before .before .before .before .before .before .older-key .result) (b .i) (c .before .before .before .before .before .branch-at .result) (omega arith) (c .before .before .before .before .before .branch-at .ensures) (flagged (b .reached)) _ (b .inv .2) (c .before .reach .ensures),
+      the-reach .kept .0 ∙ b .inv .1,
+      reached-more (flagged (the-newest .reached)) (a .places .now) (a .numbers .now) (branchWords (wordsOf (the-sector .result .now))) (the-older-key .result) (b .i) (the-branch-at .result) (omega arith) (the-branch-at .ensures) (flagged (b .reached)) _ (b .inv .2) (the-reach .ensures),
     )
 
 same-length : tie.Need-same-length Inv-branch μ-branch Inv-newest μ-newest
-same-length c = c .before .newest .inv .1 ∙ sym (c .before .before .before .before .before .before .before .pre .1 .1 .1 .1 .1 .0)
+same-length c =
+    let the-pre = c .before .before .before .before .before .before .before .pre in
+    c .before .newest .inv .1 ∙ sym (the-pre .1 .1 .1 .1 .1 .0)
 
 returns : tie.Need-returns Inv-branch μ-branch Inv-newest μ-newest
 returns c =
+    let the-pre = c .before .before .before .before .before .before .before .pre in
     let a = c .before .before .before .before .before .before .before .args in
     let l = c .before .newest in
     let t = c .newest-test .left in
-    (listing-done (a .n) (a .l) (sectorAt (a .image .now)) (a .places .now) (a .numbers .now) (a .touched .now) (a .number) (l .branches) (l .count) (l .steps) (l .bound) (flagged (l .reached)) (l .inv .2) (l .inv .1) (l .inv .4) (omega arith), l .inv .2)
+    (listing-done (a .g) (sectorAt (a .image .now)) (a .places .now) (a .numbers .now) (a .touched .now) (a .number) (l .branches) (l .count) (l .steps) (l .bound) (flagged (l .reached)) (l .inv .2) (l .inv .1) (l .inv .4 (a .g) (the-pre .1 .1 .1 .1 .1 .1)) (omega arith), l .inv .2)
 
 same-length-2 : tie.Need-same-length-2 Inv-branch μ-branch Inv-newest μ-newest
-same-length-2 c = c .before .before .newest .inv .1 ∙ sym (c .before .before .before .before .before .before .before .before .pre .1 .1 .1 .1 .1 .0)
+same-length-2 c =
+    let the-newest = c .before .before .newest in
+    let the-pre = c .before .before .before .before .before .before .before .before .pre in
+    the-newest .inv .1 ∙ sym (the-pre .1 .1 .1 .1 .1 .0)
 
 returns-2 : tie.Need-returns-2 Inv-branch μ-branch Inv-newest μ-newest
 returns-2 c =
-    let a = c .before .before .before .before .before .before .before .before .args in
+    let start = c .before .before .before .before .before .before .before .before in
+    let the-pre = start .pre in
+    let a = start .args in
     let l = c .before .before .newest in
-    let t = c .if1 .taken in
-    (ap (λ (x : ℕ). take x (l .branches)) t ∙ listing-full (a .n) (a .l) (sectorAt (a .image .now)) (a .places .now) (a .numbers .now) (a .touched .now) (a .number) (l .branches) (l .steps) (l .bound) (flagged (l .reached)) (l .inv .1) (subst (λ (x : ℕ). Listing (a .n) (a .l) (sectorAt (a .image .now)) (a .places .now) (a .numbers .now) (a .touched .now) (a .number) (take x (l .branches)) (l .steps) (l .bound) (flagged (l .reached))) t (l .inv .4)), l .inv .2)
+    let t = c .if1 .taken in (
+      ap (λ (x : ℕ). take x (l .branches)) t ∙ listing-full (a .g) (sectorAt (a .image .now)) (a .places .now) (a .numbers .now) (a .touched .now) (a
+          .number) (l .branches) (l .steps) (l .bound) (flagged (l .reached)) (l .inv
+          .1) (subst (λ (x : ℕ). Listing (a .g) (sectorAt (a .image .now)) (a .places
+          .now) (a .numbers .now) (a .touched .now) (a .number) (take x (l .branches))
+          (l .steps) (l .bound) (flagged (l .reached))) t (l .inv .4 (a .g) (the-pre .1 .1 .1 .1 .1 .1))),
+      l .inv .2,
+    )
 
 same-length-3 : tie.Need-same-length-3 Inv-branch μ-branch Inv-newest μ-newest
-same-length-3 c = c .before .before .before .before .before .newest .inv .1 ∙ sym (c .before .before .before .before .before .before .before .before .before .before .before .pre .1 .1 .1 .1 .1 .0)
+same-length-3 c =
+    let the-newest = c .before .before .before .before .before .newest in
+    let the-pre = c .before .before .before .before .before .before .before .before .before .before .before .pre in
+    the-newest .inv .1 ∙ sym (the-pre .1 .1 .1 .1 .1 .0)
 
 returns-3 : tie.Need-returns-3 Inv-branch μ-branch Inv-newest μ-newest
 returns-3 c =
-    let a = c .before .before .before .before .before .before .before .before .before .before .before .args in
-    let l = c .before .before .before .before .before .newest in
-    (listing-no-more (a .n) (a .l) (sectorAt (a .image .now)) (a .places .now) (a .numbers .now) (a .touched .now) (a .number) (l .branches) (l .count) (l .steps) (l .bound) (flagged (l .reached)) (c .before .before .newest-older .result) (c .before .older-key .result) (l .inv .2) (l .inv .1) (l .inv .4) (c .before .before .newest-older .ensures .0) (c .before .older-key .ensures) (c .if2 .taken), l .inv .2)
+    let the-older-key = c .before .older-key in
+    let the-newest-older = c .before .before .newest-older in
+    let start = c .before .before .before .before .before .before .before .before .before .before .before in
+    let the-pre = start .pre in
+    let a = start .args in
+    let l = c .before .before .before .before .before .newest in (
+      listing-no-more (a .g) (sectorAt (a .image .now)) (a .places .now) (a .numbers
+          .now) (a .touched .now) (a .number) (l .branches) (l .count) (l .steps) (l .bound) (flagged (l .reached)) (the-newest-older .result) (the-older-key .result) (l .inv .2) (l .inv .1) (l .inv .4 (a .g) (the-pre .1
+          .1 .1 .1 .1 .1)) (the-newest-older .ensures .0) (the-older-key .ensures) (c .if2 .taken),
+      l .inv .2,
+    )
 
 pub list-branches-spec : {M : Type 1} → statement M
 list-branches-spec =

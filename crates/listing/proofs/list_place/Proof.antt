@@ -26,8 +26,7 @@ same-length c = search needs
 
 returns-2 : tie.Need-returns-2
 returns-2 c =
-    let a = c .before .args in
-    rw (c .if1 .left) (refl, list-more (a .branches .now) (a .count) (a .place) (c .before .pre))
+    rw (c .if1 .left) (refl, list-more _ _ _ (c .before .pre))
 
 pub list-place-spec : {M : Type 1} → statement M
 list-place-spec =

@@ -18,39 +18,43 @@ abbrev μ-loop : tie.MeasureT-loop
 
 loop-holds : tie.Need-loop-holds Inv-loop μ-loop
 loop-holds c =
+    let the-pre = c .before .before .pre in
     let a = c .before .before .args in
-    let h = c .before .before .pre .0 in
+    let h = the-pre .0 in
     (omega arith, h, best-none (key (a .numbers .now) (a .touched .now) (a .bound)))
 
 older-key-requires : tie.Need-older-key-requires Inv-loop μ-loop
-older-key-requires c κs = (c .before .loop .inv .1, c .before .before .before .before .pre .1)
+older-key-requires c κs =
+    let the-pre = c .before .before .before .before .pre in
+    (c .before .loop .inv .1, the-pre .1)
 
 older-key-requires-2 : tie.Need-older-key-requires-2 Inv-loop μ-loop
-older-key-requires-2 c κs = (let t = c .before .loop-test .taken in t, c .before .before .before .before .before .pre .1)
+older-key-requires-2 c κs =
+    let the-pre = c .before .before .before .before .before .pre in
+    (let t = c .before .loop-test .taken in t, the-pre .1)
 
 add-q : tie.Need-add-q Inv-loop μ-loop
-add-q c = let t = c .before .before .before .loop-test .taken in omega arith
+add-q c = omega arith
 
 loop-less : tie.Need-loop-less Inv-loop μ-loop
-loop-less c = let t = c .before .before .before .loop-test .taken in omega arith
+loop-less c = omega arith
 
 loop-again : tie.Need-loop-again Inv-loop μ-loop
 loop-again c =
+    let the-loop-test = c .before .before .before .loop-test in
     let a = c .before .before .before .before .before .before .before .args in
     let l = c .before .before .before .before .loop in
-    let t = c .before .before .before .loop-test .taken in
+    let t = the-loop-test .taken in
     let k = key (a .numbers .now) (a .touched .now) (a .bound) in
-    let e1 = c .before .before .older-key .ensures in
-    let e2 = c .before .older-key2 .ensures in
     ⊎-elim (λ w. (
       omega arith,
       subst (λ (x : ℕ). x < length (a .numbers .now)) (sym (w .1)) t,
-      w .1 ∙ best-new k (l .q) (l .found) (l .inv .2) (let h = w .0 .taken in omega arith),
+      w .1 ∙ best-new k (l .q) (l .found) (l .inv .2) (omega arith),
     ))
     (λ w. (
       omega arith,
       subst (λ (x : ℕ). x < length (a .numbers .now)) (sym (w .1)) (l .inv .1),
-      w .1 ∙ best-old k (l .q) (l .found) (l .inv .2) (let h = w .0 .left in omega arith),
+      w .1 ∙ best-old k (l .q) (l .found) (l .inv .2) (omega arith),
     ))
     (c .if1 .came)
 

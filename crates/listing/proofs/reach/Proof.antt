@@ -18,8 +18,9 @@ shared-slice-read-if2 c = search needs
 
 returns-2 : tie.Need-returns-2
 returns-2 c =
+    let the-pre = c .before .before .before .pre in
     let a = c .before .before .before .args in
-    reach-none (a .reached .now) (a .places .now) (a .numbers .now) (a .p) (a .b) (a .bound) (c .before .before .before .pre .1 .1) (λ e h. c .if2 .taken e)
+    reach-none (a .reached .now) (a .places .now) (a .numbers .now) (a .p) (a .b) (a .bound) (the-pre .1 .1) (λ e h. c .if2 .taken e)
 
 mul-if3 : tie.Need-mul-if3
 mul-if3 c = search needs
@@ -29,8 +30,9 @@ shared-slice-read-if3 c = search needs
 
 returns-3 : tie.Need-returns-3
 returns-3 c =
+    let the-pre = c .before .before .before .before .before .pre in
     let a = c .before .before .before .before .before .args in
-    reach-newer (a .reached .now) (a .places .now) (a .numbers .now) (a .p) (a .b) (a .bound) (c .before .before .before .before .before .pre .1 .1) (c .if3 .taken)
+    reach-newer (a .reached .now) (a .places .now) (a .numbers .now) (a .p) (a .b) (a .bound) (the-pre .1 .1) (c .if3 .taken)
 
 slice-write-reached : tie.Need-slice-write-reached
 slice-write-reached c = search needs
@@ -40,10 +42,10 @@ same-length c = search needs
 
 returns-4 : tie.Need-returns-4
 returns-4 c =
+    let the-if2 = c .before .before .if2 in
+    let the-pre = c .before .before .before .before .before .pre in
     let a = c .before .before .before .before .before .args in
-    let t = c .before .before .before .before .if1 .left in
-    let h = c .before .before .before .before .before .pre .1 .0 in
-    reach-one (a .reached .now) (a .places .now) (a .numbers .now) (a .p) (a .b) (a .bound) (c .before .before .before .before .before .pre .1 .1) (c .before .before .if2 .left) (c .if3 .left) (omega arith)
+    reach-one (a .reached .now) (a .places .now) (a .numbers .now) (a .p) (a .b) (a .bound) (the-pre .1 .1) (the-if2 .left) (c .if3 .left) (omega arith)
 
 pub reach-spec : {M : Type 1} → statement M
 reach-spec =

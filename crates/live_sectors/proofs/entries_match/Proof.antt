@@ -19,54 +19,58 @@ abbrev μ-loop : tie.MeasureT-loop
 μ-loop s map p first i₀ i = 96 - i
 
 mul-first : tie.Need-mul-first Inv-loop μ-loop
-mul-first c = let h = c .before .before .pre .1 in omega arith
+mul-first c = omega arith
 
 cast-first : tie.Need-cast-first Inv-loop μ-loop
-cast-first c = let h = c .before .before .pre .1 in omega arith
+cast-first c = omega arith
 
 loop-holds : tie.Need-loop-holds Inv-loop μ-loop
 loop-holds c = (omega arith, λ j h. absurd (not-suc-le-zero h))
 
 entry-at-requires : tie.Need-entry-at-requires Inv-loop μ-loop
-entry-at-requires c κs = (c .before .before .before .before .pre .0, c .loop-test .taken)
+entry-at-requires c κs =
+    let the-pre = c .before .before .before .before .pre in
+    (the-pre .0, c .loop-test .taken)
 
 add-entry-of : tie.Need-add-entry-of Inv-loop μ-loop
-add-entry-of c =
-    let h = c .before .before .before .before .before .pre .1 in
-    let t = c .before .loop-test .taken in
-    omega arith
+add-entry-of c = omega arith
 
 entry-of-requires : tie.Need-entry-of-requires Inv-loop μ-loop
 entry-of-requires c κs = search needs
 
 returns : tie.Need-returns Inv-loop μ-loop
 returns c =
+    let the-entry-of = c .before .entry-of in
+    let the-entry-at = c .before .before .entry-at in
+    let the-loop-test = c .before .before .before .loop-test in
+    let the-pre = c .before .before .before .before .before .before .before .pre in
     let a = c .before .before .before .before .before .before .before .args in
     let l = c .before .before .before .before .loop in
-    entries-differ (a .s .now) (a .map .now) (a .p) (c .before .before .before .before .before .before .before .pre .0) (l .i) (c .before .before .before .loop-test .taken)
-    (c .before .before .entry-at .result) (c .before .entry-of .result) (c .before .before .entry-at .ensures) (c .before .entry-of .ensures) (c .if1 .taken)
+    entries-differ (a .s .now) (a .map .now) (a .p) (the-pre .0) (l .i) (the-loop-test .taken)
+    (the-entry-at .result) (the-entry-of .result) (the-entry-at .ensures) (the-entry-of .ensures) (c .if1 .taken)
 
 add-i : tie.Need-add-i Inv-loop μ-loop
-add-i c = let t = c .before .before .before .loop-test .taken in omega arith
+add-i c = omega arith
 
 loop-less : tie.Need-loop-less Inv-loop μ-loop
-loop-less c = let t = c .before .before .before .loop-test .taken in omega arith
+loop-less c = omega arith
 
 loop-again : tie.Need-loop-again Inv-loop μ-loop
 loop-again c =
+    let the-entry-at = c .before .before .entry-at in
     let a = c .before .before .before .before .before .before .before .args in
-    let l = c .before .before .before .before .loop in
-    let t = c .before .before .before .loop-test .taken in (
+    let l = c .before .before .before .before .loop in (
       omega arith,
       agree-more (at (entryWords (wordsOf (a .s .now)))) (λ j. at (a .map .now) (96 * a .p + j)) (l .i) (l .inv .1)
-          (sym (c .before .before .entry-at .ensures) ∙ c .if1 .left ∙ c .before .entry-of .ensures),
+          (sym (the-entry-at .ensures) ∙ c .if1 .left ∙ c .before .entry-of .ensures),
     )
 
 returns-2 : tie.Need-returns-2 Inv-loop μ-loop
 returns-2 c =
+    let the-pre = c .before .before .before .before .pre in
     let a = c .before .before .before .before .args in
     let l = c .before .loop in
-    entries-same (a .s .now) (a .map .now) (a .p) (c .before .before .before .before .pre .0) (λ j h. l .inv .1 j (let t = c .loop-test .left in omega arith))
+    entries-same (a .s .now) (a .map .now) (a .p) (the-pre .0) (λ j h. l .inv .1 j (let t = c .loop-test .left in omega arith))
 
 pub entries-match-spec : {M : Type 1} → statement M
 entries-match-spec =

@@ -15,39 +15,52 @@ is-valid-requires c κs = search needs
 
 returns : tie.Need-returns
 returns c =
-    let a = c .before .before .before .before .args in
-    says-unsigned (a .n) (a .l) (a .p) (a .number) (a .s .now) (pieceEntries (a .l) (at (a .map .now)) (a .p))
-    (c .before .is-valid .result) (c .before .is-valid .ensures) (c .if1 .taken)
+    let the-is-valid = c .before .is-valid in
+    says-unsigned _ _ _ _ (pieceEntries _ _ _)
+    (the-is-valid .result) (the-is-valid .ensures) (c .if1 .taken)
 
 piece-of-requires : tie.Need-piece-of-requires
 piece-of-requires c κs = search needs
 
 returns-2 : tie.Need-returns-2
 returns-2 c =
-    let a = c .before .before .before .before .before .before .args in
-    says-other-piece (a .n) (a .l) (a .p) (a .number) (a .s .now) (pieceEntries (a .l) (at (a .map .now)) (a .p))
-    (c .before .before .before .is-valid .result) (c .before .before .before .is-valid .ensures) (c .before .before .if1 .left) (c .before .piece-of .result) (c .before .piece-of .ensures) (c .if2 .taken)
+    let the-piece-of = c .before .piece-of in
+    let the-if1 = c .before .before .if1 in
+    let the-is-valid = c .before .before .before .is-valid in
+    says-other-piece _ _ _ _ (pieceEntries _ _ _)
+    (the-is-valid .result) (the-is-valid .ensures) (the-if1 .left) (the-piece-of .result) (the-piece-of .ensures) (c .if2 .taken)
 
 number-of-requires : tie.Need-number-of-requires
 number-of-requires c κs = search needs
 
 returns-3 : tie.Need-returns-3
 returns-3 c =
-    let a = c .before .before .before .before .before .before .before .before .args in
-    says-other-number (a .n) (a .l) (a .p) (a .number) (a .s .now) (pieceEntries (a .l) (at (a .map .now)) (a .p))
-    (c .before .before .before .before .before .is-valid .result) (c .before .before .before .before .before .is-valid .ensures) (c .before .before .before .before .if1 .left)
-    (c .before .before .before .piece-of .result) (c .before .before .before .piece-of .ensures) (c .before .before .if2 .left) (c .before .number-of .result) (c .before .number-of .ensures) (c .if3 .taken)
+    let the-number-of = c .before .number-of in
+    let the-if2 = c .before .before .if2 in
+    let the-piece-of = c .before .before .before .piece-of in
+    let the-if1 = c .before .before .before .before .if1 in
+    let the-is-valid = c .before .before .before .before .before .is-valid in
+    says-other-number _ _ _ _ (pieceEntries _ _ _)
+    (the-is-valid .result) (the-is-valid .ensures) (the-if1 .left)
+    (the-piece-of .result) (the-piece-of .ensures) (the-if2 .left) (the-number-of .result) (the-number-of .ensures) (c .if3 .taken)
 
 entries-match-requires : tie.Need-entries-match-requires
 entries-match-requires c κs = search needs
 
 returns-4 : tie.Need-returns-4
 returns-4 c =
-    let a = c .before .before .before .before .before .before .before .before .before .args in
-    let l = c .before .before .before .before .before .before .before .before .before .pre .1 .1 .0 in
-    says-entries (a .n) (a .l) (a .p) (a .number) (a .s .now) (pieceEntries (a .l) (at (a .map .now)) (a .p))
-    (c .before .before .before .before .before .before .is-valid .result) (c .before .before .before .before .before .before .is-valid .ensures) (c .before .before .before .before .before .if1 .left)
-    (c .before .before .before .before .piece-of .result) (c .before .before .before .before .piece-of .ensures) (c .before .before .before .if2 .left) (c .before .before .number-of .result) (c .before .before .number-of .ensures) (c .before .if3 .left) (c .entries-match .result)
+    let the-number-of = c .before .before .number-of in
+    let the-if2 = c .before .before .before .if2 in
+    let the-piece-of = c .before .before .before .before .piece-of in
+    let the-if1 = c .before .before .before .before .before .if1 in
+    let the-is-valid = c .before .before .before .before .before .before .is-valid in
+    let start = c .before .before .before .before .before .before .before .before .before in
+    let the-pre = start .pre in
+    let a = start .args in
+    let l = the-pre .1 .1 .0 in
+    says-entries (a .g) (a .p) (a .number) (a .s .now) (pieceEntries (a .g .l) (at (a .map .now)) (a .p))
+    (the-is-valid .result) (the-is-valid .ensures) (the-if1 .left)
+    (the-piece-of .result) (the-piece-of .ensures) (the-if2 .left) (the-number-of .result) (the-number-of .ensures) (c .before .if3 .left) (c .entries-match .result)
     (c .entries-match .ensures
     ∙ ap (λ (x : ℕ). same (entryWords (wordsOf (a .s .now))) (pieceEntries x (at (a .map .now)) (a .p))) l)
 

@@ -8,9 +8,10 @@ use Rattle.live_sectors.proofs.tables_agree.Tie as tie
 
 is-consistent-requires : tie.Need-is-consistent-requires
 is-consistent-requires c κs =
-    let a = c .before .before .before .before .before .args in
-    let f = c .before .before .before .before .before .pre .0 in
-    let t = c .before .before .before .before .before .pre .1 in (
+    let the-pre = c .before .before .before .before .before .before .pre in
+    let a = c .before .before .before .before .before .before .args in
+    let f = the-pre .0 in
+    let t = the-pre .1 in (
       geometry-fits (a .s) (a .image .now) (a .map .now) (a .places .now) (a .numbers .now) (a .used .now) f,
       (
         map-long (a .s) (a .image .now) (a .map .now) (a .places .now) (a .numbers .now) (a .used .now) t,
@@ -23,18 +24,21 @@ is-consistent-requires c κs =
 
 returns : tie.Need-returns
 returns c =
-    let a = c .before .before .before .before .before .before .before .args in
-    tables-unsound (a .s) (a .image .now) (a .map .now) (a .places .now) (a .numbers .now) (a .used .now) (c .before .is-consistent .result) (c .before .is-consistent .ensures) (c .if1 .taken)
+    let the-is-consistent = c .before .is-consistent in
+    tables-unsound _ _ _ _ _ _ (the-is-consistent .result) (the-is-consistent .ensures) (c .if1 .taken)
 
 live-valid-requires : tie.Need-live-valid-requires
 live-valid-requires c κs =
-    let a = c .before .before .before .before .before .before .before .args in
-    let f = c .before .before .before .before .before .before .before .pre .0 in
-    let t = c .before .before .before .before .before .before .before .pre .1 in
+    let the-is-consistent = c .before .is-consistent in
+    let start = c .before .before .before .before .before .before .before .before in
+    let the-pre = start .pre in
+    let a = start .args in
+    let f = the-pre .0 in
+    let t = the-pre .1 in
     let g = geometry-fits (a .s) (a .image .now) (a .map .now) (a .places .now) (a .numbers .now) (a .used .now) f in
-    let n = sectors-some (a .s .n) (a .s .l) g in
-    let l = blocks-most (a .s .n) (a .s .l) g in
-    let least : 1 ≤ a .s .n = omega arith in (
+    let n = sectors-some (a .s .geometry) g in
+    let l = blocks-most (a .s .geometry) g in
+    let least : 1 ≤ a .s .geometry .n = omega arith in (
       least,
       (
         omega arith,
@@ -44,7 +48,13 @@ live-valid-requires c κs =
             map-long (a .s) (a .image .now) (a .map .now) (a .places .now) (a .numbers .now) (a .used .now) t,
             (
               places-long (a .s) (a .image .now) (a .map .now) (a .places .now) (a .numbers .now) (a .used .now) t,
-              (numbers-long (a .s) (a .image .now) (a .map .now) (a .places .now) (a .numbers .now) (a .used .now) t, places-below (a .s) (a .image .now) (a .map .now) (a .places .now) (a .numbers .now) (a .used .now) (c .before .is-consistent .result) (c .before .is-consistent .ensures) (c .if1 .left) least),
+              (
+                numbers-long (a .s) (a .image .now) (a .map .now) (a .places .now) (a .numbers
+                    .now) (a .used .now) t,
+                places-below (a .s) (a .image .now) (a .map .now)
+                    (a .places .now) (a .numbers .now) (a .used .now) (the-is-consistent
+                    .result) (the-is-consistent .ensures) (c .if1 .left) least,
+              ),
             ),
           ),
         ),
@@ -53,8 +63,8 @@ live-valid-requires c κs =
 
 returns-2 : tie.Need-returns-2
 returns-2 c =
-    let a = c .before .before .before .before .before .before .before .before .args in
-    live-decides (a .s) (a .image .now) (a .map .now) (a .places .now) (a .numbers .now) (a .used .now) (c .before .before .is-consistent .result) (c .before .before .is-consistent .ensures) (c .before .if1 .left) (c .live-valid .result) (c .live-valid .ensures)
+    let the-is-consistent = c .before .before .is-consistent in
+    live-decides _ _ _ _ _ _ (the-is-consistent .result) (the-is-consistent .ensures) (c .before .if1 .left) (c .live-valid .result) (c .live-valid .ensures)
 
 pub tables-agree-spec : {M : Type 1} → statement M
 tables-agree-spec =

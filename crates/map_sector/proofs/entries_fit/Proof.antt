@@ -24,10 +24,11 @@ sub-held c = search needs
 
 returns : tie.Need-returns
 returns c =
+    let the-word-at = c .before .word-at in
     let a = c .before .before .before .args in
     let ws = wordsOf (a .s .now) in
     let long : length ws ≡ 128 = omega (arith, length-wordsOf (a .s .now)) in
-    sym (ap (λ (p : ℕ). all isZero (drop (a .l - entriesPerPiece * p) (entryWords ws))) (sym (c .before .word-at .ensures)) ∙ entries-all (a .l - entriesPerPiece * c .before .word-at .result) ws long (c .if1 .taken))
+    sym (ap (λ (p : ℕ). all isZero (drop (a .l - entriesPerPiece * p) (entryWords ws))) (sym (the-word-at .ensures)) ∙ entries-all (a .l - entriesPerPiece * the-word-at .result) ws long (c .if1 .taken))
 
 cast-words-zero : tie.Need-cast-words-zero
 cast-words-zero c = search needs

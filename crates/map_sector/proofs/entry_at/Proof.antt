@@ -14,8 +14,7 @@ word-at-requires c κs = search needs
 
 returns : tie.Need-returns
 returns c =
-    let a = c .before .before .args in
-    c .word-at .ensures ∙ sym (entry-word (wordsOf (a .s .now)) (a .i))
+    c .word-at .ensures ∙ sym (entry-word (wordsOf _) _)
 
 pub entry-at-spec : {M : Type 1} → statement M
 entry-at-spec = tie.close (tie.spec add-word-at word-at-requires returns)

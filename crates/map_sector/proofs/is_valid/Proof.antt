@@ -20,7 +20,7 @@ returns c =
     let at-start = at-starts-with .before .before .before in
     let a = at-start .args in
     let s = a .s .now in
-    sym (valid-unmarked (a .n) (a .l) s (wordsOf s) (sym (at-starts-with .starts-with .ensures) ∙ not-true _ (c .if1 .taken)))
+    sym (valid-unmarked (a .g) s (wordsOf s) (sym (at-starts-with .starts-with .ensures) ∙ not-true _ (c .if1 .taken)))
 
 word-sum-requires : tie.Need-word-sum-requires
 word-sum-requires c κs = search needs
@@ -33,7 +33,7 @@ returns-2 c =
     let at-start = at-starts-with .before .before .before in
     let a = at-start .args in
     let s = a .s .now in
-    sym (valid-unbalanced (a .n) (a .l) s (wordsOf s) (sym (at-starts-with .starts-with .ensures) ∙ not-false _ (at-if1 .if1 .left)) (ap isZero (sym (at-word-sum .word-sum .ensures)) ∙ ne-eqb _ 0 (c .if2 .taken)))
+    sym (valid-unbalanced (a .g) s (wordsOf s) (sym (at-starts-with .starts-with .ensures) ∙ not-false _ (at-if1 .if1 .left)) (ap isZero (sym (at-word-sum .word-sum .ensures)) ∙ ne-eqb _ 0 (c .if2 .taken)))
 
 header-fits-requires : tie.Need-header-fits-requires
 header-fits-requires c κs = search needs
@@ -48,13 +48,13 @@ returns-3 c =
     let at-start = at-starts-with .before .before .before in
     let a = at-start .args in
     let s = a .s .now in
-    sym (valid-header (a .n) (a .l) s (wordsOf s) (sym (at-starts-with .starts-with .ensures) ∙ not-false _ (at-if1 .if1 .left)) (ap isZero (sym (at-word-sum .word-sum .ensures)) ∙ eq-eqb _ 0 (at-if2 .if2 .left)) (sym (at-header-fits .header-fits .ensures) ∙ not-true _ (c .if3 .taken)))
+    sym (valid-header (a .g) s (wordsOf s) (sym (at-starts-with .starts-with .ensures) ∙ not-false _ (at-if1 .if1 .left)) (ap isZero (sym (at-word-sum .word-sum .ensures)) ∙ eq-eqb _ 0 (at-if2 .if2 .left)) (sym (at-header-fits .header-fits .ensures) ∙ not-true _ (c .if3 .taken)))
 
 branches-fit-requires : tie.Need-branches-fit-requires
 branches-fit-requires c κs =
     let at-header-fits = c .before in
     let at-start = at-header-fits .before .before .before .before .before .before .before in
-    (at-start .pre .0, (at-start .pre .1, header-count (at-start .args .l) (wordsOf (at-start .args .s .now)) (sym (at-header-fits .header-fits .ensures) ∙ not-false _ (c .if3 .left))))
+    (at-start .pre .0, (at-start .pre .1, header-count (at-start .args .g .l) (wordsOf (at-start .args .s .now)) (sym (at-header-fits .header-fits .ensures) ∙ not-false _ (c .if3 .left))))
 
 returns-4 : tie.Need-returns-4
 returns-4 c =
@@ -68,14 +68,17 @@ returns-4 c =
     let at-start = at-starts-with .before .before .before in
     let a = at-start .args in
     let s = a .s .now in
-    sym (valid-branches (a .n) (a .l) s (wordsOf s) (sym (at-starts-with .starts-with .ensures) ∙ not-false _ (at-if1 .if1 .left)) (ap isZero (sym (at-word-sum .word-sum .ensures)) ∙ eq-eqb _ 0 (at-if2 .if2 .left)) (sym (at-header-fits .header-fits .ensures) ∙ not-false _ (at-if3 .if3 .left)) (sym (at-branches-fit .branches-fit .ensures) ∙ not-true _ (c .if4 .taken)))
+    sym (valid-branches (a .g) s (wordsOf s) (sym (at-starts-with .starts-with .ensures)
+    ∙ not-false _ (at-if1 .if1 .left)) (ap isZero (sym (at-word-sum .word-sum
+    .ensures)) ∙ eq-eqb _ 0 (at-if2 .if2 .left)) (sym (at-header-fits .header-fits
+    .ensures) ∙ not-false _ (at-if3 .if3 .left)) (sym (at-branches-fit .branches-fit .ensures) ∙ not-true _ (c .if4 .taken)))
 
 entries-fit-requires : tie.Need-entries-fit-requires
 entries-fit-requires c κs =
     let at-if3 = c .before .before in
     let at-header-fits = at-if3 .before in
     let at-start = at-header-fits .before .before .before .before .before .before .before in
-    (at-start .pre .0, header-piece (at-start .args .l) (wordsOf (at-start .args .s .now)) (sym (at-header-fits .header-fits .ensures) ∙ not-false _ (at-if3 .if3 .left)))
+    (at-start .pre .0, header-piece (at-start .args .g .l) (wordsOf (at-start .args .s .now)) (sym (at-header-fits .header-fits .ensures) ∙ not-false _ (at-if3 .if3 .left)))
 
 returns-5 : tie.Need-returns-5
 returns-5 c =
@@ -90,7 +93,10 @@ returns-5 c =
     let at-start = at-starts-with .before .before .before in
     let a = at-start .args in
     let s = a .s .now in
-    c .entries-fit .ensures ∙ sym (valid-entries (a .n) (a .l) s (wordsOf s) (sym (at-starts-with .starts-with .ensures) ∙ not-false _ (at-if1 .if1 .left)) (ap isZero (sym (at-word-sum .word-sum .ensures)) ∙ eq-eqb _ 0 (at-if2 .if2 .left)) (sym (at-header-fits .header-fits .ensures) ∙ not-false _ (at-if3 .if3 .left)) (sym (at-branches-fit .branches-fit .ensures) ∙ not-false _ (at-if4 .if4 .left)))
+    c .entries-fit .ensures ∙ sym (valid-entries (a .g) s (wordsOf s) (sym (at-starts-with .starts-with .ensures)
+    ∙ not-false _ (at-if1 .if1 .left)) (ap isZero (sym (at-word-sum .word-sum
+    .ensures)) ∙ eq-eqb _ 0 (at-if2 .if2 .left)) (sym (at-header-fits .header-fits
+    .ensures) ∙ not-false _ (at-if3 .if3 .left)) (sym (at-branches-fit .branches-fit .ensures) ∙ not-false _ (at-if4 .if4 .left)))
 
 pub is-valid-spec : {M : Type 1} → statement M
 is-valid-spec =

@@ -33,9 +33,11 @@ loop-less c = omega arith
 
 loop-again : tie.Need-loop-again Inv-loop μ-loop
 loop-again c =
-    let l = c .before .before .before .args .dst .now in
-    let src = c .before .before .before .args .src .now in
-    let i = c .before .before .loop .i in
+    let the-loop = c .before .before .loop in
+    let the-args = c .before .before .before .args in
+    let l = the-args .dst .now in
+    let src = the-args .src .now in
+    let i = the-loop .i in
     (omega arith, simp length-set (omega arith), cc (zero-add i, sets-next l 0 src i (omega arith)))
 
 same-length : tie.Need-same-length Inv-loop μ-loop
@@ -43,10 +45,13 @@ same-length c = c .before .loop .inv .1
 
 returns : tie.Need-returns Inv-loop μ-loop
 returns c =
-    let l = c .before .before .args .dst .now in
-    let src = c .before .before .args .src .now in
-    let i = c .before .loop .i in
-    c .before .loop .inv .2 ∙ ap (sets l 0) (take-all i src (omega arith)) ∙ sets-whole l src (c .before .before .pre)
+    let the-loop = c .before .loop in
+    let the-args = c .before .before .args in
+    let the-pre = c .before .before .pre in
+    let l = the-args .dst .now in
+    let src = the-args .src .now in
+    let i = the-loop .i in
+    the-loop .inv .2 ∙ ap (sets l 0) (take-all i src (omega arith)) ∙ sets-whole l src (the-pre)
 
 pub copy-over-spec : {M : Type 1} → statement M
 copy-over-spec =

@@ -46,7 +46,9 @@ loop-again c =
     (search needs, below-more _ _ (at-loop .loop .inv .1) (c .if2 .left))
 
 returns-3 : tie.Need-returns-3 Inv-loop μ-loop
-returns-3 c = sym (starts-agrees _ _ (c .before .before .if1 .left) (λ k h. c .before .loop .inv .1 k (omega arith)))
+returns-3 c =
+    let the-if1 = c .before .before .if1 in
+    sym (starts-agrees _ _ (the-if1 .left) (λ k h. c .before .loop .inv .1 k (omega arith)))
 
 pub starts-with-spec : {M : Type 1} → statement M
 starts-with-spec =

@@ -11,23 +11,20 @@ use Rattle.names.proofs.mark_names.Statement.{statement}
 use Rattle.names.proofs.mark_names.Tie as tie
 
 abbrev Inv-entries : tie.InvT-entries
-Inv-entries marks₀ n l map places i₀ marks i =
-    (i ≤ length map) × (length marks ≡ length marks₀) × Entries n l (at map) (at places) i (bitAt marks)
+Inv-entries marks₀ g map places i₀ marks i =
+    (i ≤ length map) × (length marks ≡ length marks₀) × Entries g (at map) (at places) i (bitAt marks)
 
 abbrev μ-entries : tie.MeasureT-entries
-μ-entries marks₀ n l map places i₀ marks i = length map - i
+μ-entries marks₀ g map places i₀ marks i = length map - i
 
 set-bit-requires : tie.Need-set-bit-requires Inv-entries μ-entries
-set-bit-requires c κs =
-    let p = c .before .before .before .before .pre in
-    let a = p .0 in
-    let b = p .1 .0 in
-    omega arith
+set-bit-requires c κs = omega arith
 
 mark-places-requires : tie.Need-mark-places-requires Inv-entries μ-entries
 mark-places-requires c κs =
-    let a = c .before .before .before .before .before .before .before .before .args in
-    let p = c .before .before .before .before .before .before .before .before .pre in
+    let start = c .before .before .before .before .before .before .before .before in
+    let a = start .args in
+    let p = start .pre in
     let b = c .before .before .before .set-bit in
     let e = b .kept .0 in
     let h = p .1 .0 in
@@ -35,108 +32,97 @@ mark-places-requires c κs =
 
 same-length : tie.Need-same-length Inv-entries μ-entries
 same-length c =
-    c .before .before .before .mark-places .kept .0 ∙ c .before .before .before .before .before .before .before .set-bit .kept .0
+    let the-mark-places = c .before .before .before .mark-places in
+    let the-set-bit = c .before .before .before .before .before .before .before .set-bit in
+    the-mark-places .kept .0 ∙ the-set-bit .kept .0
 
 returns : tie.Need-returns Inv-entries μ-entries
 returns c =
-    let a = c .before .before .before .before .before .before .before .before .before .before .before .before .args in
+    let the-pre = c .before .before .before .before .before .before .before .before .before .before .before .before .pre in
     let m = c .before .before .before .mark-places in
-    places-refused (a .n) (a .l) (at (a .map .now)) (at (a .places .now)) (length (a .places .now)) (c .before .before .before .before .before .before .before .before .before .before .before .before .pre .1 .1 .1 .0) _ (m .result) (m .ensures) (c .if1 .taken)
+    places-refused _ _ _ _ (the-pre .1 .1 .1 .0) _ (m .result) (m .ensures) (c .if1 .taken)
 
 entries-holds : tie.Need-entries-holds Inv-entries μ-entries
 entries-holds c =
-    let a = c .before .before .before .before .before .before .before .before .before .before .before .before .args in
+    let the-pre = c .before .before .before .before .before .before .before .before .before .before .before .before .pre in
     let m = c .before .before .before .mark-places in (
       omega arith,
       refl,
-      entries-start (a .n) (a .l) (at (a .map .now)) (at (a .places .now)) (length (a .places .now)) (c .before .before .before .before .before .before .before .before .before .before .before .before .pre .1 .1 .1 .0) _ (m .result) (m .ensures) (c .if1 .left),
+      entries-start _ _ _ _ (the-pre .1 .1 .1 .0) _ (m .result) (m .ensures) (c .if1 .left),
     )
 
 mul-entry : tie.Need-mul-entry Inv-entries μ-entries
-mul-entry c =
-    omega arith
+mul-entry c = omega arith
 
 shared-slice-read-entry : tie.Need-shared-slice-read-entry Inv-entries μ-entries
-shared-slice-read-entry c =
-    omega arith
+shared-slice-read-entry c = omega arith
 
 add-i : tie.Need-add-i Inv-entries μ-entries
-add-i c =
-    let t = c .before .before .entries-test .taken in
-    omega arith
+add-i c = omega arith
 
 entries-less : tie.Need-entries-less Inv-entries μ-entries
-entries-less c =
-    let t = c .before .before .entries-test .taken in
-    omega arith
+entries-less c = omega arith
 
 entries-again : tie.Need-entries-again Inv-entries μ-entries
 entries-again c =
-    let a = c .before .before .before .before .before .before .before .before .before .before .before .before .before .before .before .before .args in
     let l = c .before .before .before .entries in
-    let t = c .before .before .entries-test .taken in
-    (omega arith, l .inv .1, entries-skip (a .n) (a .l) (at (a .map .now)) (at (a .places .now)) (l .i) (bitAt (l .marks)) (c .if2 .taken) (l .inv .2))
+    (omega arith, l .inv .1, entries-skip _ _ _ (l .i) (bitAt (l .marks)) (c .if2 .taken) (l .inv .2))
 
 sector-of-requires : tie.Need-sector-of-requires Inv-entries μ-entries
-sector-of-requires c κs =
-    search needs
+sector-of-requires c κs = search needs
 
 mark-name-requires : tie.Need-mark-name-requires Inv-entries μ-entries
 mark-name-requires c κs =
-    let e = c .before .before .before .before .before .entries .inv .1 in
     let p = c .before .before .before .before .before .before .before .before .before .before .before .before .before .before .before .before .before .before .pre in
-    let h = p .1 .0 in
     (p .0, omega arith)
 
 same-length-2 : tie.Need-same-length-2 Inv-entries μ-entries
 same-length-2 c =
-    c .before .before .before .mark-name .kept .0 ∙ c .before .before .before .before .before .before .before .before .before .entries .inv .1 ∙ c .before .before .before .before .before .before .before .before .before .before .before .before .before .mark-places .kept .0 ∙ c .before .before .before .before .before .before .before .before .before .before .before .before .before .before .before .before .before .set-bit .kept .0
+    let the-mark-name = c .before .before .before .mark-name in
+    let the-entries = c .before .before .before .before .before .before .before .before .before .entries in
+    let the-mark-places = c .before .before .before .before .before .before .before .before .before .before .before .before .before .mark-places in
+    let the-set-bit = c .before .before .before .before .before .before .before .before .before .before .before .before .before .before .before .before .before .set-bit in
+    the-mark-name .kept .0 ∙ the-entries .inv .1 ∙ the-mark-places .kept .0 ∙ the-set-bit .kept .0
 
 returns-2 : tie.Need-returns-2 Inv-entries μ-entries
 returns-2 c =
-    let a = c .before .before .before .before .before .before .before .before .before .before .before .before .before .before .before .before .before .before .before .before .before .before .args in
+    let the-if2 = c .before .before .before .before .before .before .if2 in
     let l = c .before .before .before .before .before .before .before .before .before .entries in
     let m = c .before .before .before .mark-name in
     let s = c .before .before .before .before .sector-of in
-    let len = c .before .before .before .before .before .before .before .before .before .before .before .before .before .before .before .before .before .before .before .before .before .before .pre .1 .1 .0 in
-    let t = c .before .before .before .before .before .before .before .before .entries-test .taken in
-    entry-refused (a .n) (a .l) (at (a .map .now)) (at (a .places .now)) (l .i) (bitAt (l .marks)) _ (m .result) (s .result)
-    (c .before .before .before .before .before .before .if2 .left) (s .ensures) (l .inv .2) (m .ensures) (omega arith) (c .if3 .taken)
+    entry-refused _ _ _ (l .i) (bitAt (l .marks)) _ (m .result) (s .result)
+    (the-if2 .left) (s .ensures) (l .inv .2) (m .ensures) (omega arith) (c .if3 .taken)
 
 add-i-2 : tie.Need-add-i-2 Inv-entries μ-entries
-add-i-2 c =
-    let t = c .before .before .before .before .before .before .before .before .entries-test .taken in
-    omega arith
+add-i-2 c = omega arith
 
 entries-less-2 : tie.Need-entries-less-2 Inv-entries μ-entries
-entries-less-2 c =
-    let t = c .before .before .before .before .before .before .before .before .entries-test .taken in
-    omega arith
+entries-less-2 c = omega arith
 
 entries-again-2 : tie.Need-entries-again-2 Inv-entries μ-entries
 entries-again-2 c =
-    let a = c .before .before .before .before .before .before .before .before .before .before .before .before .before .before .before .before .before .before .before .before .before .before .args in
+    let the-if2 = c .before .before .before .before .before .before .if2 in
     let l = c .before .before .before .before .before .before .before .before .before .entries in
     let m = c .before .before .before .mark-name in
-    let s = c .before .before .before .before .sector-of in
-    let t = c .before .before .before .before .before .before .before .before .entries-test .taken in (
+    let s = c .before .before .before .before .sector-of in (
       omega arith,
       m .kept .0 ∙ l .inv .1,
-      entry-marks (a .n) (a .l) (at (a .map .now)) (at (a .places .now)) (l .i) (bitAt (l .marks)) _ (m .result) (s .result)
-          (c .before .before .before .before .before .before .if2 .left) (s .ensures) (l .inv .2) (m .ensures) (c .if3 .left),
+      entry-marks _ _ _ (l .i) (bitAt (l .marks)) _ (m .result) (s .result)
+          (the-if2 .left) (s .ensures) (l .inv .2) (m .ensures) (c .if3 .left),
     )
 
 same-length-3 : tie.Need-same-length-3 Inv-entries μ-entries
 same-length-3 c =
-    c .before .entries .inv .1 ∙ c .before .before .before .before .before .mark-places .kept .0 ∙ c .before .before .before .before .before .before .before .before .before .set-bit .kept .0
+    let the-mark-places = c .before .before .before .before .before .mark-places in
+    let the-set-bit = c .before .before .before .before .before .before .before .before .before .set-bit in
+    c .before .entries .inv .1 ∙ the-mark-places .kept .0 ∙ the-set-bit .kept .0
 
 returns-3 : tie.Need-returns-3 Inv-entries μ-entries
 returns-3 c =
     let a = c .before .before .before .before .before .before .before .before .before .before .before .before .before .before .args in
     let l = c .before .entries in
-    let len = c .before .before .before .before .before .before .before .before .before .before .before .before .before .before .pre .1 .1 .0 in
-    let e : l .i ≡ a .l = (let i = l .inv .0 in let t = c .entries-test .left in omega arith) in
-    entries-end (a .n) (a .l) (at (a .map .now)) (at (a .places .now)) (l .i) (bitAt (l .marks)) e (l .inv .2)
+    let e : l .i ≡ a .g .l = (omega arith) in
+    entries-end (a .g) (at (a .map .now)) (at (a .places .now)) (l .i) (bitAt (l .marks)) e (l .inv .2)
 
 pub mark-names-spec : {M : Type 1} → statement M
 mark-names-spec =

@@ -21,58 +21,51 @@ abbrev μ-loop : tie.MeasureT-loop
 
 loop-holds : tie.Need-loop-holds Inv-loop μ-loop
 loop-holds c =
-    let a = c .before .before .args in (
+    let the-pre = c .before .before .pre in (
       omega arith,
       refl,
-      marking-starts (a .n) always (at (a .places .now)) [] (bitAt (a .marks .now)) (marked-none (a .n) (bitAt (a .marks .now)) (c .before .before .pre .1 .1)),
+      marking-starts _ always _ [] _ (marked-none _ _ (the-pre .1 .1)),
     )
 
 mul-mark-name : tie.Need-mul-mark-name Inv-loop μ-loop
-mul-mark-name c =
-    omega arith
+mul-mark-name c = omega arith
 
 shared-slice-read-mark-name : tie.Need-shared-slice-read-mark-name Inv-loop μ-loop
-shared-slice-read-mark-name c =
-    omega arith
+shared-slice-read-mark-name c = omega arith
 
 mark-name-requires : tie.Need-mark-name-requires Inv-loop μ-loop
 mark-name-requires c κs =
-    let e = c .before .before .before .loop .inv .1 in
     let p = c .before .before .before .before .before .before .pre in
     (p .0, omega arith)
 
 same-length : tie.Need-same-length Inv-loop μ-loop
 same-length c =
-    c .before .before .before .mark-name .kept .0 ∙ c .before .before .before .before .before .before .before .loop .inv .1
+    let the-mark-name = c .before .before .before .mark-name in
+    let the-loop = c .before .before .before .before .before .before .before .loop in
+    the-mark-name .kept .0 ∙ the-loop .inv .1
 
 returns : tie.Need-returns Inv-loop μ-loop
 returns c =
-    let a = c .before .before .before .before .before .before .before .before .before .before .args in
+    let the-loop-test = c .before .before .before .before .before .before .loop-test in
     let l = c .before .before .before .before .before .before .before .loop in
     let m = c .before .before .before .mark-name in
-    marking-refused (a .n) always (at (a .places .now)) [] (l .i) (bitAt (l .marks)) _ (m .result) refl (l .inv .2) (m .ensures)
-    (length (a .places .now)) (c .before .before .before .before .before .before .loop-test .taken) (not-of (m .result) (c .if1 .taken))
+    marking-refused _ always _ [] (l .i) (bitAt (l .marks)) _ (m .result) refl (l .inv .2) (m .ensures)
+    _ (the-loop-test .taken) (not-of (m .result) (c .if1 .taken))
 
 add-i : tie.Need-add-i Inv-loop μ-loop
-add-i c =
-    let t = c .before .before .before .before .before .before .loop-test .taken in
-    omega arith
+add-i c = omega arith
 
 loop-less : tie.Need-loop-less Inv-loop μ-loop
-loop-less c =
-    let t = c .before .before .before .before .before .before .loop-test .taken in
-    omega arith
+loop-less c = omega arith
 
 loop-again : tie.Need-loop-again Inv-loop μ-loop
 loop-again c =
-    let a = c .before .before .before .before .before .before .before .before .before .before .args in
     let l = c .before .before .before .before .before .before .before .loop in
-    let m = c .before .before .before .mark-name in
-    let t = c .before .before .before .before .before .before .loop-test .taken in (
+    let m = c .before .before .before .mark-name in (
       omega arith,
       m .kept .0 ∙ l .inv .1,
       rw add-one
-          (marking-marks (a .n) always (at (a .places .now)) [] (l .i) (bitAt (l .marks)) _ (m .result) refl (l .inv .2) (m .ensures)
+          (marking-marks _ always _ [] (l .i) (bitAt (l .marks)) _ (m .result) refl (l .inv .2) (m .ensures)
           (not-false (m .result) (c .if1 .left))),
     )
 

@@ -24,27 +24,31 @@ stands-before-requires c κs = c .loop-test .taken
 
 returns : tie.Need-returns Inv-loop μ-loop
 returns c =
-    let xs = c .before .before .before .before .before .args .numbers .now in
+    let the-loop-test = c .before .before .loop-test in
+    let the-loop = c .before .before .before .loop in
+    let the-args = c .before .before .before .before .before .args in
+    let xs = the-args .numbers .now in
     let s = c .before .stands-before in
-    distinct-not (at xs) (c .before .before .before .loop .i) (length xs) (c .before .before .loop-test .taken) (sym (s .ensures) ∙ c .if1 .taken)
+    distinct-not (at xs) (the-loop .i) (length xs) (the-loop-test .taken) (sym (s .ensures) ∙ c .if1 .taken)
 
 add-i : tie.Need-add-i Inv-loop μ-loop
-add-i c = let t = c .before .before .loop-test .taken in omega arith
+add-i c = omega arith
 
 loop-less : tie.Need-loop-less Inv-loop μ-loop
-loop-less c = let t = c .before .before .loop-test .taken in omega arith
+loop-less c = omega arith
 
 loop-again : tie.Need-loop-again Inv-loop μ-loop
 loop-again c =
-    let xs = c .before .before .before .before .before .args .numbers .now in
+    let the-args = c .before .before .before .before .before .args in
+    let xs = the-args .numbers .now in
     let l = c .before .before .before .loop in
     let s = c .before .stands-before in
-    let t = c .before .before .loop-test .taken in
     (omega arith, distinct-more (at xs) (l .i) (l .inv .1) (sym (s .ensures) ∙ c .if1 .left))
 
 returns-2 : tie.Need-returns-2 Inv-loop μ-loop
 returns-2 c =
-    let xs = c .before .before .before .args .numbers .now in
+    let the-args = c .before .before .before .args in
+    let xs = the-args .numbers .now in
     let l = c .before .loop in
     let e : l .i ≡ length xs = (let i = l .inv .0 in let t = c .loop-test .left in omega arith) in
     sym (subst (λ (x : ℕ). distinct (gathered always (at xs) [] x) ≡ true) e (l .inv .1))

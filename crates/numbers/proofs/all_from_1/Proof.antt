@@ -28,9 +28,11 @@ shared-slice-read-if1 c = omega arith
 
 returns : tie.Need-returns Inv-loop μ-loop
 returns c =
-    let xs = c .before .before .before .before .args .numbers .now in
+    let the-loop-test = c .before .before .loop-test in
+    let the-args = c .before .before .before .before .args in
+    let xs = the-args .numbers .now in
     let l = c .before .before .before .loop in
-    allBelow-not (λ q. leb 1 (at xs q)) (length xs) (l .i) (c .before .before .loop-test .taken) (lt-leb 1 (at xs (l .i)) (c .if1 .taken))
+    allBelow-not (λ q. leb 1 (at xs q)) (length xs) (l .i) (the-loop-test .taken) (lt-leb 1 (at xs (l .i)) (c .if1 .taken))
 
 add-i : tie.Need-add-i Inv-loop μ-loop
 add-i c = omega arith
@@ -40,13 +42,15 @@ loop-less c = omega arith
 
 loop-again : tie.Need-loop-again Inv-loop μ-loop
 loop-again c =
-    let xs = c .before .before .before .before .args .numbers .now in
+    let the-args = c .before .before .before .before .args in
+    let xs = the-args .numbers .now in
     let l = c .before .before .before .loop in
     (omega arith, allBelow-more (λ q. leb 1 (at xs q)) (l .i) (l .inv .1) (le-leb 1 (at xs (l .i)) (c .if1 .left)))
 
 returns-2 : tie.Need-returns-2 Inv-loop μ-loop
 returns-2 c =
-    let xs = c .before .before .args .numbers .now in
+    let the-args = c .before .before .args in
+    let xs = the-args .numbers .now in
     let l = c .before .loop in
     let e : l .i ≡ length xs = (let i = l .inv .0 in let t = c .loop-test .left in omega arith) in
     sym (subst (λ (x : ℕ). allBelow (λ q. leb 1 (at xs q)) x ≡ true) e (l .inv .1))

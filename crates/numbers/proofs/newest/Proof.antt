@@ -38,18 +38,19 @@ loop-less c = omega arith
 
 loop-again : tie.Need-loop-again Inv-loop μ-loop
 loop-again c =
-    let num = at (c .before .before .before .before .before .args .numbers .now) in
-    let l = c .before .before .before .before .loop in
-    let t = c .before .before .before .loop-test .taken in (
+    let the-args = c .before .before .before .before .before .args in
+    let num = at (the-args .numbers .now) in
+    let l = c .before .before .before .before .loop in (
       omega arith,
-      ⊎-elim (λ w. let e = w .1 in omega arith) (λ w. let e = w .1 in let b = l .inv .1 in omega arith) (c .if1 .came),
+      ⊎-elim (λ w. omega arith) (λ w. omega arith) (c .if1 .came),
       ⊎-elim (λ w. w .1 ∙ best-new num (l .i) (l .found) (l .inv .2) (w .0 .taken))
           (λ w. w .1 ∙ best-stays num (l .i) (l .found) (l .inv .2) (w .0 .left)) (c .if1 .came),
     )
 
 returns : tie.Need-returns Inv-loop μ-loop
 returns c =
-    let xs = c .before .before .args .numbers .now in
+    let the-args = c .before .before .args in
+    let xs = the-args .numbers .now in
     let l = c .before .loop in
     let e : l .i ≡ length xs = (let i = l .inv .0 in let t = c .loop-test .left in omega arith) in
     l .inv .2 ∙ ap (best (at xs)) e

@@ -34,8 +34,10 @@ shared-slice-read-if1 c = omega arith
 
 returns : tie.Need-returns Inv-loop μ-loop
 returns c =
+    let the-loop-test = c .before .before .loop-test in
+    let the-loop = c .before .before .before .loop in
     let a = c .before .before .before .before .before .args in
-    elem-found (at (a .numbers .now)) (a .i) (c .before .before .before .loop .j) (c .before .before .loop-test .taken) (c .if1 .taken)
+    elem-found (at (a .numbers .now)) (a .i) (the-loop .j) (the-loop-test .taken) (c .if1 .taken)
 
 add-j : tie.Need-add-j Inv-loop μ-loop
 add-j c = omega arith

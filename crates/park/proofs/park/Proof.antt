@@ -16,6 +16,9 @@ enum-known-verdict c = search needs
 enum-told : tie.Need-enum-told
 enum-told c = search needs
 
+power-failed-requires : tie.Need-power-failed-requires
+power-failed-requires c κs = search needs
+
 cut-requires : tie.Need-cut-requires
 cut-requires c κs = search needs
 
@@ -24,13 +27,19 @@ same-length c = search needs
 
 returns : tie.Need-returns
 returns c =
-    let a = c .before .before .before .before .before .before .before .before .before .before .before .args in
-    park-cut (a .s) (a .image .now) (a .map .now) (a .places .now) (a .numbers .now) (a .used .now) (a .allowance) (sym (c .before .before .enum-told .given .1) ∙ c .before .before .before .before .park-verdict .ensures) (c .cut .result) (c .before .if1 .taken) (c .cut .ensures)
+    let the-power-failed = c .before .power-failed in
+    let the-enum-told = c .before .before .before .enum-told in
+    let the-park-verdict = c .before .before .before .before .before .park-verdict in
+    park-cut _ _ _ _ _ _ _ (sym (the-enum-told .given .1) ∙ the-park-verdict .ensures) (the-power-failed .result) (c .cut .result) (c .before .before .if1 .taken) (the-power-failed .ensures) (c .cut .ensures)
 
 store-park-requires : tie.Need-store-park-requires
 store-park-requires c κs =
-    let a = c .before .before .before .before .before .before .before .before .before .before .before .args in
-    first-sector (a .s) (a .image .now) (a .map .now) (a .places .now) (a .numbers .now) (a .used .now) (sym (c .before .before .enum-told .given .1) ∙ c .before .before .before .before .park-verdict .ensures)
+    let the-enum-told = c .before .before .enum-told in
+    let the-park-verdict = c .before .before .before .before .park-verdict in
+    first-sector _ _ _ _ _ _ (sym (the-enum-told .given .1) ∙ the-park-verdict .ensures)
+
+accepted-requires : tie.Need-accepted-requires
+accepted-requires c κs = search needs
 
 parked-requires : tie.Need-parked-requires
 parked-requires c κs = search needs
@@ -40,16 +49,22 @@ same-length-2 c = search needs
 
 returns-2 : tie.Need-returns-2
 returns-2 c =
-    let a = c .before .before .before .before .before .before .before .before .before .before .args in
-    park-refused (a .s) (a .image .now) (a .map .now) (a .places .now) (a .numbers .now) (a .used .now) (a .allowance) _ (sym (c .before .verdict .given .1) ∙ c .before .before .before .park-verdict .ensures)
+    let the-park-verdict = c .before .before .before .park-verdict in
+    park-refused _ _ _ _ _ _ _ _ (sym (c .before .verdict .given .1) ∙ the-park-verdict .ensures)
 
 same-length-3 : tie.Need-same-length-3
 same-length-3 c = search needs
 
 returns-3 : tie.Need-returns-3
 returns-3 c =
-    let a = c .before .before .before .before .before .before .before .before .before .before .before .before .before .before .before .args in
-    park-done (a .s) (a .image .now) (a .map .now) (a .places .now) (a .numbers .now) (a .used .now) (a .allowance) (sym (c .before .before .before .before .before .before .enum-told .given .1) ∙ c .before .before .before .before .before .before .before .before .park-verdict .ensures) (c .parked .result) _ (c .before .before .before .before .before .if1 .left) (c .parked .ensures) (c .before .before .before .store-park .kept .0) (c .before .before .before .store-park .ensures)
+    let the-accepted = c .before .accepted in
+    let the-store-park = c .before .before .before .before .store-park in
+    let the-if1 = c .before .before .before .before .before .before .if1 in
+    let the-enum-told = c .before .before .before .before .before .before .before .enum-told in
+    let the-park-verdict = c .before .before .before .before .before .before .before .before .before .park-verdict in
+    park-done _ _ _ _ _ _ _
+    (sym (the-enum-told .given .1) ∙ the-park-verdict .ensures) (the-accepted .result) (c .parked .result) _ (the-if1 .left) (the-accepted .ensures)
+    (c .parked .ensures) (the-store-park .kept .0) (the-store-park .ensures)
 
 pub park-spec : {M : Type 1} → statement M
 park-spec =
@@ -58,10 +73,12 @@ park-spec =
     park-verdict-requires
     enum-known-verdict
     enum-told
+    power-failed-requires
     cut-requires
     same-length
     returns
     store-park-requires
+    accepted-requires
     parked-requires
     same-length-2
     returns-2

@@ -13,39 +13,72 @@ state-fits-requires c κs = search needs
 
 returns : tie.Need-returns
 returns c =
-    let a = c .before .before .before .before .before .before .before .args in
-    size-refused (a .s) (a .image .now) (a .map .now) (a .places .now) (a .numbers .now) (a .used .now) (c .before .state-fits .result) (c .before .state-fits .ensures) (c .if1 .taken)
+    let the-state-fits = c .before .state-fits in
+    size-refused _ _ _ _ _ _ (the-state-fits .result) (the-state-fits .ensures) (c .if1 .taken)
 
 tables-fit-requires : tie.Need-tables-fit-requires
 tables-fit-requires c κs = search needs
 
 returns-2 : tie.Need-returns-2
 returns-2 c =
-    let a = c .before .before .before .before .before .before .before .before .before .args in
-    lengths-refused (a .s) (a .image .now) (a .map .now) (a .places .now) (a .numbers .now) (a .used .now) (c .before .before .before .state-fits .result) (c .before .before .before .state-fits .ensures) (c .before .before .if1 .left) (c .before .tables-fit .result) (c .before .tables-fit .ensures) (c .if2 .taken)
+    let the-tables-fit = c .before .tables-fit in
+    let the-if1 = c .before .before .before .if1 in
+    let the-state-fits = c .before .before .before .before .state-fits in
+    lengths-refused _ _ _ _ _ _ (the-state-fits .result) (the-state-fits .ensures) (the-if1 .left) (the-tables-fit .result) (the-tables-fit .ensures) (c .if2 .taken)
 
 is-running-requires : tie.Need-is-running-requires
 is-running-requires c κs = search needs
 
 returns-3 : tie.Need-returns-3
 returns-3 c =
-    let a = c .before .before .before .before .before .before .before .before .before .before .before .args in
-    phase-refused (a .s) (a .image .now) (a .map .now) (a .places .now) (a .numbers .now) (a .used .now) (c .before .before .before .before .before .state-fits .result) (c .before .before .before .before .before .state-fits .ensures) (c .before .before .before .before .if1 .left) (c .before .before .before .tables-fit .result) (c .before .before .before .tables-fit .ensures) (c .before .before .if2 .left) (c .before .is-running .result) (c .before .is-running .ensures) (c .if3 .taken)
+    let the-is-running = c .before .is-running in
+    let the-if2 = c .before .before .if2 in
+    let the-tables-fit = c .before .before .before .tables-fit in
+    let the-if1 = c .before .before .before .before .before .if1 in
+    let the-state-fits = c .before .before .before .before .before .before .state-fits in
+    phase-refused _ _ _ _ _ _ (the-state-fits .result)
+    (the-state-fits .ensures) (the-if1 .left) (the-tables-fit .result) (the-tables-fit .ensures) (the-if2 .left) (the-is-running .result)
+    (the-is-running .ensures) (c .if3 .taken)
 
 tables-agree-requires : tie.Need-tables-agree-requires
 tables-agree-requires c κs =
-    let a = c .before .before .before .before .before .before .before .before .before .before .before .args in
-    (state-passed (a .s) (a .image .now) (a .map .now) (a .places .now) (a .numbers .now) (a .used .now) (c .before .before .before .before .before .state-fits .result) (c .before .before .before .before .before .state-fits .ensures) (c .before .before .before .before .if1 .left), lengths-passed (a .s) (a .image .now) (a .map .now) (a .places .now) (a .numbers .now) (a .used .now) (c .before .before .before .before .before .state-fits .result) (c .before .before .before .before .before .state-fits .ensures) (c .before .before .before .before .if1 .left) (c .before .before .before .tables-fit .result) (c .before .before .before .tables-fit .ensures) (c .before .before .if2 .left))
+    let the-if2 = c .before .before .if2 in
+    let the-tables-fit = c .before .before .before .tables-fit in
+    let the-if1 = c .before .before .before .before .before .if1 in
+    let the-state-fits = c .before .before .before .before .before .before .state-fits in
+    let a = c .before .before .before .before .before .before .before .before .before .before .before .before .args in (
+      state-passed (a .s) (a .image .now) (a .map .now) (a .places .now) (a .numbers
+          .now) (a .used .now) (the-state-fits .result) (the-state-fits .ensures) (the-if1 .left),
+      lengths-passed (a .s) (a .image .now) (a .map .now) (a
+          .places .now) (a .numbers .now) (a .used .now) (the-state-fits .result)
+          (the-state-fits .ensures) (the-if1 .left) (the-tables-fit .result) (the-tables-fit .ensures) (the-if2 .left),
+    )
 
 returns-4 : tie.Need-returns-4
 returns-4 c =
-    let a = c .before .before .before .before .before .before .before .before .before .before .before .before .before .args in
-    tables-refused (a .s) (a .image .now) (a .map .now) (a .places .now) (a .numbers .now) (a .used .now) (c .before .before .before .before .before .before .before .state-fits .result) (c .before .before .before .before .before .before .before .state-fits .ensures) (c .before .before .before .before .before .before .if1 .left) (c .before .before .before .before .before .tables-fit .result) (c .before .before .before .before .before .tables-fit .ensures) (c .before .before .before .before .if2 .left) (c .before .before .before .is-running .result) (c .before .before .before .is-running .ensures) (c .before .before .if3 .left) (c .before .tables-agree .result) (c .before .tables-agree .ensures) (c .if4 .taken)
+    let the-tables-agree = c .before .tables-agree in
+    let the-if3 = c .before .before .if3 in
+    let the-is-running = c .before .before .before .is-running in
+    let the-if2 = c .before .before .before .before .if2 in
+    let the-tables-fit = c .before .before .before .before .before .tables-fit in
+    let the-if1 = c .before .before .before .before .before .before .before .if1 in
+    let the-state-fits = c .before .before .before .before .before .before .before .before .state-fits in
+    tables-refused _ _ _ _ _ _ (the-state-fits .result)
+    (the-state-fits .ensures) (the-if1 .left) (the-tables-fit .result) (the-tables-fit .ensures) (the-if2 .left) (the-is-running .result)
+    (the-is-running .ensures) (the-if3 .left) (the-tables-agree .result) (the-tables-agree .ensures) (c .if4 .taken)
 
 returns-5 : tie.Need-returns-5
 returns-5 c =
-    let a = c .before .before .before .before .before .before .before .before .before .before .before .before .before .args in
-    none-refused (a .s) (a .image .now) (a .map .now) (a .places .now) (a .numbers .now) (a .used .now) (c .before .before .before .before .before .before .before .state-fits .result) (c .before .before .before .before .before .before .before .state-fits .ensures) (c .before .before .before .before .before .before .if1 .left) (c .before .before .before .before .before .tables-fit .result) (c .before .before .before .before .before .tables-fit .ensures) (c .before .before .before .before .if2 .left) (c .before .before .before .is-running .result) (c .before .before .before .is-running .ensures) (c .before .before .if3 .left) (c .before .tables-agree .result) (c .before .tables-agree .ensures) (c .if4 .left)
+    let the-tables-agree = c .before .tables-agree in
+    let the-if3 = c .before .before .if3 in
+    let the-is-running = c .before .before .before .is-running in
+    let the-if2 = c .before .before .before .before .if2 in
+    let the-tables-fit = c .before .before .before .before .before .tables-fit in
+    let the-if1 = c .before .before .before .before .before .before .before .if1 in
+    let the-state-fits = c .before .before .before .before .before .before .before .before .state-fits in
+    none-refused _ _ _ _ _ _ (the-state-fits .result)
+    (the-state-fits .ensures) (the-if1 .left) (the-tables-fit .result) (the-tables-fit .ensures) (the-if2 .left) (the-is-running .result)
+    (the-is-running .ensures) (the-if3 .left) (the-tables-agree .result) (the-tables-agree .ensures) (c .if4 .left)
 
 pub park-verdict-spec : {M : Type 1} → statement M
 park-verdict-spec =

@@ -24,40 +24,40 @@ cast-if1 : tie.Need-cast-if1 Inv-loop μ-loop
 cast-if1 c = search needs
 
 shared-slice-read-if1 : tie.Need-shared-slice-read-if1 Inv-loop μ-loop
-shared-slice-read-if1 c =
-    let t = c .before .loop-test .taken in
-    let h = c .before .before .before .pre in
-    omega arith
+shared-slice-read-if1 c = omega arith
 
 add-count : tie.Need-add-count Inv-loop μ-loop
 add-count c =
+    let the-loop-test = c .before .before .loop-test in
+    let the-args = c .before .before .before .before .args in
     let l = c .before .before .before .loop in
-    let b = count-le (flagged (c .before .before .before .before .args .flags .now)) (l .p) in
+    let b = count-le (flagged (the-args .flags .now)) (l .p) in
     let e = l .inv .1 in
-    let t = c .before .before .loop-test .taken in
+    let t = the-loop-test .taken in
     omega arith
 
 add-p : tie.Need-add-p Inv-loop μ-loop
-add-p c = let t = c .before .before .loop-test .taken in omega arith
+add-p c = omega arith
 
 loop-less : tie.Need-loop-less Inv-loop μ-loop
-loop-less c = let t = c .before .before .loop-test .taken in omega arith
+loop-less c = omega arith
 
 loop-again : tie.Need-loop-again Inv-loop μ-loop
 loop-again c =
+    let the-args = c .before .before .before .before .args in
     let l = c .before .before .before .loop in
-    let t = c .before .before .loop-test .taken in
-    let fs = c .before .before .before .before .args .flags .now in (
+    let fs = the-args .flags .now in (
       omega arith,
       ⊎-elim (λ w. w .1 ∙ flags-hit fs (l .p) (l .count) (w .0 .taken) (l .inv .1)) (λ w. w .1 ∙ flags-miss fs (l .p) (l .count) (w .0 .left) (l .inv .1)) (c .if1 .came),
     )
 
 returns : tie.Need-returns Inv-loop μ-loop
 returns c =
+    let the-args = c .before .before .args in
     let l = c .before .loop in
     let t = c .loop-test .left in
     let i = l .inv .0 in
-    l .inv .1 ∙ ap (countBelow (flagged (c .before .before .args .flags .now))) (let e : l .p ≡ c .before .before .args .pieces = omega arith in e)
+    l .inv .1 ∙ ap (countBelow (flagged (the-args .flags .now))) (let e : l .p ≡ the-args .pieces = omega arith in e)
 
 pub count-flagged-spec : {M : Type 1} → statement M
 count-flagged-spec =

@@ -24,12 +24,7 @@ cast-flags : tie.Need-cast-flags Inv-loop μ-loop
 cast-flags c = search needs
 
 slice-write-flags : tie.Need-slice-write-flags Inv-loop μ-loop
-slice-write-flags c =
-    let l = c .before .loop in
-    let t = c .loop-test .taken in
-    let h = c .before .before .pre in
-    let k = l .inv .1 in
-    omega arith
+slice-write-flags c = omega arith
 
 add-p : tie.Need-add-p Inv-loop μ-loop
 add-p c = let t = c .loop-test .taken in omega arith
@@ -40,20 +35,19 @@ loop-less c = let t = c .loop-test .taken in omega arith
 loop-again : tie.Need-loop-again Inv-loop μ-loop
 loop-again c =
     let l = c .before .loop in
-    let t = c .loop-test .taken in
-    let h = c .before .before .pre in
     let k = l .inv .1 in
-    (omega arith, length-set (l .flags) (l .p) 1 ∙ k, below-more (c .before .before .args .flags .now) (l .flags) (l .p) (omega arith) (l .inv .2))
+    (omega arith, length-set (l .flags) (l .p) 1 ∙ k, below-more _ (l .flags) (l .p) (omega arith) (l .inv .2))
 
 same-length : tie.Need-same-length Inv-loop μ-loop
 same-length c = c .before .loop .inv .1
 
 returns : tie.Need-returns Inv-loop μ-loop
 returns c =
+    let the-args = c .before .before .args in
     let l = c .before .loop in
     let t = c .loop-test .left in
     let i = l .inv .0 in
-    l .inv .2 ∙ ap {B = ℕ → Bool} (λ (x : ℕ). λ q. ltb q x || flagged (c .before .before .args .flags .now) q) (let e : l .p ≡ c .before .before .args .pieces = omega arith in e)
+    l .inv .2 ∙ ap {B = ℕ → Bool} (λ (x : ℕ). λ q. ltb q x || flagged (the-args .flags .now) q) (let e : l .p ≡ the-args .pieces = omega arith in e)
 
 pub flag-all-spec : {M : Type 1} → statement M
 flag-all-spec =

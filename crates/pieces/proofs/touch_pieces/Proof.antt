@@ -17,13 +17,16 @@ abbrev μ-loop : tie.MeasureT-loop
 μ-loop flags₀ blocks i₀ flags i = length blocks - i
 
 loop-holds : tie.Need-loop-holds Inv-loop μ-loop
-loop-holds c = (omega arith, refl, touched-none (c .before .before .args .flags .now) (c .before .before .args .blocks .now) (length (c .before .before .args .flags .now)) (c .before .before .pre .0))
+loop-holds c =
+    let the-args = c .before .before .args in
+    let the-pre = c .before .before .pre in
+    (omega arith, refl, touched-none (the-args .flags .now) (the-args .blocks .now) (length (the-args .flags .now)) (the-pre .0))
 
 mul-piece-of : tie.Need-mul-piece-of Inv-loop μ-loop
 mul-piece-of c = search needs
 
 shared-slice-read-piece-of : tie.Need-shared-slice-read-piece-of Inv-loop μ-loop
-shared-slice-read-piece-of c = let t = c .before .loop-test .taken in omega arith
+shared-slice-read-piece-of c = omega arith
 
 piece-of-requires : tie.Need-piece-of-requires Inv-loop μ-loop
 piece-of-requires c κs = search needs
@@ -33,29 +36,34 @@ cast-p c = search needs
 
 slice-write-flags : tie.Need-slice-write-flags Inv-loop μ-loop
 slice-write-flags c =
+    let the-loop-test = c .before .before .loop-test in
+    let the-pre = c .before .before .before .before .before .before .pre in
     let l = c .before .before .before .loop in
-    let t = c .before .before .loop-test .taken in
-    let h = c .before .before .before .before .before .before .pre .1 (l .i) t in
+    let t = the-loop-test .taken in
+    let h = the-pre .1 (l .i) t in
     let e = c .piece-of .ensures in
     let k = l .inv .1 in
     omega arith
 
 add-i : tie.Need-add-i Inv-loop μ-loop
-add-i c = let t = c .before .before .loop-test .taken in omega arith
+add-i c = omega arith
 
 loop-less : tie.Need-loop-less Inv-loop μ-loop
-loop-less c = let t = c .before .before .loop-test .taken in omega arith
+loop-less c = omega arith
 
 loop-again : tie.Need-loop-again Inv-loop μ-loop
 loop-again c =
+    let the-loop-test = c .before .before .loop-test in
+    let the-pre = c .before .before .before .before .before .before .pre in
+    let the-args = c .before .before .before .before .before .before .args in
     let l = c .before .before .before .loop in
-    let t = c .before .before .loop-test .taken in
-    let h = c .before .before .before .before .before .before .pre .1 (l .i) t in
+    let t = the-loop-test .taken in
+    let h = the-pre .1 (l .i) t in
     let e = c .piece-of .ensures in
     let k = l .inv .1 in (
       omega arith,
       length-set (l .flags) (c .piece-of .result) 1 ∙ k,
-      touched-more (l .flags) (c .before .before .before .before .before .before .args .blocks .now) (l .i) (c .piece-of .result) e (omega arith) (l .inv .2),
+      touched-more (l .flags) (the-args .blocks .now) (l .i) (c .piece-of .result) e (omega arith) (l .inv .2),
     )
 
 same-length : tie.Need-same-length Inv-loop μ-loop
@@ -66,7 +74,7 @@ returns c =
     let l = c .before .loop in
     let t = c .loop-test .left in
     let i = l .inv .0 in
-    touched-all (l .flags) (c .before .before .before .before .args .blocks .now) (l .i) (omega arith) (l .inv .2)
+    touched-all (l .flags) _ (l .i) (omega arith) (l .inv .2)
 
 pub touch-pieces-spec : {M : Type 1} → statement M
 touch-pieces-spec =

@@ -26,42 +26,43 @@ cast-is-set : tie.Need-cast-is-set Inv-loop μ-loop
 cast-is-set c = search needs
 
 is-set-requires : tie.Need-is-set-requires Inv-loop μ-loop
-is-set-requires c κs =
-    let i = c .before .loop .inv .0 in
-    let h = c .before .before .before .pre .1 .1 in
-    omega arith
+is-set-requires c κs = omega arith
 
 sector-after-requires : tie.Need-sector-after-requires Inv-loop μ-loop
-sector-after-requires c κs = c .before .before .before .loop .inv .0
+sector-after-requires c κs =
+    let the-loop = c .before .before .before .loop in
+    the-loop .inv .0
 
 sub-steps : tie.Need-sub-steps Inv-loop μ-loop
-sub-steps c = positive _ (c .before .before .before .if1 .left)
+sub-steps c =
+    let the-if1 = c .before .before .before .if1 in
+    positive _ (the-if1 .left)
 
 loop-less : tie.Need-loop-less Inv-loop μ-loop
-loop-less c = let h = positive _ (c .before .before .before .if1 .left) in omega arith
+loop-less c = omega arith
 
 loop-again : tie.Need-loop-again Inv-loop μ-loop
 loop-again c =
+    let the-if1 = c .before .before .before .if1 in
+    let the-pre = c .before .before .before .before .before .before .pre in
     let a = c .before .before .before .before .before .before .args in
     let l = c .before .before .before .before .loop in
     let s = c .before .before .is-set in (
-      subst (λ (x : ℕ). x < a .n) (sym (c .sector-after .ensures)) (after-below (a .n) (l .k) (c .before .before .before .before .before .before .pre .0)),
-      l .inv .1 ∙ search-on (a .n) (bitAt (a .used .now)) (l .steps) (l .k) (c .before .before .before .if1 .left) (sym (s .ensures) ∙ not-false (s .result) (c .before .if2 .left))
+      subst (λ (x : ℕ). x < a .n) (sym (c .sector-after .ensures)) (after-below (a .n) (l .k) (the-pre .0)),
+      l .inv .1 ∙ search-on (a .n) (bitAt (a .used .now)) (l .steps) (l .k) (the-if1 .left) (sym (s .ensures) ∙ not-false (s .result) (c .before .if2 .left))
           ∙ ap (firstFree (a .n) (bitAt (a .used .now)) (l .steps - 1)) (sym (c .sector-after .ensures)),
     )
 
 returns : tie.Need-returns Inv-loop μ-loop
 returns c =
-    let a = c .before .before .before .args in
     let l = c .before .loop in
-    (sym (search-ends (a .n) (bitAt (a .used .now)) (l .steps) (l .k) (c .if1 .taken)) ∙ sym (l .inv .1), l .inv .0)
+    (sym (search-ends _ _ (l .steps) (l .k) (c .if1 .taken)) ∙ sym (l .inv .1), l .inv .0)
 
 returns-2 : tie.Need-returns-2 Inv-loop μ-loop
 returns-2 c =
-    let a = c .before .before .before .before .before .args in
     let l = c .before .before .before .loop in
     let s = c .before .is-set in
-    (sym (search-finds (a .n) (bitAt (a .used .now)) (l .steps) (l .k) (sym (s .ensures) ∙ not-true (s .result) (c .if2 .taken))) ∙ sym (l .inv .1), l .inv .0)
+    (sym (search-finds _ _ (l .steps) (l .k) (sym (s .ensures) ∙ not-true (s .result) (c .if2 .taken))) ∙ sym (l .inv .1), l .inv .0)
 
 pub find-place-spec : {M : Type 1} → statement M
 find-place-spec =

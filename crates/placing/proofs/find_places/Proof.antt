@@ -24,67 +24,59 @@ abbrev μ-loop : tie.MeasureT-loop
 
 loop-holds : tie.Need-loop-holds Inv-loop μ-loop
 loop-holds c =
-    let a = c .before .before .args in
-    (omega arith, c .before .before .pre .1 .0, refl, placed-none (a .n) (bitAt (a .used .now)) (a .head), filled-none (placeOf base (a .n) (bitAt (a .used .now)) (a .head)) (a .places .now))
+    let the-pre = c .before .before .pre in
+    (omega arith, the-pre .1 .0, refl, placed-none _ _ _, filled-none (placeOf base _ _ _) _)
 
 find-place-requires : tie.Need-find-place-requires Inv-loop μ-loop
 find-place-requires c κs =
+    let the-pre = c .before .before .before .before .before .pre in
     let l = c .before .before .loop in
     let e = l .inv .2 in
-    let h = c .before .before .before .before .before .pre .1 .1 .0 in
-    (c .before .before .before .before .before .pre .0, (l .inv .1, omega arith))
+    let h = the-pre .1 .1 .0 in
+    (the-pre .0, (l .inv .1, omega arith))
 
 cast-set-bit : tie.Need-cast-set-bit Inv-loop μ-loop
 cast-set-bit c = search needs
 
 set-bit-requires : tie.Need-set-bit-requires Inv-loop μ-loop
-set-bit-requires c κs =
-    let l = c .before .before .before .before .loop in
-    let e = l .inv .2 in
-    let h = c .before .before .before .before .before .before .before .pre .1 .1 .0 in
-    let b = c .before .find-place .ensures .1 in
-    omega arith
+set-bit-requires c κs = omega arith
 
 mul-places : tie.Need-mul-places Inv-loop μ-loop
 mul-places c = search needs
 
 slice-write-places : tie.Need-slice-write-places Inv-loop μ-loop
 slice-write-places c =
-    let a = c .before .before .before .before .before .before .before .before .before .before .args in
+    let the-loop-test = c .before .before .before .before .before .before .loop-test in
+    let the-pre = c .before .before .before .before .before .before .before .before .before .before .pre in
     let l = c .before .before .before .before .before .before .before .loop in
-    let e = filled-length (placeOf base (a .n) (bitAt (a .used .now)) (a .head)) (a .places .now) (l .j) (l .places) (l .inv .4) in
-    let t = c .before .before .before .before .before .before .loop-test .taken in
-    let h = c .before .before .before .before .before .before .before .before .before .before .pre .1 .1 .1 in
+    let e = filled-length (placeOf base _ _ _) _ (l .j) (l .places) (l .inv .4) in
+    let t = the-loop-test .taken in
+    let h = the-pre .1 .1 .1 in
     omega arith
 
 sector-after-requires : tie.Need-sector-after-requires Inv-loop μ-loop
-sector-after-requires c κs =
-    let h = c .before .before .before .before .find-place .ensures .1 in
-    let i = c .before .before .before .before .before .before .before .before .before .before .pre .1 .0 in
-    omega arith
+sector-after-requires c κs = omega arith
 
 add-j : tie.Need-add-j Inv-loop μ-loop
-add-j c =
-    let t = c .before .before .before .before .before .before .before .loop-test .taken in
-    omega arith
+add-j c = omega arith
 
 loop-less : tie.Need-loop-less Inv-loop μ-loop
-loop-less c = let t = c .before .before .before .before .before .before .before .loop-test .taken in omega arith
+loop-less c = omega arith
 
 loop-again : tie.Need-loop-again Inv-loop μ-loop
 loop-again c =
+    let the-set-bit = c .before .before .before .set-bit in
+    let the-pre = c .before .before .before .before .before .before .before .before .before .before .before .pre in
     let a = c .before .before .before .before .before .before .before .before .before .before .before .args in
     let l = c .before .before .before .before .before .before .before .before .loop in
-    let t = c .before .before .before .before .before .before .before .loop-test .taken in
-    let h = c .before .before .before .before .before .before .before .before .before .before .before .pre .1 .1 .1 in
     let f = c .before .before .before .before .before .find-place in
     let u = bitAt (a .used .now) in
     let g = placeOf base (a .n) u (a .head) in
     let here : f .result ≡ g (l .j) = place-here (a .n) u (a .head) (l .j) (bitAt (l .used)) (l .start) (f .result) (l .inv .3) (f .ensures .0) in (
       omega arith,
-      subst (λ (x : ℕ). x < a .n) (sym (c .sector-after .ensures)) (after-below (a .n) (f .result) (c .before .before .before .before .before .before .before .before .before .before .before .pre .0)),
-      c .before .before .before .set-bit .kept .0 ∙ l .inv .2,
-      placed-more (a .n) u (a .head) (l .j) (bitAt (l .used)) _ (l .start) _ (f .result) (l .inv .3) (f .ensures .0) (c .before .before .before .set-bit .ensures) (c .sector-after .ensures),
+      subst (λ (x : ℕ). x < a .n) (sym (c .sector-after .ensures)) (after-below (a .n) (f .result) (the-pre .0)),
+      the-set-bit .kept .0 ∙ l .inv .2,
+      placed-more (a .n) u (a .head) (l .j) (bitAt (l .used)) _ (l .start) _ (f .result) (l .inv .3) (f .ensures .0) (the-set-bit .ensures) (c .sector-after .ensures),
       subst (λ (x : ℕ). Filled g (a .places .now) (l .j + 1) (set (l .places) (l .j) x)) (sym here) (filled-more g (a .places .now) (l .j) (l .places) (omega arith) (l .inv .4)),
     )
 
@@ -93,9 +85,8 @@ same-length c = c .before .loop .inv .2
 
 same-length-2 : tie.Need-same-length-2 Inv-loop μ-loop
 same-length-2 c =
-    let a = c .before .before .before .before .args in
     let l = c .before .loop in
-    filled-length (placeOf base (a .n) (bitAt (a .used .now)) (a .head)) (a .places .now) (l .j) (l .places) (l .inv .4)
+    filled-length (placeOf base _ _ _) _ (l .j) (l .places) (l .inv .4)
 
 returns : tie.Need-returns Inv-loop μ-loop
 returns c =

@@ -11,10 +11,14 @@ add-result : tie.Need-add-result
 add-result c = search needs
 
 returns : tie.Need-returns
-returns c = after-next (c .before .args .n) (c .before .args .k) (c .if1 .taken)
+returns c =
+    let the-args = c .before .args in
+    after-next (the-args .n) (the-args .k) (c .if1 .taken)
 
 returns-2 : tie.Need-returns-2
-returns-2 c = after-wraps (c .before .args .n) (c .before .args .k) (c .if1 .left)
+returns-2 c =
+    let the-args = c .before .args in
+    after-wraps (the-args .n) (the-args .k) (c .if1 .left)
 
 pub sector-after-spec : {M : Type 1} → statement M
 sector-after-spec = tie.close (tie.spec add-if1 add-result returns returns-2)

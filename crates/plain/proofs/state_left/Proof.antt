@@ -1,24 +1,24 @@
--- Answers 1 to 7 keep the state that came.
-use Rattle.plain.proofs.PlainLaws.{left-accepted, left-late, left-kept}
+-- A refusal keeps the state that came.
+use Rattle.plain.proofs.PlainLaws.{left-kept, left-other}
 use borrow.Author.Needs.{needs}
 use Rattle.plain.proofs.state_left.Statement.{statement}
 use Rattle.plain.proofs.state_left.Tie as tie
 
+is-refusal-requires : tie.Need-is-refusal-requires
+is-refusal-requires c κs = search needs
+
+returns : tie.Need-returns
+returns c =
+    let the-is-refusal = c .before .is-refusal in
+    left-kept _ _ _ (the-is-refusal .result) (the-is-refusal .ensures) (c .if1 .taken)
+
 plain-of-requires : tie.Need-plain-of-requires
 plain-of-requires c κs = search needs
 
-returns : tie.Need-returns
-returns c = left-accepted (c .before .before .args .c) (c .before .before .args .number) (c .before .before .args .s) _ (c .plain-of .ensures) (c .before .if1 .taken)
-
-plain-of-requires-2 : tie.Need-plain-of-requires-2
-plain-of-requires-2 c κs = search needs
-
 returns-2 : tie.Need-returns-2
-returns-2 c = left-late (c .before .before .before .args .c) (c .before .before .before .args .number) (c .before .before .before .args .s) _ (c .plain-of2 .ensures) (c .before .before .if1 .left) (c .before .if2 .taken)
-
-returns-3 : tie.Need-returns-3
-returns-3 c = left-kept (c .before .before .args .c) (c .before .before .args .number) (c .before .before .args .s) (c .before .if1 .left) (c .if2 .left)
+returns-2 c =
+    let the-is-refusal = c .before .before .is-refusal in
+    left-other _ _ _ (the-is-refusal .result) (the-is-refusal .ensures) (c .plain-of .result) (c .plain-of .ensures) (c .before .if1 .left)
 
 pub state-left-spec : {M : Type 1} → statement M
-state-left-spec =
-    tie.close (tie.spec plain-of-requires returns plain-of-requires-2 returns-2 returns-3)
+state-left-spec = tie.close (tie.spec is-refusal-requires returns plain-of-requires returns-2)

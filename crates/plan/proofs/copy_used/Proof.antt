@@ -26,40 +26,37 @@ shared-slice-read-marks c = c .before .loop-test .taken
 
 slice-write-marks : tie.Need-slice-write-marks Inv-loop μ-loop
 slice-write-marks c =
-    let a = c .before .before .before .args in
+    let the-pre = c .before .before .before .pre in
     let l = c .before .before .loop in
-    let e = filled-length (at (a .used .now)) (a .marks .now) (l .i) (l .marks) (l .inv .1) in
+    let e = filled-length _ _ (l .i) (l .marks) (l .inv .1) in
     let t = c .before .loop-test .taken in
-    let h = c .before .before .before .pre .0 in
+    let h = the-pre .0 in
     omega arith
 
 add-i : tie.Need-add-i Inv-loop μ-loop
-add-i c = let t = c .before .loop-test .taken in omega arith
+add-i c = omega arith
 
 loop-less : tie.Need-loop-less Inv-loop μ-loop
-loop-less c = let t = c .before .loop-test .taken in omega arith
+loop-less c = omega arith
 
 loop-again : tie.Need-loop-again Inv-loop μ-loop
 loop-again c =
-    let a = c .before .before .before .args in
     let l = c .before .before .loop in
-    let t = c .before .loop-test .taken in
-    let h = c .before .before .before .pre .0 in
-    (omega arith, filled-more (at (a .used .now)) (a .marks .now) (l .i) (l .marks) (omega arith) (l .inv .1))
+    (omega arith, filled-more _ _ (l .i) (l .marks) (omega arith) (l .inv .1))
 
 same-length : tie.Need-same-length Inv-loop μ-loop
 same-length c =
-    let a = c .before .before .args in
     let l = c .before .loop in
-    filled-length (at (a .used .now)) (a .marks .now) (l .i) (l .marks) (l .inv .1)
+    filled-length _ _ (l .i) (l .marks) (l .inv .1)
 
 returns : tie.Need-returns Inv-loop μ-loop
 returns c =
+    let the-pre = c .before .before .pre in
     let a = c .before .before .args in
     let l = c .before .loop in
     let t = c .loop-test .left in
     let i = l .inv .0 in
-    copied (a .used .now) (a .marks .now) (l .marks) (length (a .marks .now)) (c .before .before .pre .1) (l .inv .1 .1 ∙ ap (λ (x : ℕ). listFrom (at (a .used .now)) 0 x ++ drop x (a .marks .now)) (let e : l .i ≡ length (a .used .now) = omega arith in e))
+    copied (a .used .now) (a .marks .now) (l .marks) (length (a .marks .now)) (the-pre .1) (l .inv .1 .1 ∙ ap (λ (x : ℕ). listFrom (at (a .used .now)) 0 x ++ drop x (a .marks .now)) (let e : l .i ≡ length (a .used .now) = omega arith in e))
 
 pub copy-used-spec : {M : Type 1} → statement M
 copy-used-spec =

@@ -24,9 +24,10 @@ pieces-for-requires c κs = search needs
 
 touch-pieces-requires : tie.Need-touch-pieces-requires
 touch-pieces-requires c κs =
-    let a = c .before .before .before .before .before .before .before .before .before .before .args in
-    let r = c .before .before .before .before .before .before .before .before .before .before .pre in
-    let fit = fits (a .s .n) (a .s .l) (r .0) in
+    let start = c .before .before .before .before .before .before .before .before .before .before .before in
+    let a = start .args in
+    let r = start .pre in
+    let fit = fits (a .s .geometry) (r .0) in
     let least = fit .least in
     let most = fit .most in
     let sectors = fit .sectors in
@@ -37,58 +38,70 @@ touch-pieces-requires c κs =
 
 list-branches-requires : tie.Need-list-branches-requires
 list-branches-requires c κs =
-    let a = c .before .before .before .before .before .before .before .before .before .before .before .before .before .before .before .args in
-    let r = c .before .before .before .before .before .before .before .before .before .before .before .before .before .before .before .pre in
-    let fit = fits (a .s .n) (a .s .l) (r .0) in
+    let the-touch-pieces = c .before .before .before .before .touch-pieces in
+    let the-pieces-for = c .before .before .before .before .before .before .pieces-for in
+    let start = c .before .before .before .before .before .before .before .before .before .before .before .before .before .before .before .before in
+    let a = start .args in
+    let r = start .pre in
+    let fit = fits (a .s .geometry) (r .0) in
     let least = fit .least in
     let most = fit .most in
     let sectors = fit .sectors in
-    let pieces = c .before .before .before .before .before .before .pieces-for .ensures in
+    let pieces = the-pieces-for .ensures in
     let w = r .1 .1 .1 .1 .1 .1 .1 .1 .1 .1 .0 in
     let len : length (a .written .now) ≡ 256 = ap length w ∙ length-replicate {A = ℕ} 256 0 in
-    let kept = c .before .before .before .before .touch-pieces .kept .0 in
+    let kept = the-touch-pieces .kept .0 in
     let nu = r .1 .1 .1 .0 in
     let num = r .1 .1 .1 .1 .1 .1 .0 in
-    (r .1 .0, (r .1 .1 .0 ∙ sym nu, (omega arith, (omega arith, (omega arith, (r .1 .1 .1 .1 .1 .1 .1 .1 .1 .1 .1 .0, subst (Live (a .s .n) (a .s .l) (sectorAt (a .image .now)) (at (a .places .now))) (sym nu) (r .1 .1 .1 .1 .1 .1 .1 .1 .1 .0)))))))
+    (r .1 .0, (r .1 .1 .0 ∙ sym nu, (omega arith, (omega arith, (omega arith, (r .1 .1 .1 .1 .1 .1 .1 .1 .1 .1 .1 .0, subst (Live (a .s .geometry) (sectorAt (a .image .now)) (at (a .places .now))) (sym nu) (r .1 .1 .1 .1 .1 .1 .1 .1 .1 .0)))))))
 
 fold-requires : tie.Need-fold-requires
 fold-requires c κs =
-    let a = c .before .before .before .before .before .before .before .before .before .before .before .before .before .before .before .before .before .before .before .args in
-    let r = c .before .before .before .before .before .before .before .before .before .before .before .before .before .before .before .before .before .before .before .pre in
-    let fit = fits (a .s .n) (a .s .l) (r .0) in
+    let the-touch-pieces = c .before .before .before .before .before .before .before .before .touch-pieces in
+    let the-pieces-for = c .before .before .before .before .before .before .before .before .before .before .pieces-for in
+    let start = c .before .before .before .before .before .before .before .before .before .before .before .before .before .before .before .before .before .before .before .before in
+    let a = start .args in
+    let r = start .pre in
+    let fit = fits (a .s .geometry) (r .0) in
     let least = fit .least in
     let most = fit .most in
     let sectors = fit .sectors in
-    let pieces = c .before .before .before .before .before .before .before .before .before .before .pieces-for .ensures in
+    let pieces = the-pieces-for .ensures in
     let w = r .1 .1 .1 .1 .1 .1 .1 .1 .1 .1 .0 in
     let len : length (a .written .now) ≡ 256 = ap length w ∙ length-replicate {A = ℕ} 256 0 in
-    let kept = c .before .before .before .before .before .before .before .before .touch-pieces .kept .0 in
+    let kept = the-touch-pieces .kept .0 in
     omega arith
 
 count-flagged-requires : tie.Need-count-flagged-requires
 count-flagged-requires c κs =
-    let a = c .before .before .before .before .before .before .before .before .before .before .before .before .before .before .before .before .before .before .before .before .before .before .before .args in
-    let r = c .before .before .before .before .before .before .before .before .before .before .before .before .before .before .before .before .before .before .before .before .before .before .before .pre in
-    let fit = fits (a .s .n) (a .s .l) (r .0) in
+    let the-fold = c .before .before .before .fold in
+    let the-touch-pieces = c .before .before .before .before .before .before .before .before .before .before .before .before .touch-pieces in
+    let the-pieces-for = c .before .before .before .before .before .before .before .before .before .before .before .before .before .before .pieces-for in
+    let start = c .before .before .before .before .before .before .before .before .before .before .before .before .before .before .before .before .before .before .before .before .before .before .before .before in
+    let a = start .args in
+    let r = start .pre in
+    let fit = fits (a .s .geometry) (r .0) in
     let least = fit .least in
     let most = fit .most in
     let sectors = fit .sectors in
-    let pieces = c .before .before .before .before .before .before .before .before .before .before .before .before .before .before .pieces-for .ensures in
+    let pieces = the-pieces-for .ensures in
     let w = r .1 .1 .1 .1 .1 .1 .1 .1 .1 .1 .0 in
     let len : length (a .written .now) ≡ 256 = ap length w ∙ length-replicate {A = ℕ} 256 0 in
-    let kept = c .before .before .before .before .before .before .before .before .before .before .before .before .touch-pieces .kept .0 in
-    let kept2 = c .before .before .before .fold .kept .0 in
+    let kept = the-touch-pieces .kept .0 in
+    let kept2 = the-fold .kept .0 in
     omega arith
 
 add-take-sectors : tie.Need-add-take-sectors
 add-take-sectors c =
-    let a = c .before .before .before .before .before .before .before .before .before .before .before .before .before .before .before .before .before .before .before .before .before .before .before .before .args in
-    let r = c .before .before .before .before .before .before .before .before .before .before .before .before .before .before .before .before .before .before .before .before .before .before .before .before .pre in
-    let fit = fits (a .s .n) (a .s .l) (r .0) in
+    let the-pieces-for = c .before .before .before .before .before .before .before .before .before .before .before .before .before .before .before .pieces-for in
+    let start = c .before .before .before .before .before .before .before .before .before .before .before .before .before .before .before .before .before .before .before .before .before .before .before .before .before in
+    let a = start .args in
+    let r = start .pre in
+    let fit = fits (a .s .geometry) (r .0) in
     let least = fit .least in
     let most = fit .most in
     let sectors = fit .sectors in
-    let pieces = c .before .before .before .before .before .before .before .before .before .before .before .before .before .before .before .pieces-for .ensures in
+    let pieces = the-pieces-for .ensures in
     let cnt = r .1 .1 .1 .1 .1 .1 .1 .0 in
     let b = counted-few _ _ _ (c .count-flagged .ensures) in
     omega arith
@@ -98,13 +111,15 @@ cast-take-sectors c = search needs
 
 take-sectors-requires : tie.Need-take-sectors-requires
 take-sectors-requires c κs =
-    let a = c .before .before .before .before .before .before .before .before .before .before .before .before .before .before .before .before .before .before .before .before .before .before .before .before .before .args in
-    let r = c .before .before .before .before .before .before .before .before .before .before .before .before .before .before .before .before .before .before .before .before .before .before .before .before .before .pre in
-    let fit = fits (a .s .n) (a .s .l) (r .0) in
+    let the-pieces-for = c .before .before .before .before .before .before .before .before .before .before .before .before .before .before .before .before .pieces-for in
+    let start = c .before .before .before .before .before .before .before .before .before .before .before .before .before .before .before .before .before .before .before .before .before .before .before .before .before .before in
+    let a = start .args in
+    let r = start .pre in
+    let fit = fits (a .s .geometry) (r .0) in
     let least = fit .least in
     let most = fit .most in
     let sectors = fit .sectors in
-    let pieces = c .before .before .before .before .before .before .before .before .before .before .before .before .before .before .before .before .pieces-for .ensures in
+    let pieces = the-pieces-for .ensures in
     let b = counted-few _ _ _ (c .before .count-flagged .ensures) in
     let cnt = r .1 .1 .1 .1 .1 .1 .1 .0 in
     let u = r .1 .1 .1 .1 .0 in
@@ -122,17 +137,26 @@ same-length-3 c = search needs
 
 returns : tie.Need-returns
 returns c =
-    let a = c .before .before .before .before .before .before .before .before .before .before .before .before .before .before .before .before .before .before .before .before .before .before .before .before .before .before .before .before .args in
-    let r = c .before .before .before .before .before .before .before .before .before .before .before .before .before .before .before .before .before .before .before .before .before .before .before .before .before .before .before .before .pre in
-    let fit = fits (a .s .n) (a .s .l) (r .0) in
+    let the-take-sectors = c .before .before .take-sectors in
+    let the-count-flagged = c .before .before .before .before .count-flagged in
+    let the-fold = c .before .before .before .before .before .before .before .before .fold in
+    let the-list-branches = c .before .before .before .before .before .before .before .before .before .before .before .before .list-branches in
+    let the-touch-pieces = c .before .before .before .before .before .before .before .before .before .before .before .before .before .before .before .before .before .touch-pieces in
+    let the-pieces-for = c .before .before .before .before .before .before .before .before .before .before .before .before .before .before .before .before .before .before .before .pieces-for in
+    let start = c .before .before .before .before .before .before .before .before .before .before .before .before .before .before .before .before .before .before .before .before .before .before .before .before .before .before .before .before .before in
+    let a = start .args in
+    let r = start .pre in
+    let fit = fits (a .s .geometry) (r .0) in
     let least = fit .least in
     let most = fit .most in
     let sectors = fit .sectors in
-    let pieces = c .before .before .before .before .before .before .before .before .before .before .before .before .before .before .before .before .before .before .before .pieces-for .ensures in
-    planning (a .s) (a .places .now) (a .numbers .now) (a .used .now) (a .blocks .now) (viewOf (a .s .n) (a .s .l) (sectorAt (a .image .now))) (a .head) (a .count) (r .1 .1 .1 .1 .1 .1 .1 .1 .0)
-    _ _ _ _ (c .before .before .before .before .before .before .before .before .before .before .before .before .list-branches .result) (c .before .before .before .before .before .before .before .before .fold .result) (c .before .before .before .before .count-flagged .result) (c .before .before .before .before .before .before .before .before .before .before .before .before .before .before .before .before .before .before .before .pieces-for .result) pieces (r .1 .1 .1 .0) (c .before .before .before .before .before .before .before .before .before .before .before .before .list-branches .kept .1 .1 .1 .1 .1 .1 .1 .0 ∙ r .1 .1 .1 .1 .1 .1 .1 .1 .1 .1 .1 .0) (c .before .before .before .before .before .before .before .before .before .before .before .before .list-branches .ensures .1) (c .before .before .before .before .before .before .before .before .before .before .before .before .before .before .before .before .before .touch-pieces .ensures) (c .before .before .before .before .before .before .before .before .before .before .before .before .list-branches .ensures .0) (c .before .before .before .before .before .before .before .before .fold .ensures .0)
-    (c .before .before .before .before .before .before .before .before .fold .ensures .1)
-    (c .before .before .before .before .count-flagged .ensures) (c .before .before .take-sectors .ensures)
+    let pieces = the-pieces-for .ensures in
+    planning (a .s) (a .places .now) (a .numbers .now) (a .used .now) (a .blocks .now) (viewOf (a .s .geometry) (sectorAt (a .image .now))) (a .head) (a .count) (r .1 .1 .1 .1 .1 .1 .1 .1 .0)
+    _ _ _ _ (the-list-branches .result) (the-fold .result) (the-count-flagged .result) (the-pieces-for .result) pieces (r .1 .1 .1 .0)
+    (the-list-branches .kept .1 .1 .1 .1 .1 .1 .0 ∙ r .1 .1 .1 .1 .1 .1 .1 .1 .1 .1 .1 .0) (the-list-branches .ensures .1) (the-touch-pieces .ensures)
+    (the-list-branches .ensures .0) (the-fold .ensures .0)
+    (the-fold .ensures .1)
+    (the-count-flagged .ensures) (the-take-sectors .ensures)
 
 pub plan-spec : {M : Type 1} → statement M
 plan-spec =

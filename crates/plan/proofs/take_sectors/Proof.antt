@@ -20,25 +20,27 @@ slice-aggregate-copy-used : tie.Need-slice-aggregate-copy-used
 slice-aggregate-copy-used c = search needs
 
 copy-used-requires : tie.Need-copy-used-requires
-copy-used-requires c κs = (c .before .before .before .pre .1 .1 .1 .0, refl)
+copy-used-requires c κs =
+    let the-pre = c .before .before .before .pre in
+    (the-pre .1 .1 .1 .0, refl)
 
 slice-aggregate-find-places : tie.Need-slice-aggregate-find-places
 slice-aggregate-find-places c = search needs
 
 find-places-requires : tie.Need-find-places-requires
 find-places-requires c κs =
-    let k = c .before .before .before .copy-used .kept .1 .0 in
-    let h = c .before .before .before .before .before .before .before .pre .1 .1 .0 in
-    let m = c .before .before .before .before .before .before .before .pre .1 .1 .1 .0 in
-    (c .before .before .before .before .before .before .before .pre .0, (c .before .before .before .before .before .before .before .pre .1 .0, (omega arith, c .before .before .before .before .before .before .before .pre .1 .1 .1 .1)))
+    let the-pre = c .before .before .before .before .before .before .before .pre in
+    (the-pre .0, (the-pre .1 .0, (omega arith, the-pre .1 .1 .1 .1)))
 
 same-length : tie.Need-same-length
 same-length c = search needs
 
 returns : tie.Need-returns
 returns c =
+    let the-find-places = c .before .before .before .find-places in
+    let the-copy-used = c .before .before .before .before .before .before .before .copy-used in
     let a = c .before .before .before .before .before .before .before .before .before .before .before .args in
-    ap (take (a .count)) (c .before .before .before .find-places .ensures ∙ ap (λ (f : ℕ → Bool). listFrom (placeOf base (a .n) f (a .head)) 0 (a .count) ++ drop (a .count) (a .taken .now)) (c .before .before .before .before .before .before .before .copy-used .ensures))
+    ap (take (a .count)) (the-find-places .ensures ∙ ap (λ (f : ℕ → Bool). listFrom (placeOf base (a .n) f (a .head)) 0 (a .count) ++ drop (a .count) (a .taken .now)) (the-copy-used .ensures))
     ∙ take-at (listFrom (placeOf base (a .n) (bitAt (a .used .now)) (a .head)) 0 (a .count)) (drop (a .count) (a .taken .now)) (a .count) (length-listFrom (placeOf base (a .n) (bitAt (a .used .now)) (a .head)) 0 (a .count))
 
 pub take-sectors-spec : {M : Type 1} → statement M

@@ -11,13 +11,17 @@ sector-of-requires : tie.Need-sector-of-requires
 sector-of-requires c κs = search needs
 
 returns-2 : tie.Need-returns-2
-returns-2 c = entry-low _ _ (c .before .before .if1 .left) _ (c .before .sector-of .ensures) (c .if2 .taken)
+returns-2 c =
+    let the-if1 = c .before .before .if1 in
+    entry-low _ _ (the-if1 .left) _ (c .before .sector-of .ensures) (c .if2 .taken)
 
 sub-result : tie.Need-sub-result
 sub-result c = search needs
 
 returns-3 : tie.Need-returns-3
-returns-3 c = entry-high _ _ (c .before .before .if1 .left) _ (c .before .sector-of .ensures) (c .if2 .left)
+returns-3 c =
+    let the-if1 = c .before .before .if1 in
+    entry-high _ _ (the-if1 .left) _ (c .before .sector-of .ensures) (c .if2 .left)
 
 pub entry-readable-spec : {M : Type 1} → statement M
 entry-readable-spec =

@@ -16,8 +16,8 @@ mul-entry c = search needs
 
 shared-slice-read-entry : tie.Need-shared-slice-read-entry
 shared-slice-read-entry c =
-    let a = c .before .before .before .before .before .before .before .args in
-    let r = readable (a .s) (a .image .now) (a .map .now) (a .places .now) (a .numbers .now) (a .used .now) (a .block) (length (a .out .now)) (c .before .before .before .before .before .before .before .pre) in
+    let the-pre = c .before .before .before .before .before .before .before .pre in
+    let r = readable _ _ _ _ _ _ _ _ (the-pre) in
     let h = r .in-map in
     omega arith
 
@@ -29,28 +29,31 @@ cast-k c = search needs
 
 sector-requires : tie.Need-sector-requires
 sector-requires c κs =
-    let a = c .before .before .before .before .before .before .before .before .before .args in
-    let r = readable (a .s) (a .image .now) (a .map .now) (a .places .now) (a .numbers .now) (a .used .now) (a .block) (length (a .out .now)) (c .before .before .before .before .before .before .before .before .before .pre) in
+    let the-pre = c .before .before .before .before .before .before .before .before .before .pre in
+    let r = readable _ _ _ _ _ _ _ _ (the-pre) in
     let h = r .in-image in
-    let e = c .before .sector-of .ensures in
     omega arith
 
 restore-block-requires : tie.Need-restore-block-requires
 restore-block-requires c κs =
-    let a = c .before .before .before .before .before .before .before .before .before .before .args in
-    let r = readable (a .s) (a .image .now) (a .map .now) (a .places .now) (a .numbers .now) (a .used .now) (a .block) (length (a .out .now)) (c .before .before .before .before .before .before .before .before .before .before .pre) in
+    let the-sector-of = c .before .before .sector-of in
+    let the-pre = c .before .before .before .before .before .before .before .before .before .before .pre in
+    let r = readable _ _ _ _ _ _ _ _ (the-pre) in
     let h = r .in-image in
-    let e = c .before .before .sector-of .ensures in
-    (r .whole, ap length (c .sector .ensures) ∙ sector-length (a .image .now) (c .before .before .sector-of .result) (omega arith))
+    let e = the-sector-of .ensures in
+    (r .whole, ap length (c .sector .ensures) ∙ sector-length _ (the-sector-of .result) (omega arith))
 
 same-length : tie.Need-same-length
 same-length c = search needs
 
 returns : tie.Need-returns
 returns c =
+    let the-restore-block = c .before .before .restore-block in
+    let the-sector = c .before .before .before .sector in
+    let the-sector-of = c .before .before .before .before .before .sector-of in
     let a = c .before .before .before .before .before .before .before .before .before .before .before .before .before .args in
-    c .before .before .restore-block .ensures
-    ∙ ap (restored (at (a .map .now) (a .block))) (c .before .before .before .sector .ensures ∙ ap (sectorAt (a .image .now)) (c .before .before .before .before .before .sector-of .ensures))
+    the-restore-block .ensures
+    ∙ ap (restored (at (a .map .now) (a .block))) (the-sector .ensures ∙ ap (sectorAt (a .image .now)) (the-sector-of .ensures))
 
 pub fill-spec : {M : Type 1} → statement M
 fill-spec =

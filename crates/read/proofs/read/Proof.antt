@@ -15,20 +15,27 @@ enum-told : tie.Need-enum-told
 enum-told c = search needs
 
 fill-requires : tie.Need-fill-requires
-fill-requires c κs = sym (c .before .enum-told .given .1) ∙ c .before .before .before .read-verdict .ensures
+fill-requires c κs =
+    let the-read-verdict = c .before .before .before .read-verdict in
+    sym (c .before .enum-told .given .1) ∙ the-read-verdict .ensures
+
+accepted-requires : tie.Need-accepted-requires
+accepted-requires c κs = search needs
 
 returns : tie.Need-returns
 returns c =
-    let a = c .before .before .before .before .before .before .before .before .before .before .args in
-    read-refused (a .s) (a .image .now) (a .map .now) (a .places .now) (a .numbers .now) (a .used .now) (a .block) (a .out .now) _ (sym (c .before .verdict .given .1) ∙ c .before .before .before .read-verdict .ensures)
+    let the-read-verdict = c .before .before .before .read-verdict in
+    read-refused _ _ _ _ _ _ _ _ _ (sym (c .before .verdict .given .1) ∙ the-read-verdict .ensures)
 
 same-length : tie.Need-same-length
 same-length c = search needs
 
 returns-2 : tie.Need-returns-2
 returns-2 c =
-    let a = c .before .before .before .before .before .before .before .before .before .before .before .before .before .args in
-    read-done (a .s) (a .image .now) (a .map .now) (a .places .now) (a .numbers .now) (a .used .now) (a .block) (a .out .now) _ (sym (c .before .before .before .before .enum-told .given .1) ∙ c .before .before .before .before .before .before .read-verdict .ensures) (c .before .before .fill .ensures)
+    let the-fill = c .before .before .before .fill in
+    let the-enum-told = c .before .before .before .before .before .enum-told in
+    let the-read-verdict = c .before .before .before .before .before .before .before .read-verdict in
+    read-done _ _ _ _ _ _ _ _ _ _ (c .accepted .ensures) (sym (the-enum-told .given .1) ∙ the-read-verdict .ensures) (the-fill .ensures)
 
 pub read-spec : {M : Type 1} → statement M
 read-spec =
@@ -38,6 +45,7 @@ read-spec =
     enum-known-verdict
     enum-told
     fill-requires
+    accepted-requires
     returns
     same-length
     returns-2)

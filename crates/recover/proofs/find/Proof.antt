@@ -1,13 +1,7 @@
 -- The walk answers, or the scan does.
-use Prim.Native.Nat.{_/_}
-use mathlib.Core.Path.{_∙_, subst}
+use mathlib.Core.Path.{_∙_}
 use native.Mathlib.Omega.{arith}
-use lib.ListN.{length}
-use Rattle.volume.specs.Tables.{sectorAt, tablesOf}
-use Rattle.volume.specs.Recover.{imageView}
-use Rattle.walk.specs.declared.Way.{Way}
-use Rattle.walk.specs.Walking.{walkFound}
-use Rattle.checks.proofs.SizeLaws.{size-passed, size-range}
+use Rattle.checks.proofs.SizeLaws.{size-passed, volume-passed, volume-range}
 use Rattle.recover.proofs.RecoverLaws.{walk-found, walk-failed}
 use borrow.Author.Needs.{needs}
 use Rattle.recover.proofs.find.Statement.{statement}
@@ -15,35 +9,58 @@ use Rattle.recover.proofs.find.Tie as tie
 use Rattle.resume.proofs.after_walk.Reads as after-walk-reads
 use Rattle.recover_by_scan.proofs.by_scan.Reads as by-scan-reads
 
-cast-n : tie.Need-cast-n
-cast-n c =
-    let a = c .before .before .before .before .before .args in
-    let s = size-passed (a .image .now) (a .map .now) (a .places .now) (a .numbers .now) (a .used .now) (a .l) (c .before .before .before .before .before .pre) in
+cast-volume : tie.Need-cast-volume
+cast-volume c =
+    let the-pre = c .before .before .before .before .before .pre in
+    let s = size-passed _ _ _ _ _ _ the-pre in
     let h = s .range .sectors in
     omega arith
 
+volume-requires : tie.Need-volume-requires
+volume-requires c κs = search needs
+
 walk-requires : tie.Need-walk-requires
 walk-requires c κs =
-    let a = c .before .before .before .before .before .before .before .before .before .before .args in
-    let s = size-passed (a .image .now) (a .map .now) (a .places .now) (a .numbers .now) (a .used .now) (a .l) (c .before .before .before .before .before .before .before .before .before .before .pre) in
-    (size-range (a .image .now) (a .map .now) (a .places .now) (a .numbers .now) (a .used .now) (a .l) (c .before .before .before .before .before .before .before .before .before .before .pre), (s .image, (s .map, (s .places, (s .numbers, s .used)))))
+    let the-pre = c .before .before .before .before .before .before .before .before .before .before .before .pre in
+    let the-volume = c .before .before .before .before .before .volume in
+    let s = volume-passed _ _ _ _ _ _ (the-volume .result) (the-volume .ensures) the-pre in
+    (volume-range _ _ _ _ _ _ (the-volume .result) (the-volume .ensures) the-pre, (s .image, (s .map, (s .places, (s .numbers, s .used)))))
 
 enum-told : tie.Need-enum-told
 enum-told c = search needs
 
 by-scan-requires : tie.Need-by-scan-requires
 by-scan-requires c κs =
-    let a = c .before .before .before .before .before .before .before .before .before .before .before .before .before .before .before .before .before .before .before .before .before .before .before .before .before .before .args in
-    let s = size-passed (a .image .now) (a .map .now) (a .places .now) (a .numbers .now) (a .used .now) (a .l) (c .before .before .before .before .before .before .before .before .before .before .before .before .before .before .before .before .before .before .before .before .before .before .before .before .before .before .pre) in
-    (size-range (a .image .now) (a .map .now) (a .places .now) (a .numbers .now) (a .used .now) (a .l) (c .before .before .before .before .before .before .before .before .before .before .before .before .before .before .before .before .before .before .before .before .before .before .before .before .before .before .pre), (s .image, (c .before .before .before .before .before .before .before .before .before .before .before .before .before .before .before .walk .kept .1 .1 .1 .0 ∙ s .map, (c .before .before .before .before .before .before .before .before .before .before .before .before .before .before .before .walk .kept .1 .1 .1 .1 .0 ∙ s .places, (c .before .before .before .before .before .before .before .before .before .before .before .before .before .before .before .walk .kept .1 .1 .1 .1 .1 .0 ∙ s .numbers, c .before .before .before .before .before .before .before .before .before .before .before .before .before .before .before .walk .kept .1 .1 .1 .1 .1 .1 .0 ∙ s .used)))))
+    let the-walk = c .before .before .before .before .before .before .before .before .before .before .before .before .before .before .before .walk in
+    let start = c .before .before .before .before .before .before .before .before .before .before .before .before .before .before .before .before .before .before .before .before .before .before .before .before .before .before .before in
+    let the-pre = start .pre in
+    let a = start .args in
+    let the-volume = c .before .before .before .before .before .before .before .before .before .before .before .before .before .before .before .before .before .before .before .before .before .volume in
+    let s = volume-passed (a .image .now) (a .map .now) (a .places .now) (a .numbers .now) (a .used .now) (a .settings) (the-volume .result) (the-volume .ensures) the-pre in (
+      volume-range (a .image .now) (a .map .now) (a .places .now) (a .numbers
+          .now) (a .used .now) (a .settings) (the-volume .result) (the-volume .ensures)
+          the-pre,
+      (
+        s .image,
+        (
+          the-walk .kept .1 .1 .0 ∙ s .map,
+          (
+            the-walk .kept .1
+                .1 .1 .0 ∙ s .places,
+            (the-walk .kept .1 .1 .1 .1 .0 ∙ s .numbers, the-walk .kept .1 .1 .1 .1 .1 .0 ∙ s .used),
+          ),
+        ),
+      ),
+    )
 
 enum-known-way : tie.Need-enum-known-way
 enum-known-way c = search needs
 
 after-walk-requires : tie.Need-after-walk-requires
 after-walk-requires c κs =
-    let a = c .before .before .before .before .before .before .before .before .before .before .before .before .before .before .before .before .before .before .before .before .before .before .before .before .before .before .before .args in
-    let s = size-passed (a .image .now) (a .map .now) (a .places .now) (a .numbers .now) (a .used .now) (a .l) (c .before .before .before .before .before .before .before .before .before .before .before .before .before .before .before .before .before .before .before .before .before .before .before .before .before .before .before .pre) in
+    let the-pre = c .before .before .before .before .before .before .before .before .before .before .before .before .before .before .before .before .before .before .before .before .before .before .before .before .before .before .before .before .pre in
+    let the-volume = c .before .before .before .before .before .before .before .before .before .before .before .before .before .before .before .before .before .before .before .before .before .before .volume in
+    let s = volume-passed _ _ _ _ _ _ (the-volume .result) (the-volume .ensures) the-pre in
     let e = s .image in
     let h = s .range .least in
     omega arith
@@ -65,8 +82,14 @@ same-length-5 c = search needs
 
 returns : tie.Need-returns
 returns c =
-    let a = c .before .before .before .before .before .before .before .before .before .before .before .before .before .before .before .before .before .before .before .before .before .before .before .before .before .before .before .before .before .before .before .before .before .before .before .before .before .args in
-    walk-failed (length (a .image .now) / 512) (a .l) (a .allowance) (a .image .now) (a .map .now) (a .places .now) (a .numbers .now) (a .used .now) (c .before .before .before .before .before .before .before .before .before .before .before .before .before .before .before .before .before .before .before .before .before .before .before .before .before .before .walk .last .1 .1 .1 .0) (c .before .before .before .before .before .before .before .before .before .before .before .before .before .before .before .before .before .before .before .before .before .before .before .before .before .before .walk .last .1 .1 .1 .1 .0) (c .before .before .before .before .before .before .before .before .before .before .before .before .before .before .before .before .before .before .before .before .before .before .before .before .before .before .walk .last .1 .1 .1 .1 .1 .0) (c .before .before .before .before .before .before .before .before .before .before .before .before .before .before .before .before .before .before .before .before .before .before .before .before .before .before .walk .last .1 .1 .1 .1 .1 .1 .0) (c .before .before .before .before .before .before .before .before .before .before .before .before .before .before .before .before .before .before .before .before .before .before .before .before .before .before .walk .kept .1 .1 .1 .0) (c .before .before .before .before .before .before .before .before .before .before .before .before .before .before .before .before .before .before .before .before .before .before .before .before .before .before .walk .kept .1 .1 .1 .1 .0) (c .before .before .before .before .before .before .before .before .before .before .before .before .before .before .before .before .before .before .before .before .before .before .before .before .before .before .walk .kept .1 .1 .1 .1 .1 .0) (c .before .before .before .before .before .before .before .before .before .before .before .before .before .before .before .before .before .before .before .before .before .before .before .before .before .before .walk .kept .1 .1 .1 .1 .1 .1 .0) _ (subst (λ (x : Way). walkFound x (length (a .image .now) / 512) (a .l) (imageView (length (a .image .now) / 512) (a .l) (sectorAt (a .image .now))) (sectorAt (a .image .now) 0) (tablesOf (c .before .before .before .before .before .before .before .before .before .before .before .before .before .before .before .before .before .before .before .before .before .before .before .before .before .before .walk .last .1 .1 .1 .0) (c .before .before .before .before .before .before .before .before .before .before .before .before .before .before .before .before .before .before .before .before .before .before .before .before .before .before .walk .last .1 .1 .1 .1 .0) (c .before .before .before .before .before .before .before .before .before .before .before .before .before .before .before .before .before .before .before .before .before .before .before .before .before .before .walk .last .1 .1 .1 .1 .1 .0) (c .before .before .before .before .before .before .before .before .before .before .before .before .before .before .before .before .before .before .before .before .before .before .before .before .before .before .walk .last .1 .1 .1 .1 .1 .1 .0))) (c .before .before .before .before .before .before .before .before .before .before .before .before .before .before .before .before .enum-told .given .1) (c .before .before .before .before .before .before .before .before .before .before .before .before .before .before .before .before .before .before .before .before .before .before .before .before .before .before .walk .ensures)) (c .before .before .before .before .before .before .before .before .before .before .by-scan .ensures)
+    let the-by-scan = c .before .before .before .before .before .before .before .before .before .before .by-scan in
+    let the-enum-told = c .before .before .before .before .before .before .before .before .before .before .before .before .before .before .before .before .enum-told in
+    let the-walk = c .before .before .before .before .before .before .before .before .before .before .before .before .before .before .before .before .before .before .before .before .before .before .before .before .before .before .walk in
+    let the-volume = c .before .before .before .before .before .before .before .before .before .before .before .before .before .before .before .before .before .before .before .before .before .before .before .before .before .before .before .before .before .before .before .before .volume in
+    walk-failed _ (the-volume .result) _ _ _ _ _ _
+    (the-walk .last .1 .1 .0) (the-walk .last .1 .1 .1 .0) (the-walk .last .1 .1 .1 .1 .0) (the-walk .last .1 .1 .1 .1 .1 .0)
+    (the-volume .ensures) (the-walk .kept .1 .1 .0) (the-walk .kept .1 .1 .1 .0) (the-walk .kept .1 .1 .1 .1 .0) (the-walk .kept .1 .1 .1 .1 .1 .0)
+    (the-walk .result) (the-walk .ensures) _ (the-enum-told .given .1) (the-by-scan .ensures)
 
 same-length-6 : tie.Need-same-length-6
 same-length-6 c = search needs
@@ -85,14 +108,21 @@ same-length-10 c = search needs
 
 returns-2 : tie.Need-returns-2
 returns-2 c =
-    let a = c .before .before .before .before .before .before .before .before .before .before .before .before .before .before .before .before .before .before .before .before .before .before .before .before .before .before .before .before .before .before .before .before .before .before .before .before .before .before .args in
-    walk-found (length (a .image .now) / 512) (a .l) (a .allowance) (a .image .now) (a .map .now) (a .places .now) (a .numbers .now) (a .used .now) (c .before .before .before .before .before .before .before .before .before .before .before .before .before .before .before .before .before .before .before .before .before .before .before .before .before .before .before .walk .last .1 .1 .1 .0) (c .before .before .before .before .before .before .before .before .before .before .before .before .before .before .before .before .before .before .before .before .before .before .before .before .before .before .before .walk .last .1 .1 .1 .1 .0) (c .before .before .before .before .before .before .before .before .before .before .before .before .before .before .before .before .before .before .before .before .before .before .before .before .before .before .before .walk .last .1 .1 .1 .1 .1 .0) (c .before .before .before .before .before .before .before .before .before .before .before .before .before .before .before .before .before .before .before .before .before .before .before .before .before .before .before .walk .last .1 .1 .1 .1 .1 .1 .0) (c .before .before .before .before .before .before .before .before .before .before .before .before .before .before .before .before .before .before .before .before .before .before .before .before .before .before .before .walk .kept .1 .1 .1 .0) (c .before .before .before .before .before .before .before .before .before .before .before .before .before .before .before .before .before .before .before .before .before .before .before .before .before .before .before .walk .kept .1 .1 .1 .1 .0) (c .before .before .before .before .before .before .before .before .before .before .before .before .before .before .before .before .before .before .before .before .before .before .before .before .before .before .before .walk .kept .1 .1 .1 .1 .1 .0) (c .before .before .before .before .before .before .before .before .before .before .before .before .before .before .before .before .before .before .before .before .before .before .before .before .before .before .before .walk .kept .1 .1 .1 .1 .1 .1 .0) _ _ _ _ (subst (λ (x : Way). walkFound x (length (a .image .now) / 512) (a .l) (imageView (length (a .image .now) / 512) (a .l) (sectorAt (a .image .now))) (sectorAt (a .image .now) 0) (tablesOf (c .before .before .before .before .before .before .before .before .before .before .before .before .before .before .before .before .before .before .before .before .before .before .before .before .before .before .before .walk .last .1 .1 .1 .0) (c .before .before .before .before .before .before .before .before .before .before .before .before .before .before .before .before .before .before .before .before .before .before .before .before .before .before .before .walk .last .1 .1 .1 .1 .0) (c .before .before .before .before .before .before .before .before .before .before .before .before .before .before .before .before .before .before .before .before .before .before .before .before .before .before .before .walk .last .1 .1 .1 .1 .1 .0) (c .before .before .before .before .before .before .before .before .before .before .before .before .before .before .before .before .before .before .before .before .before .before .before .before .before .before .before .walk .last .1 .1 .1 .1 .1 .1 .0))) (c .before .before .before .before .before .before .before .before .before .before .before .before .before .before .before .before .before .way .given .1) (c .before .before .before .before .before .before .before .before .before .before .before .before .before .before .before .before .before .before .before .before .before .before .before .before .before .before .before .walk .ensures)) (c .before .before .before .before .before .before .before .before .before .before .after-walk .ensures)
+    let the-after-walk = c .before .before .before .before .before .before .before .before .before .before .after-walk in
+    let the-way = c .before .before .before .before .before .before .before .before .before .before .before .before .before .before .before .before .before .way in
+    let the-walk = c .before .before .before .before .before .before .before .before .before .before .before .before .before .before .before .before .before .before .before .before .before .before .before .before .before .before .before .walk in
+    let the-volume = c .before .before .before .before .before .before .before .before .before .before .before .before .before .before .before .before .before .before .before .before .before .before .before .before .before .before .before .before .before .before .before .before .before .volume in
+    walk-found _ (the-volume .result) _ _ _ _ _ _
+    (the-walk .last .1 .1 .0) (the-walk .last .1 .1 .1 .0) (the-walk .last .1 .1 .1 .1 .0) (the-walk .last .1 .1 .1 .1 .1 .0)
+    (the-volume .ensures) (the-walk .kept .1 .1 .0) (the-walk .kept .1 .1 .1 .0) (the-walk .kept .1 .1 .1 .1 .0) (the-walk .kept .1 .1 .1 .1 .1 .0)
+    (the-walk .result) (the-walk .ensures) _ _ _ _ (the-way .given .1) (the-after-walk .ensures)
 
 pub find-spec : {M : Type 1} → statement M
 find-spec =
     tie.close
     (tie.spec
-    cast-n
+    cast-volume
+    volume-requires
     walk-requires
     enum-told
     by-scan-requires

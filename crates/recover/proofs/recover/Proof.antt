@@ -18,13 +18,16 @@ enum-told c = search needs
 
 find-requires : tie.Need-find-requires
 find-requires c κs =
-    let a = c .before .before .before .before .before .before .before .before .before .before .before .before .before .args in
-    sym (c .before .before .before .before .before .enum-told .given .1) ∙ c .before .before .before .before .before .before .before .size-verdict .ensures ∙ by-lengths (a .image .now) (a .map .now) (a .places .now) (a .numbers .now) (a .used .now) (a .l)
+    let the-enum-told = c .before .before .before .before .before .enum-told in
+    let the-size-verdict = c .before .before .before .before .before .before .before .size-verdict in
+    sym (the-enum-told .given .1) ∙ the-size-verdict .ensures ∙ by-lengths _ _ _ _ _ _
 
 returns : tie.Need-returns
 returns c =
-    let a = c .before .before .before .before .before .before .before .before .before .args in
-    recover-refused (a .s) (a .image .now) (a .map .now) (a .places .now) (a .numbers .now) (a .used .now) (a .l) (a .allowance) _ (sym (c .before .verdict .given .1) ∙ c .before .before .before .size-verdict .ensures ∙ by-lengths (a .image .now) (a .map .now) (a .places .now) (a .numbers .now) (a .used .now) (a .l))
+    let the-size-verdict = c .before .before .before .size-verdict in
+    recover-refused _ _ _ _ _ _ _ _ _
+    (sym (c .before .verdict .given .1) ∙ the-size-verdict .ensures ∙ by-lengths
+    _ _ _ _ _ _)
 
 same-length : tie.Need-same-length
 same-length c = search needs
@@ -43,8 +46,13 @@ same-length-5 c = search needs
 
 returns-2 : tie.Need-returns-2
 returns-2 c =
+    let the-find = c .before .before .before .before .before .before .before .before .before .before .find in
+    let the-enum-told = c .before .before .before .before .before .before .before .before .before .before .before .before .before .before .before .before .enum-told in
+    let the-size-verdict = c .before .before .before .before .before .before .before .before .before .before .before .before .before .before .before .before .before .before .size-verdict in
     let a = c .before .before .before .before .before .before .before .before .before .before .before .before .before .before .before .before .before .before .before .before .before .before .before .before .args in
-    recover-passed (a .s) (a .image .now) (a .map .now) (a .places .now) (a .numbers .now) (a .used .now) (a .l) (a .allowance) _ (sym (c .before .before .before .before .before .before .before .before .before .before .before .before .before .before .before .before .enum-told .given .1) ∙ c .before .before .before .before .before .before .before .before .before .before .before .before .before .before .before .before .before .before .size-verdict .ensures ∙ by-lengths (a .image .now) (a .map .now) (a .places .now) (a .numbers .now) (a .used .now) (a .l)) (c .before .before .before .before .before .before .before .before .before .before .find .ensures)
+    recover-passed (a .s) (a .image .now) (a .map .now) (a .places .now) (a .numbers .now) (a .used .now) (a .settings) (a .allowance) _
+    (sym (the-enum-told .given .1) ∙ the-size-verdict .ensures ∙ by-lengths (a .image .now) (a .map .now) (a .places .now) (a .numbers .now) (a .used
+    .now) (a .settings)) (the-find .ensures)
 
 pub recover-spec : {M : Type 1} → statement M
 recover-spec =

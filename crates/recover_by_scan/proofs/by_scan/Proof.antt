@@ -18,9 +18,10 @@ slice-aggregate-scan c = search needs
 
 scan-requires : tie.Need-scan-requires
 scan-requires c κs =
-    let a = c .before .before .before .before .before .before .before .before .before .before .before .args in
-    let r = c .before .before .before .before .before .before .before .before .before .before .before .pre in
-    let most = fits (a .n) (a .l) (r .0) .sectors in
+    let start = c .before .before .before .before .before .before .before .before .before .before .before in
+    let a = start .args in
+    let r = start .pre in
+    let most = fits (a .g) (r .0) .sectors in
     (r .0, (r .1 .0, (r .1 .1 .0, (r .1 .1 .1 .0, (r .1 .1 .1 .1 .0, (r .1 .1 .1 .1 .1, (omega arith, refl)))))))
 
 enum-known-found : tie.Need-enum-known-found
@@ -40,11 +41,11 @@ slice-aggregate-after-scan c = search needs
 
 after-scan-requires : tie.Need-after-scan-requires
 after-scan-requires c κs =
-    let a = c .before .before .before .before .before .before .before .before .before .before .before .before .before .before .before .before .before .before .before .before .before .before .before .before .before .before .before .before .before .before .args in
-    let r = c .before .before .before .before .before .before .before .before .before .before .before .before .before .before .before .before .before .before .before .before .before .before .before .before .before .before .before .before .before .before .pre in
-    let least = fits (a .n) (a .l) (r .0) .least in
-    let most = fits (a .n) (a .l) (r .0) .sectors in
-    let size = c .before .before .before .before .before .before .before .before .before .before .before .before .before .before .before .before .before .before .scan .kept .1 .1 .1 .1 .1 .1 .1 .0 in
+    let start = c .before .before .before .before .before .before .before .before .before .before .before .before .before .before .before .before .before .before .before .before .before .before .before .before .before .before .before .before .before .before in
+    let a = start .args in
+    let r = start .pre in
+    let least = fits (a .g) (r .0) .least in
+    let most = fits (a .g) (r .0) .sectors in
     (omega arith, (r .1 .0, omega arith))
 
 same-length : tie.Need-same-length
@@ -64,9 +65,20 @@ same-length-5 c = search needs
 
 returns : tie.Need-returns
 returns c =
-    let a = c .before .before .before .before .before .before .before .before .before .before .before .before .before .before .before .before .before .before .before .before .before .before .before .before .before .before .before .before .before .before .before .before .before .before .before .before .before .before .args in
+    let the-found = c .before .before .before .before .before .before .before .before .before .before .before .before .before .before .before .found in
+    let the-scan = c .before .before .before .before .before .before .before .before .before .before .before .before .before .before .before .before .before .before .before .before .before .before .before .before .before .before .scan in
+    let a = c .before .before .before .before .before .before .before .before .before .before .before .before .before .before .before .before .before
+    .before .before .before .before .before .before .before .before .before .before .before .before .before .before .before .before .before .before
+    .before .before .before .args in
     let z = c .before .before .before .before .before .before .before .before .before .zero-tables in
-    scan-missing (a .n) (a .l) (a .allowance) (a .image .now) (a .map .now) (a .places .now) (a .numbers .now) (a .used .now) _ _ _ _ (z .kept .0 ∙ c .before .before .before .before .before .before .before .before .before .before .before .before .before .before .before .before .before .before .before .before .before .before .before .before .before .before .scan .kept .1 .1 .1 .0) (z .kept .1 .0 ∙ c .before .before .before .before .before .before .before .before .before .before .before .before .before .before .before .before .before .before .before .before .before .before .before .before .before .before .scan .kept .1 .1 .1 .1 .0) (z .kept .1 .1 .0 ∙ c .before .before .before .before .before .before .before .before .before .before .before .before .before .before .before .before .before .before .before .before .before .before .before .before .before .before .scan .kept .1 .1 .1 .1 .1 .0) (z .kept .1 .1 .1 .0 ∙ c .before .before .before .before .before .before .before .before .before .before .before .before .before .before .before .before .before .before .before .before .before .before .before .before .before .before .scan .kept .1 .1 .1 .1 .1 .1 .0) _ (tablesOf (c .before .before .before .before .before .before .before .before .before .before .before .before .before .before .before .before .before .before .before .before .before .before .before .before .before .before .scan .last .1 .1 .1 .0) (c .before .before .before .before .before .before .before .before .before .before .before .before .before .before .before .before .before .before .before .before .before .before .before .before .before .before .scan .last .1 .1 .1 .1 .0) (c .before .before .before .before .before .before .before .before .before .before .before .before .before .before .before .before .before .before .before .before .before .before .before .before .before .before .scan .last .1 .1 .1 .1 .1 .0) (c .before .before .before .before .before .before .before .before .before .before .before .before .before .before .before .before .before .before .before .before .before .before .before .before .before .before .scan .last .1 .1 .1 .1 .1 .1 .0)) (c .lost .result) (c .lost .ensures) (subst (λ (x : Found). scanFound x (a .n) (imageView (a .n) (a .l) (sectorAt (a .image .now))) (sectorAt (a .image .now) 0) (tablesOf (c .before .before .before .before .before .before .before .before .before .before .before .before .before .before .before .before .before .before .before .before .before .before .before .before .before .before .scan .last .1 .1 .1 .0) (c .before .before .before .before .before .before .before .before .before .before .before .before .before .before .before .before .before .before .before .before .before .before .before .before .before .before .scan .last .1 .1 .1 .1 .0) (c .before .before .before .before .before .before .before .before .before .before .before .before .before .before .before .before .before .before .before .before .before .before .before .before .before .before .scan .last .1 .1 .1 .1 .1 .0) (c .before .before .before .before .before .before .before .before .before .before .before .before .before .before .before .before .before .before .before .before .before .before .before .before .before .before .scan .last .1 .1 .1 .1 .1 .1 .0)) ≡ scanFinding (a .n) (a .l) (imageView (a .n) (a .l) (sectorAt (a .image .now))) (sectorAt (a .image .now) 0)) (c .before .before .before .before .before .before .before .before .before .before .before .before .before .before .before .found .given .1) (c .before .before .before .before .before .before .before .before .before .before .before .before .before .before .before .before .before .before .before .before .before .before .before .before .before .before .scan .ensures .0)) (z .ensures)
+    scan-missing (a .g) (a .allowance) (a .image .now) (a .map .now) (a .places .now) (a .numbers .now) (a .used .now) _ _ _ _
+    (z .kept .0 ∙ the-scan .kept .1 .1 .0) (z .kept .1 .0 ∙ the-scan .kept .1 .1 .1 .0) (z .kept .1 .1 .0 ∙ the-scan .kept .1 .1 .1 .1 .0)
+    (z .kept .1 .1 .1 .0 ∙ the-scan .kept .1 .1 .1 .1 .1 .0) _ (tablesOf (the-scan .last .1 .1 .0) (the-scan .last .1 .1 .1 .0) (the-scan
+    .last .1 .1 .1 .1 .0) (the-scan .last .1 .1 .1 .1 .1 .0)) (c .lost .result) (c .lost .ensures)
+    (subst (λ (x : Found). scanFound x (a .g .n) (imageView (a .g) (sectorAt (a .image .now))) (sectorAt (a .image .now) 0) (tablesOf (the-scan .last
+    .1 .1 .0) (the-scan .last .1 .1 .1 .0) (the-scan .last .1 .1 .1 .1 .0) (the-scan
+    .last .1 .1 .1 .1 .1 .0)) ≡ scanFinding (a .g) (imageView (a .g) (sectorAt
+    (a .image .now))) (sectorAt (a .image .now) 0)) (the-found .given .1) (the-scan .ensures .0)) (z .ensures)
 
 same-length-6 : tie.Need-same-length-6
 same-length-6 c = search needs
@@ -85,10 +97,21 @@ same-length-10 c = search needs
 
 returns-2 : tie.Need-returns-2
 returns-2 c =
-    let a = c .before .before .before .before .before .before .before .before .before .before .before .before .before .before .before .before .before .before .before .before .before .before .before .before .before .before .before .before .before .before .before .before .before .before .before .before .before .before .before .before .before .args in
-    scan-found (a .n) (a .l) (a .allowance) (a .image .now) (a .map .now) (a .places .now) (a .numbers .now) (a .used .now) (c .before .before .before .before .before .before .before .before .before .before .before .before .before .before .before .before .before .before .before .before .before .before .before .before .before .before .before .before .before .scan .last .1 .1 .1 .0) (c .before .before .before .before .before .before .before .before .before .before .before .before .before .before .before .before .before .before .before .before .before .before .before .before .before .before .before .before .before .scan .last .1 .1 .1 .1 .0) (c .before .before .before .before .before .before .before .before .before .before .before .before .before .before .before .before .before .before .before .before .before .before .before .before .before .before .before .before .before .scan .last .1 .1 .1 .1 .1 .0) (c .before .before .before .before .before .before .before .before .before .before .before .before .before .before .before .before .before .before .before .before .before .before .before .before .before .before .before .before .before .scan .last .1 .1 .1 .1 .1 .1 .0) (c .before .before .before .before .before .before .before .before .before .before .before .before .before .before .before .before .before .before .before .before .before .before .before .before .before .before .before .before .before .scan .kept .1 .1 .1 .0) (c .before .before .before .before .before .before .before .before .before .before .before .before .before .before .before .before .before .before .before .before .before .before .before .before .before .before .before .before .before .scan .kept .1 .1 .1 .1 .0) (c .before .before .before .before .before .before .before .before .before .before .before .before .before .before .before .before .before .before .before .before .before .before .before .before .before .before .before .before .before .scan .kept .1 .1 .1 .1 .1 .0) (c .before .before .before .before .before .before .before .before .before .before .before .before .before .before .before .before .before .before .before .before .before .before .before .before .before .before .before .before .before .scan .kept .1 .1 .1 .1 .1 .1 .0) _ _ _ (bitAt (c .before .before .before .before .before .before .before .before .before .before .before .before .before .before .before .before .before .before .before .before .before .before .before .before .before .before .before .before .before .scan .last .1 .1 .1 .1 .1 .1 .1 .0))
-    (subst (λ (x : Found). scanFound x (a .n) (imageView (a .n) (a .l) (sectorAt (a .image .now))) (sectorAt (a .image .now) 0) (tablesOf (c .before .before .before .before .before .before .before .before .before .before .before .before .before .before .before .before .before .before .before .before .before .before .before .before .before .before .before .before .before .scan .last .1 .1 .1 .0) (c .before .before .before .before .before .before .before .before .before .before .before .before .before .before .before .before .before .before .before .before .before .before .before .before .before .before .before .before .before .scan .last .1 .1 .1 .1 .0) (c .before .before .before .before .before .before .before .before .before .before .before .before .before .before .before .before .before .before .before .before .before .before .before .before .before .before .before .before .before .scan .last .1 .1 .1 .1 .1 .0) (c .before .before .before .before .before .before .before .before .before .before .before .before .before .before .before .before .before .before .before .before .before .before .before .before .before .before .before .before .before .scan .last .1 .1 .1 .1 .1 .1 .0)) ≡ scanFinding (a .n) (a .l) (imageView (a .n) (a .l) (sectorAt (a .image .now))) (sectorAt (a .image .now) 0)) (c .before .before .before .before .before .before .before .before .before .before .before .before .before .before .before .before .before .before .found2 .given .1) (c .before .before .before .before .before .before .before .before .before .before .before .before .before .before .before .before .before .before .before .before .before .before .before .before .before .before .before .before .before .scan .ensures .0))
-    (subst (λ (x : Found). scanAbove x (imageView (a .n) (a .l) (sectorAt (a .image .now))) (bitAt (c .before .before .before .before .before .before .before .before .before .before .before .before .before .before .before .before .before .before .before .before .before .before .before .before .before .before .before .before .before .scan .last .1 .1 .1 .1 .1 .1 .1 .0))) (c .before .before .before .before .before .before .before .before .before .before .before .before .before .before .before .before .before .before .found2 .given .1) (c .before .before .before .before .before .before .before .before .before .before .before .before .before .before .before .before .before .before .before .before .before .before .before .before .before .before .before .before .before .scan .ensures .1)) (c .before .before .before .before .before .before .before .before .before .before .after-scan .ensures)
+    let the-after-scan = c .before .before .before .before .before .before .before .before .before .before .after-scan in
+    let the-found2 = c .before .before .before .before .before .before .before .before .before .before .before .before .before .before .before .before .before .before .found2 in
+    let the-scan = c .before .before .before .before .before .before .before .before .before .before .before .before .before .before .before .before .before .before .before .before .before .before .before .before .before .before .before .before .before .scan in
+    let a = c .before .before .before .before .before .before .before .before .before .before .before .before .before .before .before .before .before
+    .before .before .before .before .before .before .before .before .before .before .before .before .before .before .before .before .before .before
+    .before .before .before .before .before .before .args in
+    scan-found (a .g) (a .allowance) (a .image .now) (a .map .now) (a .places .now) (a .numbers .now) (a .used .now) (the-scan .last .1 .1 .0)
+    (the-scan .last .1 .1 .1 .0) (the-scan .last .1 .1 .1 .1 .0) (the-scan .last .1 .1 .1 .1 .1 .0) (the-scan .kept .1 .1 .0)
+    (the-scan .kept .1 .1 .1 .0) (the-scan .kept .1 .1 .1 .1 .0) (the-scan .kept .1 .1 .1 .1 .1 .0) _ _ _
+    (bitAt (the-scan .last .1 .1 .1 .1 .1 .1 .0))
+    (subst (λ (x : Found). scanFound x (a .g .n) (imageView (a .g) (sectorAt (a .image .now))) (sectorAt (a .image .now) 0) (tablesOf (the-scan .last
+    .1 .1 .0) (the-scan .last .1 .1 .1 .0) (the-scan .last .1 .1 .1 .1 .0) (the-scan
+    .last .1 .1 .1 .1 .1 .0)) ≡ scanFinding (a .g) (imageView (a .g) (sectorAt
+    (a .image .now))) (sectorAt (a .image .now) 0)) (the-found2 .given .1) (the-scan .ensures .0))
+    (subst (λ (x : Found). scanAbove x (imageView (a .g) (sectorAt (a .image .now))) (bitAt (the-scan .last .1 .1 .1 .1 .1 .1 .0))) (the-found2 .given .1) (the-scan .ensures .1)) (the-after-scan .ensures)
 
 pub by-scan-spec : {M : Type 1} → statement M
 by-scan-spec =

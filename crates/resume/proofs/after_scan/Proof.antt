@@ -25,16 +25,23 @@ enum-told c = search needs
 zero-tables-requires : tie.Need-zero-tables-requires
 zero-tables-requires c κs = search needs
 
+power-failed-requires : tie.Need-power-failed-requires
+power-failed-requires c κs = search needs
+
 lost-requires : tie.Need-lost-requires
 lost-requires c κs = search needs
 
 enum-known-power : tie.Need-enum-known-power
 enum-known-power c = search needs
 
-sub-t28 : tie.Need-sub-t28
-sub-t28 c =
-    let h = left-enough _ _ _ (sym (c .before .power .given .1) ∙ c .before .before .before .before .before .clear-all .ensures .0) in
+sub-stores : tie.Need-sub-stores
+sub-stores c =
+    let the-clear-all = c .before .before .before .before .before .clear-all in
+    let h = left-enough _ _ _ (sym (c .before .power .given .1) ∙ the-clear-all .ensures .0) in
     omega arith
+
+scanned-requires : tie.Need-scanned-requires
+scanned-requires c κs = search needs
 
 running-requires : tie.Need-running-requires
 running-requires c κs = search needs
@@ -56,17 +63,29 @@ same-length-5 c = search needs
 
 returns : tie.Need-returns
 returns c =
-    let a = c .before .before .before .before .before .before .before .before .before .before .before .before .before .before .before .before .before .before .before .before .before .before .before .before .before .before .args in
-    let z = c .before .before .before .before .before .before .before .before .before .zero-tables in
-    recovery-cut (a .n) (a .l) (a .allowance) (a .tail) (a .number) (Scanned (a .n)) (storesBelow (bitAt (a .above .now)) blankStore (a .n) ++ parkSectorCleared (isBlank (sectorAt (a .image .now) 0) || bitAt (a .above .now) 0)) (a .image .now) (a .map .now) (a .places .now) (a .numbers .now) (a .used .now) _ (c .before .before .before .before .before .before .before .before .before .before .before .before .before .before .before .before .before .before .clear-all .kept .0) (c .before .before .before .before .before .before .before .before .before .before .before .before .before .before .before .before .before .before .clear-all .ensures .1) _ _ _ _ (c .lost .result) (z .kept .0) (z .kept .1 .0) (z .kept .1 .1 .0) (z .kept .1 .1 .1 .0) (c .lost .ensures) (sym (c .before .before .before .before .before .before .before .before .before .before .before .before .before .before .enum-told .given .1) ∙ c .before .before .before .before .before .before .before .before .before .before .before .before .before .before .before .before .before .before .clear-all .ensures .0) (z .ensures)
+    let the-power-failed = c .before .power-failed in
+    let the-enum-told = c .before .before .before .before .before .before .before .before .before .before .before .before .before .before .before .enum-told in
+    let the-clear-all = c .before .before .before .before .before .before .before .before .before .before .before .before .before .before .before .before .before .before .before .clear-all in
+    let a = c .before .before .before .before .before .before .before .before .before .before .before .before .before .before .before .before .before .before .before .before .before .before .before .before .before .before .before .args in
+    let z = c .before .before .before .before .before .before .before .before .before .before .zero-tables in
+    recovery-cut (a .g) (a .allowance) (a .tail) (a .number) (Scanned (a .g .n))
+    (storesBelow (bitAt (a .above .now)) blankStore (a .g .n) ++ parkSectorCleared (isBlank (sectorAt (a .image .now) 0) || bitAt (a .above .now) 0))
+    (a .image .now) (a .map .now) (a .places .now) (a .numbers .now) (a .used .now) _ (the-clear-all .kept .0) (the-clear-all .ensures .1) _ _ _ _
+    (the-power-failed .result) (c .lost .result) (z .kept .0) (z .kept .1 .0) (z .kept .1 .1 .0) (z .kept .1 .1 .1 .0) (the-power-failed .ensures)
+    (c .lost .ensures) (sym (the-enum-told .given .1) ∙ the-clear-all .ensures .0) (z .ensures)
 
 same-length-6 : tie.Need-same-length-6
 same-length-6 c = search needs
 
 returns-2 : tie.Need-returns-2
 returns-2 c =
-    let a = c .before .before .before .before .before .before .before .before .before .before .before .before .before .before .args in
-    recovery-whole (a .n) (a .l) (a .allowance) (a .tail) (a .number) (Scanned (a .n)) (storesBelow (bitAt (a .above .now)) blankStore (a .n) ++ parkSectorCleared (isBlank (sectorAt (a .image .now) 0) || bitAt (a .above .now) 0)) (a .image .now) (a .map .now) (a .places .now) (a .numbers .now) (a .used .now) _ (c .before .before .before .before .before .before .clear-all .kept .0) (c .before .before .before .before .before .before .clear-all .ensures .1) (c .running .result) _ (c .running .ensures) (sym (c .before .before .power .given .1) ∙ c .before .before .before .before .before .before .clear-all .ensures .0)
+    let the-scanned = c .before .scanned in
+    let the-power = c .before .before .before .power in
+    let the-clear-all = c .before .before .before .before .before .before .before .clear-all in
+    recovery-whole _ _ _ _ (Scanned _)
+    (storesBelow _ blankStore _ ++ parkSectorCleared (isBlank (sectorAt _ 0) || bitAt _ 0))
+    _ _ _ _ _ _ (the-clear-all .kept .0) (the-clear-all .ensures .1)
+    (the-scanned .result) (c .running .result) _ (the-scanned .ensures) (c .running .ensures) (sym (the-power .given .1) ∙ the-clear-all .ensures .0)
 
 pub after-scan-spec : {M : Type 1} → statement M
 after-scan-spec =
@@ -75,9 +94,11 @@ after-scan-spec =
     clear-all-requires
     enum-told
     zero-tables-requires
+    power-failed-requires
     lost-requires
     enum-known-power
-    sub-t28
+    sub-stores
+    scanned-requires
     running-requires
     same-length
     same-length-2

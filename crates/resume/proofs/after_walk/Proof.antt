@@ -32,16 +32,23 @@ enum-told c = search needs
 zero-tables-requires : tie.Need-zero-tables-requires
 zero-tables-requires c κs = search needs
 
+power-failed-requires : tie.Need-power-failed-requires
+power-failed-requires c κs = search needs
+
 lost-requires : tie.Need-lost-requires
 lost-requires c κs = search needs
 
 enum-known-power : tie.Need-enum-known-power
 enum-known-power c = search needs
 
-sub-t32 : tie.Need-sub-t32
-sub-t32 c =
-    let h = left-enough _ _ _ (sym (c .before .power .given .1) ∙ c .before .before .before .before .before .clear-park .ensures .0) in
+sub-stores : tie.Need-sub-stores
+sub-stores c =
+    let the-clear-park = c .before .before .before .before .before .clear-park in
+    let h = left-enough _ _ _ (sym (c .before .power .given .1) ∙ the-clear-park .ensures .0) in
     omega arith
+
+walked-requires : tie.Need-walked-requires
+walked-requires c κs = search needs
 
 running-requires : tie.Need-running-requires
 running-requires c κs = search needs
@@ -63,19 +70,38 @@ same-length-5 c = search needs
 
 returns : tie.Need-returns
 returns c =
-    let a = c .before .before .before .before .before .before .before .before .before .before .before .before .before .before .before .before .before .before .before .before .before .before .before .before .before .before .before .before .args in
-    let b = c .before .before .before .before .before .before .before .before .before .before .before .before .before .before .before .before .before .before .before .before .is-blank .ensures ∙ ap isBlank (c .before .before .before .before .before .before .before .before .before .before .before .before .before .before .before .before .before .before .before .before .before .sector .ensures) in
-    let z = c .before .before .before .before .before .before .before .before .before .zero-tables in
-    recovery-cut (a .n) (a .l) (a .allowance) (a .tail) (a .number) (Walked (a .read)) (parkSectorCleared (isBlank (sectorAt (a .image .now) 0))) (a .image .now) (a .map .now) (a .places .now) (a .numbers .now) (a .used .now) _ (c .before .before .before .before .before .before .before .before .before .before .before .before .before .before .before .before .before .before .clear-park .kept .0) (c .before .before .before .before .before .before .before .before .before .before .before .before .before .before .before .before .before .before .clear-park .ensures .1 ∙ ap (λ (x : Bool). applied (take (a .allowance) (parkSectorCleared x)) (sectorAt (a .image .now))) b) _ _ _ _ (c .lost .result) (z .kept .0) (z .kept .1 .0) (z .kept .1 .1 .0) (z .kept .1 .1 .1 .0) (c .lost .ensures) (sym (c .before .before .before .before .before .before .before .before .before .before .before .before .before .before .enum-told .given .1) ∙ c .before .before .before .before .before .before .before .before .before .before .before .before .before .before .before .before .before .before .clear-park .ensures .0 ∙ ap (λ (x : Bool). powered (length (parkSectorCleared x)) (a .allowance)) b) (z .ensures)
+    let the-power-failed = c .before .power-failed in
+    let the-enum-told = c .before .before .before .before .before .before .before .before .before .before .before .before .before .before .before .enum-told in
+    let the-clear-park = c .before .before .before .before .before .before .before .before .before .before .before .before .before .before .before .before .before .before .before .clear-park in
+    let the-is-blank = c .before .before .before .before .before .before .before .before .before .before .before .before .before .before .before .before .before .before .before .before .before .is-blank in
+    let the-sector = c .before .before .before .before .before .before .before .before .before .before .before .before .before .before .before .before .before .before .before .before .before .before .sector in
+    let a = c .before .before .before .before .before .before .before .before .before .before .before .before .before .before .before .before .before .before .before .before .before .before .before .before .before .before .before .before .before .args in
+    let b = the-is-blank .ensures ∙ ap isBlank (the-sector .ensures) in
+    let z = c .before .before .before .before .before .before .before .before .before .before .zero-tables in
+    recovery-cut (a .g) (a .allowance) (a .tail) (a .number) (Walked (a .read)) (parkSectorCleared (isBlank (sectorAt (a .image .now) 0)))
+    (a .image .now) (a .map .now) (a .places .now) (a .numbers .now) (a .used .now) _ (the-clear-park .kept .0)
+    (the-clear-park .ensures .1 ∙ ap (λ (x : Bool). applied (take (a .allowance) (parkSectorCleared x)) (sectorAt (a .image .now))) b) _ _ _ _
+    (the-power-failed .result) (c .lost .result) (z .kept .0) (z .kept .1 .0) (z .kept .1 .1 .0) (z .kept .1 .1 .1 .0) (the-power-failed .ensures)
+    (c .lost .ensures) (sym (the-enum-told .given .1) ∙ the-clear-park .ensures .0 ∙ ap (λ (x :
+    Bool). powered (length (parkSectorCleared x)) (a .allowance)) b) (z .ensures)
 
 same-length-6 : tie.Need-same-length-6
 same-length-6 c = search needs
 
 returns-2 : tie.Need-returns-2
 returns-2 c =
-    let a = c .before .before .before .before .before .before .before .before .before .before .before .before .before .before .before .before .args in
-    let b = c .before .before .before .before .before .before .before .before .is-blank .ensures ∙ ap isBlank (c .before .before .before .before .before .before .before .before .before .sector .ensures) in
-    recovery-whole (a .n) (a .l) (a .allowance) (a .tail) (a .number) (Walked (a .read)) (parkSectorCleared (isBlank (sectorAt (a .image .now) 0))) (a .image .now) (a .map .now) (a .places .now) (a .numbers .now) (a .used .now) _ (c .before .before .before .before .before .before .clear-park .kept .0) (c .before .before .before .before .before .before .clear-park .ensures .1 ∙ ap (λ (x : Bool). applied (take (a .allowance) (parkSectorCleared x)) (sectorAt (a .image .now))) b) (c .running .result) _ (c .running .ensures) (sym (c .before .before .power .given .1) ∙ c .before .before .before .before .before .before .clear-park .ensures .0 ∙ ap (λ (x : Bool). powered (length (parkSectorCleared x)) (a .allowance)) b)
+    let the-walked = c .before .walked in
+    let the-power = c .before .before .before .power in
+    let the-clear-park = c .before .before .before .before .before .before .before .clear-park in
+    let the-is-blank = c .before .before .before .before .before .before .before .before .before .is-blank in
+    let the-sector = c .before .before .before .before .before .before .before .before .before .before .sector in
+    let a = c .before .before .before .before .before .before .before .before .before .before .before .before .before .before .before .before .before .args in
+    let b = the-is-blank .ensures ∙ ap isBlank (the-sector .ensures) in
+    recovery-whole (a .g) (a .allowance) (a .tail) (a .number) (Walked (a .read)) (parkSectorCleared (isBlank (sectorAt (a .image .now) 0)))
+    (a .image .now) (a .map .now) (a .places .now) (a .numbers .now) (a .used .now) _ (the-clear-park .kept .0)
+    (the-clear-park .ensures .1 ∙ ap (λ (x : Bool). applied (take (a .allowance) (parkSectorCleared x)) (sectorAt (a .image .now))) b)
+    (the-walked .result) (c .running .result) _ (the-walked .ensures) (c .running .ensures)
+    (sym (the-power .given .1) ∙ the-clear-park .ensures .0 ∙ ap (λ (x : Bool). powered (length (parkSectorCleared x)) (a .allowance)) b)
 
 pub after-walk-spec : {M : Type 1} → statement M
 after-walk-spec =
@@ -86,9 +112,11 @@ after-walk-spec =
     clear-park-requires
     enum-told
     zero-tables-requires
+    power-failed-requires
     lost-requires
     enum-known-power
-    sub-t32
+    sub-stores
+    walked-requires
     running-requires
     same-length
     same-length-2

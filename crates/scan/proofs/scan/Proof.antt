@@ -14,8 +14,8 @@ mark-signed-requires : tie.Need-mark-signed-requires
 mark-signed-requires c κs =
     let a = c .before .before .before .before .before .before .before .args in
     let p = c .before .before .before .before .before .before .before .pre in
-    let s = sectors-some (a .n) (a .l) (p .0) in
-    let m = sectors-most (a .n) (a .l) (p .0) in
+    let s = sectors-some (a .g) (p .0) in
+    let m = sectors-most (a .g) (p .0) in
     (p .1 .0, (omega arith, (omega arith, refl)))
 
 slice-aggregate-scan-signed : tie.Need-slice-aggregate-scan-signed
@@ -23,12 +23,14 @@ slice-aggregate-scan-signed c = search needs
 
 scan-signed-requires : tie.Need-scan-signed-requires
 scan-signed-requires c κs =
-    let a = c .before .before .before .before .before .before .before .before .before .before .before .before .before .before .before .args in
-    let p = c .before .before .before .before .before .before .before .before .before .before .before .before .before .before .before .pre in
-    let m = sectors-most (a .n) (a .l) (p .0) in
-    let k = c .before .before .before .before .before .before .before .mark-signed .kept .1 .1 .1 .0 in
+    let the-mark-signed = c .before .before .before .before .before .before .before .mark-signed in
+    let start = c .before .before .before .before .before .before .before .before .before .before .before .before .before .before .before in
+    let a = start .args in
+    let p = start .pre in
+    let m = sectors-most (a .g) (p .0) in
+    let k = the-mark-signed .kept .1 .1 .0 in
     let q = p .1 .1 in
-    (p .0, (p .1 .0, (omega arith, (c .before .before .before .before .before .before .before .mark-signed .ensures, (q .0, (q .1 .0, (q .1 .1 .0, (q .1 .1 .1 .0, (q .1 .1 .1 .1 .0, q .1 .1 .1 .1 .1)))))))))
+    (p .0, (p .1 .0, (omega arith, (the-mark-signed .ensures, (q .0, (q .1 .0, (q .1 .1 .0, (q .1 .1 .1 .0, (q .1 .1 .1 .1 .0, q .1 .1 .1 .1 .1)))))))))
 
 same-length : tie.Need-same-length
 same-length c = search needs

@@ -21,23 +21,26 @@ zero-words-requires-2 c κs = search needs
 
 find-live-requires : tie.Need-find-live-requires
 find-live-requires c κs =
-    let a = c .before .before .before .before .before .before .before .before .before .before .before .before .before .before .before .args in
-    let p = c .before .before .before .before .before .before .before .before .before .before .before .before .before .before .before .pre in
-    let k1 = c .before .before .before .before .before .before .before .before .zero-words .kept .0 in
+    let the-zero-words2 = c .before .before .before .before .zero-words2 in
+    let the-zero-words = c .before .before .before .before .before .before .before .before .zero-words in
+    let start = c .before .before .before .before .before .before .before .before .before .before .before .before .before .before .before in
+    let a = start .args in
+    let p = start .pre in
+    let k1 = the-zero-words .kept .0 in
     let p1 = p .1 .1 .1 .1 .1 .0 in
     let p2 = p .1 .1 .1 .1 .1 .1 in
-    let e : length (a .numbers .now) ≡ length (c .before .before .before .before .before .before .before .before .zero-words .last .0) = omega arith in (
+    let e : length (a .numbers .now) ≡ length (the-zero-words .last .0) = omega arith in (
       p .0,
       (
         p .1 .0,
         (
           p .1 .1 .0,
           (
-            c .before .before .before .before .before .before .before .before .zero-words .ensures ∙ ap (λ (x : ℕ). replicate x 0) (sym k1),
+            the-zero-words .ensures ∙ ap (λ (x : ℕ). replicate x 0) (sym k1),
             (
-              c .before .before .before .before .zero-words2 .ensures ∙ ap (λ (x : ℕ). replicate x 0) e,
+              the-zero-words2 .ensures ∙ ap (λ (x : ℕ). replicate x 0) e,
               λ k z.
-                  let h = signed-piece (a .n) (a .l) (sectorAt (a .image .now)) k (sym (ap (λ (f : ℕ → Bool). f k) (p .1 .1 .1 .0)) ∙ z) in
+                  let h = signed-piece (a .g) (sectorAt (a .image .now)) k (sym (ap (λ (f : ℕ → Bool). f k) (p .1 .1 .1 .0)) ∙ z) in
                   omega arith,
             ),
           ),
@@ -47,15 +50,16 @@ find-live-requires c κs =
 
 fill-map-requires : tie.Need-fill-map-requires
 fill-map-requires c κs =
-    let a = c .before .before .before .before .before .before .before .before .before .before .before .before .before .before .before .before .before .before .before .before .before .before .args in
+    let the-find-live = c .before .before .before .before .before .before .find-live in
+    let the-zero-words = c .before .before .before .before .before .before .before .before .before .before .before .before .before .before .before .zero-words in
     let p = c .before .before .before .before .before .before .before .before .before .before .before .before .before .before .before .before .before .before .before .before .before .before .pre in
-    let k1 = c .before .before .before .before .before .before .before .before .before .before .before .before .before .before .before .zero-words .kept .0 in let p1 = p .1 .1 .1 .1 .1 .0 in
-    let k2 = c .before .before .before .before .before .before .find-live .kept .1 .1 .1 .1 .0 in
+    let k1 = the-zero-words .kept .0 in let p1 = p .1 .1 .1 .1 .1 .0 in
+    let k2 = the-find-live .kept .1 .1 .1 .1 .0 in
     let m1 = p .1 .1 .1 .1 .0 in
     let i1 = p .1 .0 in
-    let e = are-places (a .n) (a .l) (sectorAt (a .image .now)) (bitAt (a .marks .now)) (p .1 .1 .1 .0) (a .c) _ _ (k1 ∙ p1) (c .before .before .before .before .before .before .find-live .ensures .0) in (
+    let e = are-places _ _ _ (p .1 .1 .1 .0) _ _ _ (k1 ∙ p1) (the-find-live .ensures .0) in (
       omega arith,
-      λ q h. let b = place-inside (a .n) (a .l) (sectorAt (a .image .now)) (bitAt (a .marks .now)) (p .1 .1 .1 .0) (a .c) q _ (p .0) e (omega arith) in omega arith,
+      λ q h. let b = place-inside _ _ _ (p .1 .1 .1 .0) _ q _ (p .0) e (omega arith) in omega arith,
     )
 
 same-length : tie.Need-same-length
@@ -69,12 +73,14 @@ same-length-3 c = search needs
 
 returns : tie.Need-returns
 returns c =
-    let a = c .before .before .before .before .before .before .before .before .before .before .before .before .before .before .before .before .before .before .before .before .before .before .before .before .before .args in
+    let the-fill-map = c .before .before .fill-map in
+    let the-find-live = c .before .before .before .before .before .before .before .before .before .find-live in
+    let the-zero-words = c .before .before .before .before .before .before .before .before .before .before .before .before .before .before .before .before .before .before .zero-words in
     let p = c .before .before .before .before .before .before .before .before .before .before .before .before .before .before .before .before .before .before .before .before .before .before .before .before .before .pre in
-    let k1 = c .before .before .before .before .before .before .before .before .before .before .before .before .before .before .before .before .before .before .zero-words .kept .0 in let p1 = p .1 .1 .1 .1 .1 .0 in (
-      are-places (a .n) (a .l) (sectorAt (a .image .now)) (bitAt (a .marks .now)) (p .1 .1 .1 .0) (a .c) _ _ (k1 ∙ p1) (c .before .before .before .before .before .before .before .before .before .find-live .ensures .0),
-      are-numbers (a .n) (a .l) (sectorAt (a .image .now)) (bitAt (a .marks .now)) (p .1 .1 .1 .0) (a .c) _ _ (k1 ∙ p1) (c .before .before .before .before .before .before .before .before .before .find-live .ensures .1),
-      is-map (sectorAt (a .image .now)) _ _ _ (a .l) (p .1 .1 .1 .1 .0) (c .before .before .fill-map .ensures),
+    let k1 = the-zero-words .kept .0 in let p1 = p .1 .1 .1 .1 .1 .0 in (
+      are-places _ _ _ (p .1 .1 .1 .0) _ _ _ (k1 ∙ p1) (the-find-live .ensures .0),
+      are-numbers _ _ _ (p .1 .1 .1 .0) _ _ _ (k1 ∙ p1) (the-find-live .ensures .1),
+      is-map _ _ _ _ _ (p .1 .1 .1 .1 .0) (the-fill-map .ensures),
     )
 
 pub scan-live-spec : {M : Type 1} → statement M

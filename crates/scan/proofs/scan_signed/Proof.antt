@@ -11,31 +11,38 @@ use Rattle.scan.proofs.scan_signed.Statement.{statement}
 use Rattle.scan.proofs.scan_signed.Tie as tie
 
 newest-closing-requires : tie.Need-newest-closing-requires
-newest-closing-requires c κs = let a = c .before .before .before .before .before .before .before .args in let p = c .before .before .before .before .before .before .before .pre in let s = sectors-some (a .n) (a .l) (p .0) in (omega arith, (p .1 .0, p .1 .1 .0))
+newest-closing-requires c κs = let a = c .before .before .before .before .before .before .before .args in let p = c .before .before .before .before .before .before .before .pre in let s = sectors-some (a .g) (p .0) in (omega arith, (p .1 .0, p .1 .1 .0))
 
 closing-at-requires : tie.Need-closing-at-requires
 closing-at-requires c κs =
-    let a = c .before .before .before .before .before .before .before .before .args in
-    let p = c .before .before .before .before .before .before .before .before .pre in
-    let s = sectors-some (a .n) (a .l) (p .0) in
+    let start = c .before .before .before .before .before .before .before .before in
+    let a = start .args in
+    let p = start .pre in
+    let s = sectors-some (a .g) (p .0) in
     let i = p .1 .0 in
     let m = p .1 .1 .0 in
     let e = c .newest-closing .ensures in
-    let b = best-below (closingAt (bitAt (a .marks .now)) (sectorAt (a .image .now))) (a .n) (omega arith) in
+    let b = best-below (closingAt (bitAt (a .marks .now)) (sectorAt (a .image .now))) (a .g .n) (omega arith) in
     (omega arith, omega arith)
 
 returns : tie.Need-returns
-returns c = let a = c .before .before .before .before .before .before .before .before .before .before .args in let p = c .before .before .before .before .before .before .before .before .before .before .pre in scan-none (a .n) (a .l) (sectorAt (a .image .now)) (bitAt (a .marks .now)) (p .1 .1 .1 .0) (c .before .before .newest-closing .result) (c .before .closing-at .result) (c .before .before .newest-closing .ensures) (c .before .closing-at .ensures) (c .if1 .taken) _ _
+returns c =
+    let the-closing-at = c .before .closing-at in
+    let the-newest-closing = c .before .before .newest-closing in
+    let p = c .before .before .before .before
+    .before .before .before .before .before .before .pre in scan-none _ _ _ (p .1 .1 .1 .0)
+    (the-newest-closing .result) (the-closing-at .result) (the-newest-closing .ensures) (the-closing-at .ensures) (c .if1 .taken) _ _
 
 mark-above-requires : tie.Need-mark-above-requires
 mark-above-requires c κs = search needs
 
 scan-tables-requires : tie.Need-scan-tables-requires
 scan-tables-requires c κs =
-    let a = c .before .before .before .before .before .before .before .before .before .before .before .before .before .before .before .before .before .before .args in
+    let the-closing-at = c .before .before .before .before .before .before .before .before .before .closing-at in
+    let the-newest-closing = c .before .before .before .before .before .before .before .before .before .before .newest-closing in
     let p = c .before .before .before .before .before .before .before .before .before .before .before .before .before .before .before .before .before .before .pre in
     let q = p .1 .1 .1 .1 in
-    (p .0, (p .1 .0, (p .1 .1 .0, (p .1 .1 .1 .0, (tail-newest (a .n) (a .l) (sectorAt (a .image .now)) (bitAt (a .marks .now)) (p .1 .1 .1 .0) (c .before .before .before .before .before .before .before .before .before .before .newest-closing .result) (c .before .before .before .before .before .before .before .before .before .closing-at .result) (c .before .before .before .before .before .before .before .before .before .before .newest-closing .ensures) (c .before .before .before .before .before .before .before .before .before .closing-at .ensures), (q .0, (q .1 .0, (q .1 .1 .0, q .1 .1 .1 .0))))))))
+    (p .0, (p .1 .0, (p .1 .1 .0, (p .1 .1 .1 .0, (tail-newest _ _ _ (p .1 .1 .1 .0) (the-newest-closing .result) (the-closing-at .result) (the-newest-closing .ensures) (the-closing-at .ensures), (q .0, (q .1 .0, (q .1 .1 .0, q .1 .1 .1 .0))))))))
 
 same-length : tie.Need-same-length
 same-length c = search needs
@@ -53,7 +60,16 @@ same-length-5 : tie.Need-same-length-5
 same-length-5 c = search needs
 
 returns-2 : tie.Need-returns-2
-returns-2 c = let a = c .before .before .before .before .before .before .before .before .before .before .before .before .before .before .before .before .before .before .before .before .before .before .before .before .before .before .before .before .args in let p = c .before .before .before .before .before .before .before .before .before .before .before .before .before .before .before .before .before .before .before .before .before .before .before .before .before .before .before .before .pre in scan-damaged (a .n) (a .l) (sectorAt (a .image .now)) (bitAt (a .marks .now)) (p .1 .1 .1 .0) (c .before .before .before .before .before .before .before .before .before .before .before .before .before .before .before .before .before .before .before .before .newest-closing .result) (c .before .before .before .before .before .before .before .before .before .before .before .before .before .before .before .before .before .before .before .closing-at .result) (c .before .before .before .before .before .before .before .before .before .before .before .before .before .before .before .before .before .before .before .before .newest-closing .ensures) (c .before .before .before .before .before .before .before .before .before .before .before .before .before .before .before .before .before .before .before .closing-at .ensures) (c .before .before .before .before .before .before .before .before .before .before .before .before .before .before .before .before .before .before .if1 .left) (c .before .before .before .before .before .before .before .before .before .scan-tables .result) _ (c .before .before .before .before .before .before .before .before .before .scan-tables .ensures) (c .if2 .taken) _
+returns-2 c =
+    let the-scan-tables = c .before .before .before .before .before .before .before .before .before .scan-tables in
+    let the-if1 = c .before .before .before .before .before .before .before .before .before .before .before .before .before .before .before .before .before .before .if1 in
+    let the-closing-at = c .before .before .before .before .before .before .before .before .before .before .before .before .before .before .before .before .before .before .before .closing-at in
+    let the-newest-closing = c .before .before .before .before .before .before .before .before .before .before .before .before .before .before .before .before .before .before .before .before .newest-closing in
+    let p = c .before .before .before .before .before
+    .before .before .before .before .before .before .before .before .before .before .before .before .before .before .before .before .before .before
+    .before .before .before .before .before .pre in scan-damaged _ _ _ (p .1 .1 .1 .0)
+    (the-newest-closing .result) (the-closing-at .result) (the-newest-closing .ensures) (the-closing-at .ensures) (the-if1 .left)
+    (the-scan-tables .result) _ (the-scan-tables .ensures) (c .if2 .taken) _
 
 same-length-6 : tie.Need-same-length-6
 same-length-6 c = search needs
@@ -71,7 +87,17 @@ same-length-10 : tie.Need-same-length-10
 same-length-10 c = search needs
 
 returns-3 : tie.Need-returns-3
-returns-3 c = let a = c .before .before .before .before .before .before .before .before .before .before .before .before .before .before .before .before .before .before .before .before .before .before .before .before .before .before .before .before .args in let p = c .before .before .before .before .before .before .before .before .before .before .before .before .before .before .before .before .before .before .before .before .before .before .before .before .before .before .before .before .pre in scan-finds (a .n) (a .l) (sectorAt (a .image .now)) (bitAt (a .marks .now)) (p .1 .1 .1 .0) (c .before .before .before .before .before .before .before .before .before .before .before .before .before .before .before .before .before .before .before .before .newest-closing .result) (c .before .before .before .before .before .before .before .before .before .before .before .before .before .before .before .before .before .before .before .closing-at .result) (c .before .before .before .before .before .before .before .before .before .before .before .before .before .before .before .before .before .before .before .before .newest-closing .ensures) (c .before .before .before .before .before .before .before .before .before .before .before .before .before .before .before .before .before .before .before .closing-at .ensures) (c .before .before .before .before .before .before .before .before .before .before .before .before .before .before .before .before .before .before .if1 .left) (c .before .before .before .before .before .before .before .before .before .scan-tables .result) _ (c .before .before .before .before .before .before .before .before .before .scan-tables .ensures) (c .if2 .left) _ (c .before .before .before .before .before .before .before .before .before .before .before .before .before .before .before .before .mark-above .ensures)
+returns-3 c =
+    let the-scan-tables = c .before .before .before .before .before .before .before .before .before .scan-tables in
+    let the-mark-above = c .before .before .before .before .before .before .before .before .before .before .before .before .before .before .before .before .mark-above in
+    let the-if1 = c .before .before .before .before .before .before .before .before .before .before .before .before .before .before .before .before .before .before .if1 in
+    let the-closing-at = c .before .before .before .before .before .before .before .before .before .before .before .before .before .before .before .before .before .before .before .closing-at in
+    let the-newest-closing = c .before .before .before .before .before .before .before .before .before .before .before .before .before .before .before .before .before .before .before .before .newest-closing in
+    let p = c .before .before .before .before .before
+    .before .before .before .before .before .before .before .before .before .before .before .before .before .before .before .before .before .before
+    .before .before .before .before .before .pre in scan-finds _ _ _ (p .1 .1 .1 .0)
+    (the-newest-closing .result) (the-closing-at .result) (the-newest-closing .ensures) (the-closing-at .ensures) (the-if1 .left)
+    (the-scan-tables .result) _ (the-scan-tables .ensures) (c .if2 .left) _ (the-mark-above .ensures)
 
 pub scan-signed-spec : {M : Type 1} → statement M
 scan-signed-spec =

@@ -28,42 +28,48 @@ shared-slice-read-b c = c .before .loop-test .taken
 
 cast-b : tie.Need-cast-b Inv-loop μ-loop
 cast-b c =
-    let h = c .before .before .before .pre .1 (c .before .before .loop .i) (c .before .loop-test .taken) in
+    let the-loop = c .before .before .loop in
+    let the-pre = c .before .before .before .pre in
+    let h = the-pre .1 (the-loop .i) (c .before .loop-test .taken) in
     omega arith
 
 mul-map : tie.Need-mul-map Inv-loop μ-loop
 mul-map c = search needs
 
 shared-slice-read-map : tie.Need-shared-slice-read-map Inv-loop μ-loop
-shared-slice-read-map c =
-    let t = c .before .before .loop-test .taken in
-    let h = c .before .before .before .before .pre .0 in
-    omega arith
+shared-slice-read-map c = omega arith
 
 mul-map-2 : tie.Need-mul-map-2 Inv-loop μ-loop
 mul-map-2 c =
-    let h = c .before .before .before .before .pre .1 (c .before .before .before .loop .i) (c .before .before .loop-test .taken) in
-    let g = c .before .before .before .before .good in
+    let the-loop-test = c .before .before .loop-test in
+    let the-loop = c .before .before .before .loop in
+    let the-pre = c .before .before .before .before .pre in
+    let h = the-pre .1 (the-loop .i) (the-loop-test .taken) in
     omega arith
 
 slice-write-map : tie.Need-slice-write-map Inv-loop μ-loop
 slice-write-map c =
-    let h = c .before .before .before .before .pre .1 (c .before .before .before .loop .i) (c .before .before .loop-test .taken) in
-    let e = c .before .before .before .loop .inv .1 in
+    let the-loop-test = c .before .before .loop-test in
+    let the-loop = c .before .before .before .loop in
+    let the-pre = c .before .before .before .before .pre in
+    let h = the-pre .1 (the-loop .i) (the-loop-test .taken) in
+    let e = the-loop .inv .1 in
     omega arith
 
 add-i : tie.Need-add-i Inv-loop μ-loop
-add-i c = let t = c .before .before .loop-test .taken in omega arith
+add-i c = omega arith
 
 loop-less : tie.Need-loop-less Inv-loop μ-loop
-loop-less c = let t = c .before .before .loop-test .taken in omega arith
+loop-less c = omega arith
 
 loop-again : tie.Need-loop-again Inv-loop μ-loop
 loop-again c =
+    let the-loop-test = c .before .before .loop-test in
+    let the-pre = c .before .before .before .before .pre in
     let a = c .before .before .before .before .args in
     let l = c .before .before .before .loop in
-    let t = c .before .before .loop-test .taken in
-    let h = c .before .before .before .before .pre .1 (l .i) t in
+    let t = the-loop-test .taken in
+    let h = the-pre .1 (l .i) t in
     let e = l .inv .1 in
     (omega arith, length-set (l .map) (at (a .blocks .now) (l .i)) (at (a .news .now) (l .i)) ∙ e, changed-more (a .map .now) (l .map) (a .blocks .now) (a .news .now) (l .i) (omega arith) (l .inv .2))
 

@@ -33,34 +33,46 @@ shared-slice-read-b c = let t = c .before .loop-test .taken in t
 
 cast-b : tie.Need-cast-b Inv-loop μ-loop
 cast-b c =
-    let h = c .before .before .before .before .before .before .pre .0 (c .before .before .loop .i) (c .before .loop-test .taken) in
+    let the-loop = c .before .before .loop in
+    let the-pre = c .before .before .before .before .before .before .pre in
+    let h = the-pre .0 (the-loop .i) (c .before .loop-test .taken) in
     omega arith
 
 mul-free-entry : tie.Need-mul-free-entry Inv-loop μ-loop
 mul-free-entry c =
-    let h = c .before .before .before .before .before .before .before .pre .0 (c .before .before .before .loop .i) (c .before .before .loop-test .taken) in
-    let g = c .before .before .before .before .before .before .before .good in
+    let the-loop-test = c .before .before .loop-test in
+    let the-loop = c .before .before .before .loop in
+    let the-pre = c .before .before .before .before .before .before .before .pre in
+    let h = the-pre .0 (the-loop .i) (the-loop-test .taken) in
     omega arith
 
 shared-slice-read-free-entry : tie.Need-shared-slice-read-free-entry Inv-loop μ-loop
-shared-slice-read-free-entry c = c .before .before .before .before .before .before .before .before .pre .0 (c .before .before .before .before .loop .i) (c .before .before .before .loop-test .taken)
+shared-slice-read-free-entry c =
+    let the-loop-test = c .before .before .before .loop-test in
+    let the-loop = c .before .before .before .before .loop in
+    let the-pre = c .before .before .before .before .before .before .before .before .pre in
+    the-pre .0 (the-loop .i) (the-loop-test .taken)
 
 free-entry-requires : tie.Need-free-entry-requires Inv-loop μ-loop
 free-entry-requires c κs =
-    λ e. let a = c .before .before .before .before .before .before .before .before .args in let l = c .before .before .before .before .loop in subst (λ (x : ℕ). sectorOf (at (a .map .now) (at (a .blocks .now) (l .i))) < 8 * x) (sym (l .inv .1)) (c .before .before .before .before .before .before .before .before .pre .1 (at (a .blocks .now) (l .i)) (c .before .before .before .before .before .before .before .before .pre .0 (l .i) (c .before .before .before .loop-test .taken)) e)
+    let the-loop-test = c .before .before .before .loop-test in
+    let the-pre = c .before .before .before .before .before .before .before .before .pre in
+    λ e. let a = c .before .before .before .before .before .before .before .before .args in let l = c .before .before .before .before .loop in subst
+    (λ (x : ℕ). sectorOf (at (a .map .now) (at (a .blocks .now) (l .i))) < 8 * x) (sym (l .inv .1))
+    (the-pre .1 (at (a .blocks .now) (l .i)) (the-pre .0 (l .i) (the-loop-test .taken)) e)
 
 add-i : tie.Need-add-i Inv-loop μ-loop
-add-i c = let t = c .before .before .before .before .before .before .loop-test .taken in omega arith
+add-i c = omega arith
 
 loop-less : tie.Need-loop-less Inv-loop μ-loop
-loop-less c = let t = c .before .before .before .before .before .before .loop-test .taken in omega arith
+loop-less c = omega arith
 
 loop-again : tie.Need-loop-again Inv-loop μ-loop
 loop-again c =
+    let the-free-entry = c .before .before .free-entry in
     let a = c .before .before .before .before .before .before .before .before .before .before .before .args in
     let l = c .before .before .before .before .before .before .before .loop in
-    let t = c .before .before .before .before .before .before .loop-test .taken in
-    (omega arith, c .before .before .free-entry .kept .0 ∙ l .inv .1, without-more (bitAt (a .used .now)) (λ i. not (isEmpty (at (a .map .now) (at (a .blocks .now) i)))) (λ i. sectorOf (at (a .map .now) (at (a .blocks .now) i))) (l .i) (bitAt (l .used)) _ (l .inv .2) (c .before .before .free-entry .ensures))
+    (omega arith, the-free-entry .kept .0 ∙ l .inv .1, without-more (bitAt (a .used .now)) (λ i. not (isEmpty (at (a .map .now) (at (a .blocks .now) i)))) (λ i. sectorOf (at (a .map .now) (at (a .blocks .now) i))) (l .i) (bitAt (l .used)) _ (l .inv .2) (the-free-entry .ensures))
 
 same-length : tie.Need-same-length Inv-loop μ-loop
 same-length c = c .before .loop .inv .1

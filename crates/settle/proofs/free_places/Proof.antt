@@ -22,57 +22,57 @@ abbrev μ-pieces : tie.MeasureT-pieces
 
 pieces-holds : tie.Need-pieces-holds Inv-pieces μ-pieces
 pieces-holds c =
-    let a = c .before .before .before .args in
-    (omega arith, refl, without-none (bitAt (a .used .now)) (flagged (a .written .now)) (at (a .places .now)))
+    (omega arith, refl, without-none _ _ _)
 
 shared-slice-read-if1 : tie.Need-shared-slice-read-if1 Inv-pieces μ-pieces
-shared-slice-read-if1 c =
-    let t = c .before .pieces-test .taken in
-    let h = c .before .before .before .before .before .before .pre .0 in
-    omega arith
+shared-slice-read-if1 c = omega arith
 
 add-p : tie.Need-add-p Inv-pieces μ-pieces
-add-p c = let t = c .before .before .pieces-test .taken in omega arith
+add-p c = omega arith
 
 pieces-less : tie.Need-pieces-less Inv-pieces μ-pieces
-pieces-less c = let t = c .before .before .pieces-test .taken in omega arith
+pieces-less c = omega arith
 
 pieces-again : tie.Need-pieces-again Inv-pieces μ-pieces
 pieces-again c =
-    let a = c .before .before .before .before .before .before .before .args in
     let l = c .before .before .before .pieces in
-    let t = c .before .before .pieces-test .taken in
-    (omega arith, l .inv .1, without-miss (bitAt (a .used .now)) (flagged (a .written .now)) (at (a .places .now)) (l .p) (bitAt (l .used)) (not-flagged (a .written .now) (l .p) (c .if1 .taken)) (l .inv .2))
+    (omega arith, l .inv .1, without-miss _ _ _ (l .p) (bitAt (l .used)) (not-flagged _ (l .p) (c .if1 .taken)) (l .inv .2))
 
 mul-clear-bit : tie.Need-mul-clear-bit Inv-pieces μ-pieces
 mul-clear-bit c = search needs
 
 shared-slice-read-clear-bit : tie.Need-shared-slice-read-clear-bit Inv-pieces μ-pieces
-shared-slice-read-clear-bit c = c .before .before .before .before .pieces-test .taken
+shared-slice-read-clear-bit c =
+    let the-pieces-test = c .before .before .before .before .pieces-test in
+    the-pieces-test .taken
 
 cast-clear-bit : tie.Need-cast-clear-bit Inv-pieces μ-pieces
 cast-clear-bit c =
-    let h = c .shared-slice-known4 .given (c .before .before .before .before .before .pieces .p) in
+    let the-pieces = c .before .before .before .before .before .pieces in
+    let h = c .shared-slice-known4 .given (the-pieces .p) in
     omega arith
 
 clear-bit-requires : tie.Need-clear-bit-requires Inv-pieces μ-pieces
 clear-bit-requires c κs =
-    let h = c .before .before .before .before .before .before .before .before .before .pre .1 (c .before .before .before .before .before .pieces .p) (c .before .before .before .before .pieces-test .taken) in
-    let e = c .before .before .before .before .before .pieces .inv .1 in
+    let the-pieces-test = c .before .before .before .before .pieces-test in
+    let the-pieces = c .before .before .before .before .before .pieces in
+    let the-pre = c .before .before .before .before .before .before .before .before .before .pre in
+    let h = the-pre .1 (the-pieces .p) (the-pieces-test .taken) in
+    let e = the-pieces .inv .1 in
     omega arith
 
 add-p-2 : tie.Need-add-p-2 Inv-pieces μ-pieces
-add-p-2 c = let t = c .before .before .before .before .before .before .before .pieces-test .taken in omega arith
+add-p-2 c = omega arith
 
 pieces-less-2 : tie.Need-pieces-less-2 Inv-pieces μ-pieces
-pieces-less-2 c = let t = c .before .before .before .before .before .before .before .pieces-test .taken in omega arith
+pieces-less-2 c = omega arith
 
 pieces-again-2 : tie.Need-pieces-again-2 Inv-pieces μ-pieces
 pieces-again-2 c =
-    let a = c .before .before .before .before .before .before .before .before .before .before .before .before .args in
+    let the-clear-bit = c .before .before .clear-bit in
+    let the-if1 = c .before .before .before .before .before .if1 in
     let l = c .before .before .before .before .before .before .before .before .pieces in
-    let t = c .before .before .before .before .before .before .before .pieces-test .taken in
-    (omega arith, c .before .before .clear-bit .kept .0 ∙ l .inv .1, without-hit (bitAt (a .used .now)) (flagged (a .written .now)) (at (a .places .now)) (l .p) (bitAt (l .used)) _ (is-flagged (a .written .now) (l .p) (c .before .before .before .before .before .if1 .left)) (l .inv .2) (c .before .before .clear-bit .ensures))
+    (omega arith, the-clear-bit .kept .0 ∙ l .inv .1, without-hit _ _ _ (l .p) (bitAt (l .used)) _ (is-flagged _ (l .p) (the-if1 .left)) (l .inv .2) (the-clear-bit .ensures))
 
 same-length : tie.Need-same-length Inv-pieces μ-pieces
 same-length c = c .before .pieces .inv .1

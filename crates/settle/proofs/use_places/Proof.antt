@@ -26,31 +26,37 @@ mul-set-bit : tie.Need-mul-set-bit Inv-loop μ-loop
 mul-set-bit c = search needs
 
 shared-slice-read-set-bit : tie.Need-shared-slice-read-set-bit Inv-loop μ-loop
-shared-slice-read-set-bit c = c .before .before .loop-test .taken
+shared-slice-read-set-bit c =
+    let the-loop-test = c .before .before .loop-test in
+    the-loop-test .taken
 
 cast-set-bit : tie.Need-cast-set-bit Inv-loop μ-loop
 cast-set-bit c =
-    let h = c .shared-slice-known2 .given (c .before .before .before .loop .i) in
+    let the-loop = c .before .before .before .loop in
+    let h = c .shared-slice-known2 .given (the-loop .i) in
     omega arith
 
 set-bit-requires : tie.Need-set-bit-requires Inv-loop μ-loop
 set-bit-requires c κs =
-    let h = c .before .before .before .before .before .before .pre (c .before .before .before .loop .i) (c .before .before .loop-test .taken) in
-    let e = c .before .before .before .loop .inv .1 in
+    let the-loop-test = c .before .before .loop-test in
+    let the-loop = c .before .before .before .loop in
+    let the-pre = c .before .before .before .before .before .before .pre in
+    let h = the-pre (the-loop .i) (the-loop-test .taken) in
+    let e = the-loop .inv .1 in
     omega arith
 
 add-i : tie.Need-add-i Inv-loop μ-loop
-add-i c = let t = c .before .before .before .before .before .loop-test .taken in omega arith
+add-i c = omega arith
 
 loop-less : tie.Need-loop-less Inv-loop μ-loop
-loop-less c = let t = c .before .before .before .before .before .loop-test .taken in omega arith
+loop-less c = omega arith
 
 loop-again : tie.Need-loop-again Inv-loop μ-loop
 loop-again c =
+    let the-set-bit = c .before .before .set-bit in
     let a = c .before .before .before .before .before .before .before .before .before .args in
     let l = c .before .before .before .before .before .before .loop in
-    let t = c .before .before .before .before .before .loop-test .taken in
-    (omega arith, c .before .before .set-bit .kept .0 ∙ l .inv .1, marking-more (bitAt (a .used .now)) (a .taken .now) (l .i) (bitAt (l .used)) _ (l .inv .2) (c .before .before .set-bit .ensures))
+    (omega arith, the-set-bit .kept .0 ∙ l .inv .1, marking-more (bitAt (a .used .now)) (a .taken .now) (l .i) (bitAt (l .used)) _ (l .inv .2) (the-set-bit .ensures))
 
 same-length : tie.Need-same-length Inv-loop μ-loop
 same-length c = c .before .loop .inv .1

@@ -3,7 +3,6 @@ use Prim.Native.Nat.{_-_}
 use mathlib.Core.Path.{_∙_, ap}
 use lib.ListN.{length}
 use borrow.Author.Tests.{not-true, not-false}
-use Rattle.volume.specs.Tables.{sectorAt, bitAt}
 use Rattle.laws.proofs.Sectors.{sector-length}
 use Rattle.signed.proofs.Newest.{closing-none, closing-some}
 use borrow.Author.Needs.{needs}
@@ -14,19 +13,25 @@ sector-requires : tie.Need-sector-requires
 sector-requires c κs = search needs
 
 is-closing-requires : tie.Need-is-closing-requires
-is-closing-requires c κs = ap length (c .sector .ensures) ∙ sector-length (c .before .before .before .args .image .now) (c .before .before .before .args .k) (c .before .before .before .pre .0)
+is-closing-requires c κs =
+    let the-pre = c .before .before .before .pre in
+    ap length (c .sector .ensures) ∙ sector-length _ _ (the-pre .0)
 
 returns : tie.Need-returns
-returns c = let a = c .before .before .before .before .before .args in closing-none (bitAt (a .marks .now)) (sectorAt (a .image .now)) (a .k) _ (c .before .before .sector .ensures) (c .before .is-closing .result) (c .before .is-closing .ensures) (not-true (c .before .is-closing .result) (c .if1 .taken))
+returns c =
+    let the-is-closing = c .before .is-closing in
+    let the-sector = c .before .before .sector in
+    closing-none _ _ _ _ (the-sector .ensures) (the-is-closing .result) (the-is-closing .ensures) (not-true (the-is-closing .result) (c .if1 .taken))
 
 number-at-requires : tie.Need-number-at-requires
 number-at-requires c κs = search needs
 
 returns-2 : tie.Need-returns-2
 returns-2 c =
-    let a = c .before .before .before .before .before .before .args in
-    closing-some (bitAt (a .marks .now)) (sectorAt (a .image .now)) (a .k) _ (c .before .before .before .sector .ensures) (c .before .before .is-closing .result) (c .before .before .is-closing .ensures)
-    (not-false (c .before .before .is-closing .result) (c .before .if1 .left)) _ (c .number-at .ensures)
+    let the-is-closing = c .before .before .is-closing in
+    let the-sector = c .before .before .before .sector in
+    closing-some _ _ _ _ (the-sector .ensures) (the-is-closing .result) (the-is-closing .ensures)
+    (not-false (the-is-closing .result) (c .before .if1 .left)) _ (c .number-at .ensures)
 
 pub closing-at-spec : {M : Type 1} → statement M
 closing-at-spec =

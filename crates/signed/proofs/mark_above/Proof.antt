@@ -18,53 +18,52 @@ abbrev μ-sectors : tie.MeasureT-sectors
 μ-sectors image n marks c above₀ k₀ above k = n - k
 
 sectors-holds : tie.Need-sectors-holds Inv-sectors μ-sectors
-sectors-holds c = let a = c .before .before .before .args in (omega arith, refl, marks-none (λ k. ltb (a .c) (numberAt (bitAt (a .marks .now)) (sectorAt (a .image .now)) k)) (a .above .now) (length (a .above .now)) (c .before .before .before .pre .1 .1 .1))
+sectors-holds c =
+    let the-pre = c .before .before .before .pre in
+    let a = c .before .before .before .args in (omega arith, refl, marks-none (λ k. ltb (a .c) (numberAt (bitAt (a .marks .now)) (sectorAt (a .image .now)) k)) (a .above .now) (length (a .above .now)) (the-pre .1 .1 .1))
 
 number-at-requires : tie.Need-number-at-requires Inv-sectors μ-sectors
-number-at-requires c κs = let t = c .sectors-test .taken in let e = c .before .before .before .before .before .pre .0 in let m = c .before .before .before .before .before .pre .1 .0 in (omega arith, omega arith)
+number-at-requires c κs =
+    (omega arith, omega arith)
 
 add-k : tie.Need-add-k Inv-sectors μ-sectors
-add-k c = let t = c .before .before .sectors-test .taken in omega arith
+add-k c = omega arith
 
 sectors-less : tie.Need-sectors-less Inv-sectors μ-sectors
-sectors-less c = let t = c .before .before .sectors-test .taken in omega arith
+sectors-less c = omega arith
 
 sectors-again : tie.Need-sectors-again Inv-sectors μ-sectors
 sectors-again c =
-    let a = c .before .before .before .before .before .before .before .args in
-    let l = c .before .before .before .sectors in
-    let t = c .before .before .sectors-test .taken in (
+    let the-number-at = c .before .number-at in
+    let l = c .before .before .before .sectors in (
       omega arith,
       l .inv .1,
-      marks-miss (λ k. ltb (a .c) (numberAt (bitAt (a .marks .now)) (sectorAt (a .image .now)) k)) (l .k) (bitAt (l .above)) (l .inv .2)
-          (ap (ltb (a .c)) (sym (c .before .number-at .ensures)) ∙ le-ltb (a .c) (c .before .number-at .result) (c .if1 .taken)),
+      marks-miss (λ k. ltb _ (numberAt _ _ k)) (l .k) (bitAt (l .above)) (l .inv .2)
+          (ap (ltb _) (sym (the-number-at .ensures)) ∙ le-ltb _ (the-number-at .result) (c .if1 .taken)),
     )
 
 cast-set-bit : tie.Need-cast-set-bit Inv-sectors μ-sectors
 cast-set-bit c = omega arith
 
 set-bit-requires : tie.Need-set-bit-requires Inv-sectors μ-sectors
-set-bit-requires c κs =
-    let t = c .before .before .before .sectors-test .taken in
-    let h = c .before .before .before .before .before .before .before .before .pre .1 .1 .0 in
-    let e = c .before .before .before .before .sectors .inv .1 in
-    omega arith
+set-bit-requires c κs = omega arith
 
 add-k-2 : tie.Need-add-k-2 Inv-sectors μ-sectors
-add-k-2 c = let t = c .before .before .before .before .before .before .sectors-test .taken in omega arith
+add-k-2 c = omega arith
 
 sectors-less-2 : tie.Need-sectors-less-2 Inv-sectors μ-sectors
-sectors-less-2 c = let t = c .before .before .before .before .before .before .sectors-test .taken in omega arith
+sectors-less-2 c = omega arith
 
 sectors-again-2 : tie.Need-sectors-again-2 Inv-sectors μ-sectors
 sectors-again-2 c =
-    let a = c .before .before .before .before .before .before .before .before .before .before .before .args in
-    let l = c .before .before .before .before .before .before .before .sectors in
-    let t = c .before .before .before .before .before .before .sectors-test .taken in (
+    let the-set-bit = c .before .before .set-bit in
+    let the-if1 = c .before .before .before .before .if1 in
+    let the-number-at = c .before .before .before .before .before .number-at in
+    let l = c .before .before .before .before .before .before .before .sectors in (
       omega arith,
-      c .before .before .set-bit .kept .0 ∙ l .inv .1,
-      marks-hit (λ k. ltb (a .c) (numberAt (bitAt (a .marks .now)) (sectorAt (a .image .now)) k)) (l .k) (bitAt (l .above)) _ (l .inv .2)
-          (ap (ltb (a .c)) (sym (c .before .before .before .before .before .number-at .ensures)) ∙ lt-ltb (a .c) (c .before .before .before .before .before .number-at .result) (c .before .before .before .before .if1 .left)) (c .before .before .set-bit .ensures),
+      the-set-bit .kept .0 ∙ l .inv .1,
+      marks-hit (λ k. ltb _ (numberAt _ _ k)) (l .k) (bitAt (l .above)) _ (l .inv .2)
+          (ap (ltb _) (sym (the-number-at .ensures)) ∙ lt-ltb _ (the-number-at .result) (the-if1 .left)) (the-set-bit .ensures),
     )
 
 same-length : tie.Need-same-length Inv-sectors μ-sectors

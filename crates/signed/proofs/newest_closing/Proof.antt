@@ -17,29 +17,32 @@ abbrev μ-loop : tie.MeasureT-loop
 μ-loop image n marks found₀ highest₀ k₀ found highest k = n - k
 
 closing-at-requires : tie.Need-closing-at-requires Inv-loop μ-loop
-closing-at-requires c κs = let h = c .before .before .pre .0 in let e = c .before .before .pre .1 .0 in let m = c .before .before .pre .1 .1 in (omega arith, omega arith)
+closing-at-requires c κs =
+    (omega arith, omega arith)
 
 loop-holds : tie.Need-loop-holds Inv-loop μ-loop
-loop-holds c = let a = c .before .before .before .args in (c .before .before .before .pre .0, newest-first (closingAt (bitAt (a .marks .now)) (sectorAt (a .image .now))) (c .closing-at .result) (c .closing-at .ensures))
+loop-holds c =
+    let the-pre = c .before .before .before .pre in
+    (the-pre .0, newest-first (closingAt _ _) (c .closing-at .result) (c .closing-at .ensures))
 
 closing-at-requires-2 : tie.Need-closing-at-requires-2 Inv-loop μ-loop
-closing-at-requires-2 c κs = let t = c .loop-test .taken in let e = c .before .before .before .before .before .pre .1 .0 in let m = c .before .before .before .before .before .pre .1 .1 in (omega arith, omega arith)
+closing-at-requires-2 c κs =
+    (omega arith, omega arith)
 
 add-k : tie.Need-add-k Inv-loop μ-loop
-add-k c = let t = c .before .before .loop-test .taken in omega arith
+add-k c = omega arith
 
 loop-less : tie.Need-loop-less Inv-loop μ-loop
-loop-less c = let t = c .before .before .loop-test .taken in omega arith
+loop-less c = omega arith
 
 loop-again : tie.Need-loop-again Inv-loop μ-loop
 loop-again c =
-    let a = c .before .before .before .before .before .before .before .args in
+    let the-closing-at2 = c .before .closing-at2 in
     let l = c .before .before .before .loop in
-    let t = c .before .before .loop-test .taken in
-    let key = closingAt (bitAt (a .marks .now)) (sectorAt (a .image .now)) in (
+    let key = closingAt _ _ in (
       omega arith,
-      ⊎-elim (λ w. newest-more key (l .k) (l .found) (l .highest) (c .before .closing-at2 .result) _ _ (l .inv .1) (c .before .closing-at2 .ensures) (w .0 .taken) (w .1) (w .2))
-          (λ w. newest-same key (l .k) (l .found) (l .highest) (c .before .closing-at2 .result) _ _ (l .inv .1) (c .before .closing-at2 .ensures) (w .0 .left) (w .1) (w .2)) (c .if1 .came),
+      ⊎-elim (λ w. newest-more key (l .k) (l .found) (l .highest) (the-closing-at2 .result) _ _ (l .inv .1) (the-closing-at2 .ensures) (w .0 .taken) (w .1) (w .2))
+          (λ w. newest-same key (l .k) (l .found) (l .highest) (the-closing-at2 .result) _ _ (l .inv .1) (the-closing-at2 .ensures) (w .0 .left) (w .1) (w .2)) (c .if1 .came),
     )
 
 returns : tie.Need-returns Inv-loop μ-loop

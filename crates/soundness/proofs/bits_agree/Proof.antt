@@ -22,16 +22,15 @@ shared-slice-read-if1 : tie.Need-shared-slice-read-if1 Inv-loop μ-loop
 shared-slice-read-if1 c = omega arith
 
 shared-slice-read-if1-2 : tie.Need-shared-slice-read-if1-2 Inv-loop μ-loop
-shared-slice-read-if1-2 c =
-    let h = c .before .before .loop-test .taken in
-    let p = c .before .before .before .before .pre in
-    omega arith
+shared-slice-read-if1-2 c = omega arith
 
 returns : tie.Need-returns Inv-loop μ-loop
 returns c =
-    let a = c .before .before .before .before .before .args in
-    let i = c .before .before .before .before .loop .i in
-    bits-differ (a .used .now) (a .marks .now) i (c .before .before .before .loop-test .taken) ((c .before .before .shared-slice-known .given i) .fits)
+    let the-shared-slice-known = c .before .before .shared-slice-known in
+    let the-loop-test = c .before .before .before .loop-test in
+    let the-loop = c .before .before .before .before .loop in
+    let i = the-loop .i in
+    bits-differ _ _ i (the-loop-test .taken) ((the-shared-slice-known .given i) .fits)
     ((c .before .shared-slice-known2 .given i) .fits) (c .if1 .taken)
 
 add-i : tie.Need-add-i Inv-loop μ-loop
@@ -42,15 +41,13 @@ loop-less c = omega arith
 
 loop-again : tie.Need-loop-again Inv-loop μ-loop
 loop-again c =
-    let a = c .before .before .before .before .before .args in
     let l = c .before .before .before .before .loop in
-    (omega arith, agree-more (at (a .used .now)) (at (a .marks .now)) (l .i) (l .inv .1) (c .if1 .left))
+    (omega arith, agree-more _ _ (l .i) (l .inv .1) (c .if1 .left))
 
 returns-2 : tie.Need-returns-2 Inv-loop μ-loop
 returns-2 c =
-    let a = c .before .before .args in
     let l = c .before .loop in
-    bits-same (a .used .now) (a .marks .now) (λ j h. l .inv .1 j (let t = c .loop-test .left in omega arith))
+    bits-same _ _ (λ j h. l .inv .1 j (let t = c .loop-test .left in omega arith))
 
 pub bits-agree-spec : {M : Type 1} → statement M
 bits-agree-spec =

@@ -14,36 +14,42 @@ mark-names-requires : tie.Need-mark-names-requires
 mark-names-requires c κs =
     let a = c .before .before .before .before .before .args in
     let p = c .before .before .before .before .before .pre in
-    let some = sectors-some (a .n) (a .l) (p .0) in
-    let most = sectors-most (a .n) (a .l) (p .0) in
+    let some = sectors-some (a .g) (p .0) in
+    let most = sectors-most (a .g) (p .0) in
     (omega arith, (omega arith, (p .1 .0, (p .1 .1 .0, refl))))
 
 returns : tie.Need-returns
 returns c =
+    let the-mark-names = c .before .before .mark-names in
     let a = c .before .before .before .before .before .before .before .before .args in
-    let p = c .before .before .before .before .before .before .before .before .pre in
-    names-fail (a .n) (a .l) (a .map .now) (a .places .now) (a .numbers .now) (a .used .now) (a .tail) (a .number)
-    _ (c .before .before .mark-names .result) (c .before .before .mark-names .ensures) (c .if1 .taken)
+    names-fail (a .g) (a .map .now) (a .places .now) (a .numbers .now) (a .used .now) (a .tail) (a .number)
+    _ (the-mark-names .result) (the-mark-names .ensures) (c .if1 .taken)
 
 slice-aggregate-bits-agree : tie.Need-slice-aggregate-bits-agree
 slice-aggregate-bits-agree c = search needs
 
 bits-agree-requires : tie.Need-bits-agree-requires
 bits-agree-requires c κs =
-    let a = c .before .before .before .before .before .before .before .before .before .args in
-    let p = c .before .before .before .before .before .before .before .before .before .pre in
-    let most = sectors-most (a .n) (a .l) (p .0) in
+    let the-mark-names = c .before .before .before .mark-names in
+    let start = c .before .before .before .before .before .before .before .before .before in
+    let a = start .args in
+    let p = start .pre in
+    let most = sectors-most (a .g) (p .0) in
     let e = p .1 .1 .1 .1 in
-    let k = c .before .before .before .mark-names .kept .0 in
+    let k = the-mark-names .kept .0 in
     omega arith
 
 returns-2 : tie.Need-returns-2
 returns-2 c =
-    let a = c .before .before .before .before .before .before .before .before .before .before .before .args in
-    let p = c .before .before .before .before .before .before .before .before .before .before .before .pre in
-    bits-fail (a .n) (a .l) (a .map .now) (a .places .now) (a .numbers .now) (a .used .now) (a .tail) (a .number)
-    _ (c .before .before .before .before .before .mark-names .result) (c .before .before .before .before .before .mark-names .ensures) (c .before .before .before .if1 .left)
-    (c .before .bits-agree .result) (length (a .used .now)) (p .1 .1 .1 .1) (c .before .bits-agree .ensures) (c .if2 .taken)
+    let the-bits-agree = c .before .bits-agree in
+    let the-if1 = c .before .before .before .if1 in
+    let the-mark-names = c .before .before .before .before .before .mark-names in
+    let start = c .before .before .before .before .before .before .before .before .before .before .before in
+    let a = start .args in
+    let p = start .pre in
+    bits-fail (a .g) (a .map .now) (a .places .now) (a .numbers .now) (a .used .now) (a .tail) (a .number)
+    _ (the-mark-names .result) (the-mark-names .ensures) (the-if1 .left)
+    (the-bits-agree .result) (length (a .used .now)) (p .1 .1 .1 .1) (the-bits-agree .ensures) (c .if2 .taken)
 
 count-free-requires : tie.Need-count-free-requires
 count-free-requires c κs = search needs
@@ -53,29 +59,44 @@ pieces-for-requires c κs = search needs
 
 returns-3 : tie.Need-returns-3
 returns-3 c =
-    let a = c .before .before .before .before .before .before .before .before .before .before .before .before .before .before .args in
-    let p = c .before .before .before .before .before .before .before .before .before .before .before .before .before .before .pre in
-    room-fails (a .n) (a .l) (a .map .now) (a .places .now) (a .numbers .now) (a .used .now) (a .tail) (a .number)
-    _ (c .before .before .before .before .before .before .before .before .mark-names .result) (c .before .before .before .before .before .before .before .before .mark-names .ensures) (c .before .before .before .before .before .before .if1 .left)
-    (c .before .before .before .before .bits-agree .result) (length (a .used .now)) (p .1 .1 .1 .1) (c .before .before .before .before .bits-agree .ensures) (c .before .before .before .if2 .left)
-    (c .before .before .count-free .result) (c .before .pieces-for .result) (c .before .before .count-free .ensures) (c .before .pieces-for .ensures) (c .if3 .taken)
+    let the-pieces-for = c .before .pieces-for in
+    let the-count-free = c .before .before .count-free in
+    let the-if2 = c .before .before .before .if2 in
+    let the-bits-agree = c .before .before .before .before .bits-agree in
+    let the-if1 = c .before .before .before .before .before .before .if1 in
+    let the-mark-names = c .before .before .before .before .before .before .before .before .mark-names in
+    let start = c .before .before .before .before .before .before .before .before .before .before .before .before .before .before in
+    let a = start .args in
+    let p = start .pre in
+    room-fails (a .g) (a .map .now) (a .places .now) (a .numbers .now) (a .used .now) (a .tail) (a .number)
+    _ (the-mark-names .result) (the-mark-names .ensures) (the-if1 .left)
+    (the-bits-agree .result) (length (a .used .now)) (p .1 .1 .1 .1) (the-bits-agree .ensures) (the-if2 .left)
+    (the-count-free .result) (the-pieces-for .result) (the-count-free .ensures) (the-pieces-for .ensures) (c .if3 .taken)
 
 numbers-agree-requires : tie.Need-numbers-agree-requires
 numbers-agree-requires c κs =
-    let a = c .before .before .before .before .before .before .before .before .before .before .before .before .before .before .args in
-    let p = c .before .before .before .before .before .before .before .before .before .before .before .before .before .before .pre in
-    let some = blocks-some (a .n) (a .l) (p .0) in
+    let start = c .before .before .before .before .before .before .before .before .before .before .before .before .before .before in
+    let a = start .args in
+    let p = start .pre in
+    let some = blocks-some (a .g) (p .0) in
     let e = p .1 .1 .1 .0 in
     (omega arith, p .1 .1 .0 ∙ sym e)
 
 returns-4 : tie.Need-returns-4
 returns-4 c =
-    let a = c .before .before .before .before .before .before .before .before .before .before .before .before .before .before .before .args in
-    let p = c .before .before .before .before .before .before .before .before .before .before .before .before .before .before .before .pre in
-    numbers-decide (a .n) (a .l) (a .map .now) (a .places .now) (a .numbers .now) (a .used .now) (a .tail) (a .number)
-    _ (c .before .before .before .before .before .before .before .before .before .mark-names .result) (c .before .before .before .before .before .before .before .before .before .mark-names .ensures) (c .before .before .before .before .before .before .before .if1 .left)
-    (c .before .before .before .before .before .bits-agree .result) (length (a .used .now)) (p .1 .1 .1 .1) (c .before .before .before .before .before .bits-agree .ensures) (c .before .before .before .before .if2 .left)
-    (c .before .before .before .count-free .result) (c .before .before .pieces-for .result) (c .before .before .before .count-free .ensures) (c .before .before .pieces-for .ensures) (c .before .if3 .left)
+    let the-pieces-for = c .before .before .pieces-for in
+    let the-count-free = c .before .before .before .count-free in
+    let the-if2 = c .before .before .before .before .if2 in
+    let the-bits-agree = c .before .before .before .before .before .bits-agree in
+    let the-if1 = c .before .before .before .before .before .before .before .if1 in
+    let the-mark-names = c .before .before .before .before .before .before .before .before .before .mark-names in
+    let start = c .before .before .before .before .before .before .before .before .before .before .before .before .before .before .before in
+    let a = start .args in
+    let p = start .pre in
+    numbers-decide (a .g) (a .map .now) (a .places .now) (a .numbers .now) (a .used .now) (a .tail) (a .number)
+    _ (the-mark-names .result) (the-mark-names .ensures) (the-if1 .left)
+    (the-bits-agree .result) (length (a .used .now)) (p .1 .1 .1 .1) (the-bits-agree .ensures) (the-if2 .left)
+    (the-count-free .result) (the-pieces-for .result) (the-count-free .ensures) (the-pieces-for .ensures) (c .before .if3 .left)
     (c .numbers-agree .result) (length (a .numbers .now)) (p .1 .1 .1 .0) (c .numbers-agree .ensures)
 
 pub is-consistent-spec : {M : Type 1} → statement M

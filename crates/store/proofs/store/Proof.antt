@@ -23,24 +23,31 @@ enum-known-stored c = search needs
 
 store-members-requires : tie.Need-store-members-requires
 store-members-requires c κs =
+    let the-store-data = c .before .before .before .before .before .before .store-data in
     let r = c .before .before .before .before .before .before .before .before .before .before .before .before .before .before .before .before .pre in
-    (c .before .before .before .before .before .before .store-data .kept .0 ∙ r .0, r .1 .0)
+    (the-store-data .kept .0 ∙ r .0, r .1 .0)
 
 same-length : tie.Need-same-length
 same-length c = search needs
 
 returns : tie.Need-returns
 returns c =
+    let the-store-data = c .before .before .before .before .store-data in
     let a = c .before .before .before .before .before .before .before .before .before .before .before .before .before .before .args in
-    data-fails (a .s) (a .map .now) (a .blocks .now) (a .bytes .now) (a .news .now) (a .taken .now) (a .branches .now) (a .written .now) (a .count) (a .members) (a .allowance) (sectorAt (a .image .now)) _ (sym (c .enum-told .given .1) ∙ c .before .before .before .before .store-data .ensures .0) (c .before .before .before .before .store-data .ensures .1)
+    data-fails (a .s) (a .map .now) (a .blocks .now) (a .bytes .now) (a .news .now) (a .taken .now) (a .branches .now) (a .written .now) (a .count) (a .members) (a .allowance) (sectorAt (a .image .now)) _ (sym (c .enum-told .given .1) ∙ the-store-data .ensures .0) (the-store-data .ensures .1)
 
 same-length-2 : tie.Need-same-length-2
 same-length-2 c = search needs
 
 returns-2 : tie.Need-returns-2
 returns-2 c =
+    let the-store-members = c .before .before .store-members in
+    let the-stored = c .before .before .before .before .before .stored in
+    let the-store-data = c .before .before .before .before .before .before .before .before .before .store-data in
     let a = c .before .before .before .before .before .before .before .before .before .before .before .before .before .before .before .before .before .before .before .args in
-    members-run (a .s) (a .map .now) (a .blocks .now) (a .bytes .now) (a .news .now) (a .taken .now) (a .branches .now) (a .written .now) (a .count) (a .members) (a .allowance) (sectorAt (a .image .now)) _ _ _ (c .before .before .store-members .result) (sym (c .before .before .before .before .before .stored .given .1) ∙ c .before .before .before .before .before .before .before .before .before .store-data .ensures .0) (c .before .before .before .before .before .before .before .before .before .store-data .ensures .1) (c .before .before .store-members .ensures .0) (c .before .before .store-members .ensures .1)
+    members-run (a .s) (a .map .now) (a .blocks .now) (a .bytes .now) (a .news .now) (a .taken .now) (a .branches .now) (a .written .now) (a .count)
+    (a .members) (a .allowance) (sectorAt (a .image .now)) _ _ _ (the-store-members .result) (sym (the-stored .given .1) ∙ the-store-data .ensures .0)
+    (the-store-data .ensures .1) (the-store-members .ensures .0) (the-store-members .ensures .1)
 
 pub store-spec : {M : Type 1} → statement M
 store-spec =

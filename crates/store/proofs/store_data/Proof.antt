@@ -28,7 +28,9 @@ loop-holds c =
     (omega arith, refl, storing-starts always (blockStore (a .taken .now) (a .bytes .now)) (sectorAt (a .image .now)) (a .allowance))
 
 same-length : tie.Need-same-length Inv-loop μ-loop
-same-length c = c .before .before .loop .inv .1
+same-length c =
+    let the-loop = c .before .before .loop in
+    the-loop .inv .1
 
 returns : tie.Need-returns Inv-loop μ-loop
 returns c =
@@ -44,60 +46,57 @@ mul-k : tie.Need-mul-k Inv-loop μ-loop
 mul-k c = search needs
 
 shared-slice-read-k : tie.Need-shared-slice-read-k Inv-loop μ-loop
-shared-slice-read-k c =
-    let t = c .before .before .loop-test .taken in
-    let h = c .before .before .before .before .before .before .before .pre .1 .1 .0 in
-    omega arith
+shared-slice-read-k c = omega arith
 
 cast-k-2 : tie.Need-cast-k-2 Inv-loop μ-loop
 cast-k-2 c =
+    let the-pre = c .before .before .before .before .before .before .before .pre in
     let l = c .before .before .before .loop in
-    let t = c .before .before .loop-test .taken in
-    let h = c .before .before .before .before .before .before .before .pre .1 .1 .0 in
-    let k = c .before .before .before .before .before .before .before .pre .1 .1 .1 (l .i) (omega arith) in
-    let f = c .before .before .before .before .before .before .before .fits in
+    let h = the-pre .1 .1 .0 in
+    let k = the-pre .1 .1 .1 (l .i) (omega arith) in
     omega arith
 
 cast-sector : tie.Need-cast-sector Inv-loop μ-loop
 cast-sector c = search needs
 
 sector-requires : tie.Need-sector-requires Inv-loop μ-loop
-sector-requires c κs =
-    let e = c .before .before .before .before .before .before .before .before .pre .1 .0 in
-    let t = c .before .before .before .loop-test .taken in
-    omega arith
+sector-requires c κs = omega arith
 
 store-data-requires : tie.Need-store-data-requires Inv-loop μ-loop
 store-data-requires c κs =
-    let a = c .before .before .before .before .before .before .before .before .before .args in
+    let the-pre = c .before .before .before .before .before .before .before .before .before .pre in
     let l = c .before .before .before .before .before .loop in
-    let t = c .before .before .before .before .loop-test .taken in
-    let h = c .before .before .before .before .before .before .before .before .before .pre .1 .1 .0 in
-    let k = c .before .before .before .before .before .before .before .before .before .pre .1 .1 .1 (l .i) (omega arith) in
+    let h = the-pre .1 .1 .0 in
+    let k = the-pre .1 .1 .1 (l .i) (omega arith) in
     let e = l .inv .1 in
-    let f = c .before .before .before .before .before .before .before .before .before .pre .0 in
-    let b = c .before .before .before .before .before .before .before .before .before .pre .1 .0 in
-    (omega arith, ap length (c .sector .ensures) ∙ sector-length (a .bytes .now) (l .i) (omega arith))
+    let f = the-pre .0 in
+    let b = the-pre .1 .0 in
+    (omega arith, ap length (c .sector .ensures) ∙ sector-length _ (l .i) (omega arith))
 
 sub-left : tie.Need-sub-left Inv-loop μ-loop
-sub-left c = positive (c .before .before .before .before .before .before .before .before .loop .left) (c .before .before .before .before .before .before .if1 .left)
+sub-left c =
+    let the-if1 = c .before .before .before .before .before .before .if1 in
+    let the-loop = c .before .before .before .before .before .before .before .before .loop in
+    positive (the-loop .left) (the-if1 .left)
 
 add-i : tie.Need-add-i Inv-loop μ-loop
-add-i c = let t = c .before .before .before .before .before .before .before .loop-test .taken in omega arith
+add-i c = omega arith
 
 loop-less : tie.Need-loop-less Inv-loop μ-loop
-loop-less c = let t = c .before .before .before .before .before .before .before .loop-test .taken in omega arith
+loop-less c = omega arith
 
 loop-again : tie.Need-loop-again Inv-loop μ-loop
 loop-again c =
+    let the-store-data = c .before .before .store-data in
+    let the-sector = c .before .before .before .sector in
+    let the-if1 = c .before .before .before .before .before .before .if1 in
     let a = c .before .before .before .before .before .before .before .before .before .before .before .before .args in
-    let l = c .before .before .before .before .before .before .before .before .loop in
-    let t = c .before .before .before .before .before .before .before .loop-test .taken in (
+    let l = c .before .before .before .before .before .before .before .before .loop in (
       omega arith,
-      c .before .before .store-data .kept .0 ∙ l .inv .1,
+      the-store-data .kept .0 ∙ l .inv .1,
       rw add-one
           (storing-stores always (blockStore (a .taken .now) (a .bytes .now)) (sectorAt (a .image .now)) (a .allowance) (l .i) (l .left) (sectorAt (l .image)) _ refl
-          (positive (l .left) (c .before .before .before .before .before .before .if1 .left)) (l .inv .2) (c .before .before .store-data .ensures ∙ ap (λ (x : List ℕ). updated (sectorAt (l .image)) (at (a .taken .now) (l .i)) (stored x)) (c .before .before .before .sector .ensures))),
+          (positive (l .left) (the-if1 .left)) (l .inv .2) (the-store-data .ensures ∙ ap (λ (x : List ℕ). updated (sectorAt (l .image)) (at (a .taken .now) (l .i)) (stored x)) (the-sector .ensures))),
     )
 
 same-length-2 : tie.Need-same-length-2 Inv-loop μ-loop

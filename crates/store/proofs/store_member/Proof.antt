@@ -18,7 +18,9 @@ slice-aggregate-changed-piece : tie.Need-slice-aggregate-changed-piece
 slice-aggregate-changed-piece c = search needs
 
 changed-piece-requires : tie.Need-changed-piece-requires
-changed-piece-requires c κs = (c .before .before .before .before .before .before .before .before .pre .1 .0, (c .before .before .before .before .before .before .before .before .pre .1 .1 .1 .1 .1 .1 .1 .1 .1, (c .before .before .before .before .before .before .before .before .pre .1 .1 .0, (refl, c .before .before .before .before .before .before .before .before .pre .1 .1 .1 .0))))
+changed-piece-requires c κs =
+    let the-pre = c .before .before .before .before .before .before .before .before .pre in
+    (the-pre .1 .0, (the-pre .1 .1 .1 .1 .1 .1 .1 .1 .1, (the-pre .1 .1 .0, (refl, the-pre .1 .1 .1 .0))))
 
 add-place : tie.Need-add-place
 add-place c = search needs
@@ -31,12 +33,13 @@ shared-slice-read-k c = search needs
 
 cast-k : tie.Need-cast-k
 cast-k c =
-    let a = c .before .before .before .before .before .before .before .before .before .before .before .args in
-    let e = c .before .before .before .before .before .before .before .before .before .before .before .pre .1 .1 .1 .1 .1 .0 in
-    let h = c .before .before .before .before .before .before .before .before .before .before .before .pre .1 .1 .1 .1 .1 .1 .1 .1 .0 in
-    let k = c .before .before .before .before .before .before .before .before .before .before .before .pre .1 .1 .1 .1 .0 (a .count + a .j) (omega arith) in
-    let g = c .before .before .before .before .before .before .before .before .before .before .before .pre .0 in
-    let f = c .before .before .before .before .before .before .before .before .before .before .before .fits in
+    let start = c .before .before .before .before .before .before .before .before .before .before .before in
+    let the-pre = start .pre in
+    let a = start .args in
+    let e = the-pre .1 .1 .1 .1 .1 .0 in
+    let h = the-pre .1 .1 .1 .1 .1 .1 .1 .1 .0 in
+    let k = the-pre .1 .1 .1 .1 .0 (a .count + a .j) (omega arith) in
+    let g = the-pre .0 in
     omega arith
 
 slice-aggregate-store-map : tie.Need-slice-aggregate-store-map
@@ -44,20 +47,26 @@ slice-aggregate-store-map c = search needs
 
 store-map-requires : tie.Need-store-map-requires
 store-map-requires c κs =
-    let a = c .before .before .before .before .before .before .before .before .before .before .before .before .before .before .args in
-    let e = c .before .before .before .before .before .before .before .before .before .before .before .before .before .before .pre .1 .1 .1 .1 .1 .0 in
-    let h = c .before .before .before .before .before .before .before .before .before .before .before .before .before .before .pre .1 .1 .1 .1 .1 .1 .1 .1 .0 in
-    let k = c .before .before .before .before .before .before .before .before .before .before .before .before .before .before .pre .1 .1 .1 .1 .0 (a .count + a .j) (omega arith) in
-    let f = c .before .before .before .before .before .before .before .before .before .before .before .before .before .before .pre .0 in
-    (omega arith, (c .before .before .before .before .before .before .before .before .before .before .before .before .before .before .pre .1 .1 .1 .1 .1 .1 .0, c .before .before .before .before .before .changed-piece .kept .1 .1 .1 .1 .1 .0))
+    let the-changed-piece = c .before .before .before .before .before .changed-piece in
+    let start = c .before .before .before .before .before .before .before .before .before .before .before .before .before .before in
+    let the-pre = start .pre in
+    let a = start .args in
+    let e = the-pre .1 .1 .1 .1 .1 .0 in
+    let h = the-pre .1 .1 .1 .1 .1 .1 .1 .1 .0 in
+    let k = the-pre .1 .1 .1 .1 .0 (a .count + a .j) (omega arith) in
+    let f = the-pre .0 in
+    (omega arith, (the-pre .1 .1 .1 .1 .1 .1 .0, the-changed-piece .kept .1 .1 .1 .1 .1 .0))
 
 same-length : tie.Need-same-length
 same-length c = search needs
 
 returns : tie.Need-returns
 returns c =
+    let the-store-map = c .before .before .store-map in
+    let the-if1 = c .before .before .before .before .before .if1 in
+    let the-changed-piece = c .before .before .before .before .before .before .before .before .changed-piece in
     let a = c .before .before .before .before .before .before .before .before .before .before .before .before .before .before .before .before .before .args in
-    c .before .before .store-map .ensures ∙ ap (updated (sectorAt (a .image .now)) (at (a .taken .now) (a .count + a .j))) (first-member (a .s .l) (a .s .number) (a .p) (a .members) (a .j) (a .count) (a .branches .now) (a .taken .now) _ _ (c .before .before .before .before .before .before .before .before .changed-piece .ensures) (c .before .before .before .before .before .if1 .taken))
+    the-store-map .ensures ∙ ap (updated (sectorAt (a .image .now)) (at (a .taken .now) (a .count + a .j))) (first-member (a .s .geometry .l) (a .s .number) (a .p) (a .members) (a .j) (a .count) (a .branches .now) (a .taken .now) _ _ (the-changed-piece .ensures) (the-if1 .taken))
 
 sub-store-map : tie.Need-sub-store-map
 sub-store-map c = search needs
@@ -69,10 +78,17 @@ shared-slice-read-store-map : tie.Need-shared-slice-read-store-map
 shared-slice-read-store-map c = search needs
 
 add-store-map : tie.Need-add-store-map
-add-store-map c = search needs
+add-store-map c =
+    let the-pre = c .before .before .before .before .before .before .before .before .before .before .before .before .before .before .pre in
+    let numbers = the-pre .1 .1 .1 .1 .1 .1 .1 .0 in
+    let below = the-pre .1 .1 .1 .1 .1 .1 .1 .1 .0 in
+    omega arith
 
 add-store-map-2 : tie.Need-add-store-map-2
-add-store-map-2 c = search needs
+add-store-map-2 c =
+    let the-pre = c .before .before .before .before .before .before .before .before .before .before .before .before .before .before .pre in
+    let below = the-pre .1 .1 .1 .1 .1 .1 .1 .1 .0 in
+    omega arith
 
 slice-aggregate-store-map-2 : tie.Need-slice-aggregate-store-map-2
 slice-aggregate-store-map-2 c = search needs
@@ -82,20 +98,26 @@ slice-aggregate-store-map-3 c = search needs
 
 store-map-requires-2 : tie.Need-store-map-requires-2
 store-map-requires-2 c κs =
-    let a = c .before .before .before .before .before .before .before .before .before .before .before .before .before .before .before .before .args in
-    let e = c .before .before .before .before .before .before .before .before .before .before .before .before .before .before .before .before .pre .1 .1 .1 .1 .1 .0 in
-    let h = c .before .before .before .before .before .before .before .before .before .before .before .before .before .before .before .before .pre .1 .1 .1 .1 .1 .1 .1 .1 .0 in
-    let k = c .before .before .before .before .before .before .before .before .before .before .before .before .before .before .before .before .pre .1 .1 .1 .1 .0 (a .count + a .j) (omega arith) in
-    let f = c .before .before .before .before .before .before .before .before .before .before .before .before .before .before .before .before .pre .0 in
-    (omega arith, (omega arith, c .before .before .before .before .before .before .before .changed-piece .kept .1 .1 .1 .1 .1 .0))
+    let the-changed-piece = c .before .before .before .before .before .before .before .changed-piece in
+    let start = c .before .before .before .before .before .before .before .before .before .before .before .before .before .before .before .before in
+    let the-pre = start .pre in
+    let a = start .args in
+    let e = the-pre .1 .1 .1 .1 .1 .0 in
+    let h = the-pre .1 .1 .1 .1 .1 .1 .1 .1 .0 in
+    let k = the-pre .1 .1 .1 .1 .0 (a .count + a .j) (omega arith) in
+    let f = the-pre .0 in
+    (omega arith, (omega arith, the-changed-piece .kept .1 .1 .1 .1 .1 .0))
 
 same-length-2 : tie.Need-same-length-2
 same-length-2 c = search needs
 
 returns-2 : tie.Need-returns-2
 returns-2 c =
+    let the-store-map2 = c .before .before .store-map2 in
+    let the-if1 = c .before .before .before .before .before .before .before .if1 in
+    let the-changed-piece = c .before .before .before .before .before .before .before .before .before .before .changed-piece in
     let a = c .before .before .before .before .before .before .before .before .before .before .before .before .before .before .before .before .before .before .before .args in
-    c .before .before .store-map2 .ensures ∙ ap (updated (sectorAt (a .image .now)) (at (a .taken .now) (a .count + a .j))) (later-member (a .s .l) (a .s .number) (a .p) (a .members) (a .j) (a .count) (a .branches .now) (a .taken .now) _ _ (c .before .before .before .before .before .before .before .before .before .before .changed-piece .ensures) (c .before .before .before .before .before .before .before .if1 .left))
+    the-store-map2 .ensures ∙ ap (updated (sectorAt (a .image .now)) (at (a .taken .now) (a .count + a .j))) (later-member (a .s .geometry .l) (a .s .number) (a .p) (a .members) (a .j) (a .count) (a .branches .now) (a .taken .now) _ _ (the-changed-piece .ensures) (the-if1 .left))
 
 pub store-member-spec : {M : Type 1} → statement M
 store-member-spec =

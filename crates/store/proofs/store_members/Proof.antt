@@ -19,7 +19,9 @@ use Rattle.store.proofs.store_member.Reads as store-member-reads
 use Rattle.geometry.proofs.Geometry.pieces_for.Reads as pieces-for-reads
 
 abbrev Inv-pieces : tie.InvT-pieces
-Inv-pieces s image₀ map blocks news taken count branches written members allowance pieces left₀ j₀ p₀ image left j p = (p ≤ pieces) × (length image ≡ length image₀) × (j ≡ countBelow (flagged written) p) × Storing (flagged written) (stores s map blocks news taken branches written count members) (sectorAt image₀) allowance p left (sectorAt image)
+Inv-pieces s image₀ map blocks news taken count branches written members allowance pieces left₀ j₀ p₀ image left j p =
+    (p ≤ pieces) × (length image ≡ length image₀) × (j ≡ countBelow (flagged written) p) × Storing (flagged written)
+    (stores s map blocks news taken branches written count members) (sectorAt image₀) allowance p left (sectorAt image)
 
 abbrev μ-pieces : tie.MeasureT-pieces
 μ-pieces s image₀ map blocks news taken count branches written members allowance pieces left₀ j₀ p₀ image left j p = pieces - p
@@ -36,86 +38,85 @@ cast-if1 : tie.Need-cast-if1 Inv-pieces μ-pieces
 cast-if1 c = search needs
 
 shared-slice-read-if1 : tie.Need-shared-slice-read-if1 Inv-pieces μ-pieces
-shared-slice-read-if1 c =
-    let t = c .before .pieces-test .taken in
-    let e = c .before .before .before .pieces-for .ensures in
-    let h = c .before .before .before .before .before .before .before .before .before .before .before .pre .1 .flags in
-    omega arith
+shared-slice-read-if1 c = omega arith
 
 add-p : tie.Need-add-p Inv-pieces μ-pieces
-add-p c = let t = c .before .before .pieces-test .taken in omega arith
+add-p c = omega arith
 
 pieces-less : tie.Need-pieces-less Inv-pieces μ-pieces
-pieces-less c = let t = c .before .before .pieces-test .taken in omega arith
+pieces-less c = omega arith
 
 pieces-again : tie.Need-pieces-again Inv-pieces μ-pieces
 pieces-again c =
     let a = c .before .before .before .before .before .before .before .before .before .before .before .before .args in
-    let l = c .before .before .before .pieces in
-    let t = c .before .before .pieces-test .taken in (
+    let l = c .before .before .before .pieces in (
       omega arith,
       l .inv .1,
       rank-skips (a .written .now) (l .p) (l .j) (c .if1 .taken) (l .inv .2),
-      rw add-one (storing-skips (flagged (a .written .now)) (stores (a .s) (a .map .now) (a .blocks .now) (a .news .now) (a .taken .now) (a .branches .now) (a .written .now) (a .count) (a .members)) (sectorAt (a .image .now)) (a .allowance) (l .p) (l .left) (sectorAt (l .image)) (not-flagged (a .written .now) (l .p) (c .if1 .taken)) (l .inv .3)),
+      rw add-one (storing-skips (flagged (a .written .now)) (stores (a .s) (a .map .now)
+          (a .blocks .now) (a .news .now) (a .taken .now) (a .branches .now) (a .written
+          .now) (a .count) (a .members)) (sectorAt (a .image .now)) (a .allowance)
+          (l .p) (l .left) (sectorAt (l .image)) (not-flagged (a .written .now) (l .p) (c .if1 .taken)) (l .inv .3)),
     )
 
 same-length : tie.Need-same-length Inv-pieces μ-pieces
-same-length c = c .before .before .before .before .pieces .inv .1
+same-length c =
+    let the-pieces = c .before .before .before .before .pieces in
+    the-pieces .inv .1
 
 returns : tie.Need-returns Inv-pieces μ-pieces
 returns c =
     let a = c .before .before .before .before .before .before .before .before .before .before .before .before .before .args in
     let l = c .before .before .before .before .pieces in
-    let t = c .before .before .before .pieces-test .taken in
-    let e = c .before .before .before .before .before .pieces-for .ensures in
-    storing-fails (flagged (a .written .now)) (stores (a .s) (a .map .now) (a .blocks .now) (a .news .now) (a .taken .now) (a .branches .now) (a .written .now) (a .count) (a .members)) (sectorAt (a .image .now)) (a .allowance) (l .p) (piecesFor (a .s .l)) (sectorAt (l .image)) (omega arith) (is-flagged (a .written .now) (l .p) (c .before .if1 .left))
+    storing-fails (flagged (a .written .now)) (stores (a .s) (a .map .now) (a .blocks .now) (a .news .now) (a .taken .now)
+    (a .branches .now) (a .written .now) (a .count) (a .members)) (sectorAt (a .image .now)) (a .allowance) (l .p) (piecesFor (a .s .geometry .l))
+    (sectorAt (l .image)) (omega arith) (is-flagged (a .written .now) (l .p) (c .before .if1 .left))
     (subst (λ (x : ℕ). Storing (flagged (a .written .now)) (stores (a .s) (a .map .now) (a .blocks .now) (a .news .now) (a .taken .now) (a .branches .now) (a .written .now) (a .count) (a .members)) (sectorAt (a .image .now)) (a .allowance) (l .p) x (sectorAt (l .image))) (c .if2 .taken) (l .inv .3))
 
 store-member-requires : tie.Need-store-member-requires Inv-pieces μ-pieces
 store-member-requires c κs =
-    let a = c .before .before .before .before .before .before .before .before .before .before .before .before .before .before .args in
+    let the-if1 = c .before .before .if1 in
+    let start = c .before .before .before .before .before .before .before .before .before .before .before .before .before .before in
+    let a = start .args in
     let l = c .before .before .before .before .before .pieces in
-    let t = c .before .before .before .before .pieces-test .taken in
-    let e = c .before .before .before .before .before .before .pieces-for .ensures in
-    let r = c .before .before .before .before .before .before .before .before .before .before .before .before .before .before .pre in
-    let b = count-before (flagged (a .written .now)) (l .p) (piecesFor (a .s .l)) (omega arith) (is-flagged (a .written .now) (l .p) (c .before .before .if1 .left)) in
+    let r = start .pre in
+    let b = count-before (flagged (a .written .now)) (l .p) (piecesFor (a .s .geometry .l)) (omega arith) (is-flagged (a .written .now) (l .p) (the-if1 .left)) in
     let m = r .1 .counted in
     let j = l .inv .2 in
     let most = r .1 .most in
     (l .inv .1 ∙ r .0, (r .1 .whole, (r .1 .enough, (r .1 .inside, (r .1 .below, (r .1 .taken-all, (r .1 .room, (r .1 .numbers, (omega arith, omega arith)))))))))
 
 sub-left : tie.Need-sub-left Inv-pieces μ-pieces
-sub-left c = positive (c .before .before .before .before .before .before .before .before .pieces .left) (c .before .before .before .before .if2 .left)
+sub-left c =
+    let the-if2 = c .before .before .before .before .if2 in
+    let the-pieces = c .before .before .before .before .before .before .before .before .pieces in
+    positive (the-pieces .left) (the-if2 .left)
 
 add-j : tie.Need-add-j Inv-pieces μ-pieces
-add-j c =
-    let a = c .before .before .before .before .before .before .before .before .before .before .before .before .before .before .before .before .before .args in
-    let l = c .before .before .before .before .before .before .before .before .pieces in
-    let t = c .before .before .before .before .before .before .before .pieces-test .taken in
-    let e = c .before .before .before .before .before .before .before .before .before .pieces-for .ensures in
-    let b = count-before (flagged (a .written .now)) (l .p) (piecesFor (a .s .l)) (omega arith) (is-flagged (a .written .now) (l .p) (c .before .before .before .before .before .if1 .left)) in
-    let m = c .before .before .before .before .before .before .before .before .before .before .before .before .before .before .before .before .before .pre .1 .counted in
-    let k = c .before .before .before .before .before .before .before .before .before .before .before .before .before .before .before .before .before .pre .1 .numbers in
-    let j = l .inv .2 in
-    omega arith
+add-j c = omega arith
 
 add-p-2 : tie.Need-add-p-2 Inv-pieces μ-pieces
-add-p-2 c = let t = c .before .before .before .before .before .before .before .pieces-test .taken in omega arith
+add-p-2 c = omega arith
 
 pieces-less-2 : tie.Need-pieces-less-2 Inv-pieces μ-pieces
-pieces-less-2 c = let t = c .before .before .before .before .before .before .before .pieces-test .taken in omega arith
+pieces-less-2 c = omega arith
 
 pieces-again-2 : tie.Need-pieces-again-2 Inv-pieces μ-pieces
 pieces-again-2 c =
+    let the-store-member = c .before .before .store-member in
+    let the-if2 = c .before .before .before .before .if2 in
+    let the-if1 = c .before .before .before .before .before .if1 in
     let a = c .before .before .before .before .before .before .before .before .before .before .before .before .before .before .before .before .before .args in
-    let l = c .before .before .before .before .before .before .before .before .pieces in
-    let t = c .before .before .before .before .before .before .before .pieces-test .taken in (
+    let l = c .before .before .before .before .before .before .before .before .pieces in (
       omega arith,
-      c .before .before .store-member .kept .1 .0 ∙ l .inv .1,
-      rank-grows (a .written .now) (l .p) (l .j) (c .before .before .before .before .before .if1 .left) (l .inv .2),
+      the-store-member .kept .1 .0 ∙ l .inv .1,
+      rank-grows (a .written .now) (l .p) (l .j) (the-if1 .left) (l .inv .2),
       rw add-one
-          (storing-stores (flagged (a .written .now)) (stores (a .s) (a .map .now) (a .blocks .now) (a .news .now) (a .taken .now) (a .branches .now) (a .written .now) (a .count) (a .members)) (sectorAt (a .image .now)) (a .allowance) (l .p) (l .left) (sectorAt (l .image)) _ (is-flagged (a .written .now) (l .p) (c .before .before .before .before .before .if1 .left))
-          (positive (l .left) (c .before .before .before .before .if2 .left)) (l .inv .3) (member-stored (a .s) (a .map .now) (a .blocks .now) (a .news .now) (a .taken .now) (a .branches .now) (a .written .now) (a .count) (a .members) (l .p) (l .j) (sectorAt (l .image)) _ (l .inv .2) (c .before .before .store-member .ensures))),
+          (storing-stores (flagged (a .written .now)) (stores (a .s) (a .map .now)
+          (a .blocks .now) (a .news .now) (a .taken .now) (a .branches .now) (a .written
+          .now) (a .count) (a .members)) (sectorAt (a .image .now)) (a .allowance)
+          (l .p) (l .left) (sectorAt (l .image)) _ (is-flagged (a .written .now) (l .p) (the-if1 .left))
+          (positive (l .left) (the-if2 .left)) (l .inv .3) (member-stored (a .s) (a .map .now) (a .blocks .now) (a .news .now) (a .taken .now) (a .branches .now) (a .written .now) (a .count) (a .members) (l .p) (l .j) (sectorAt (l .image)) _ (l .inv .2) (the-store-member .ensures))),
     )
 
 same-length-2 : tie.Need-same-length-2 Inv-pieces μ-pieces
@@ -125,8 +126,8 @@ returns-2 : tie.Need-returns-2 Inv-pieces μ-pieces
 returns-2 c =
     let a = c .before .before .before .before .before .before .before .before .before .before .args in
     let l = c .before .pieces in
-    let e : l .p ≡ piecesFor (a .s .l) = (let i = l .inv .0 in let t = c .pieces-test .left in let f = c .before .before .pieces-for .ensures in omega arith) in
-    storing-ends (flagged (a .written .now)) (stores (a .s) (a .map .now) (a .blocks .now) (a .news .now) (a .taken .now) (a .branches .now) (a .written .now) (a .count) (a .members)) (sectorAt (a .image .now)) (a .allowance) (piecesFor (a .s .l)) (l .left) (sectorAt (l .image))
+    let e : l .p ≡ piecesFor (a .s .geometry .l) = (omega arith) in
+    storing-ends (flagged (a .written .now)) (stores (a .s) (a .map .now) (a .blocks .now) (a .news .now) (a .taken .now) (a .branches .now) (a .written .now) (a .count) (a .members)) (sectorAt (a .image .now)) (a .allowance) (piecesFor (a .s .geometry .l)) (l .left) (sectorAt (l .image))
     (subst (λ (x : ℕ). Storing (flagged (a .written .now)) (stores (a .s) (a .map .now) (a .blocks .now) (a .news .now) (a .taken .now) (a .branches .now) (a .written .now) (a .count) (a .members)) (sectorAt (a .image .now)) (a .allowance) x (l .left) (sectorAt (l .image))) e (l .inv .3))
 
 pub store-members-spec : {M : Type 1} → statement M

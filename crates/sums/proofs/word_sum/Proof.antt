@@ -43,9 +43,11 @@ loop-again c =
 
 returns : tie.Need-returns Inv-loop μ-loop
 returns c =
-    let s = c .before .before .before .args .s .now in
-    let k = c .before .loop .k in
-    c .before .loop .inv .1 ∙ ap wordSum (take-all k (wordsOf s) (omega (arith, length-wordsOf s)))
+    let the-loop = c .before .loop in
+    let the-args = c .before .before .before .args in
+    let s = the-args .s .now in
+    let k = the-loop .k in
+    the-loop .inv .1 ∙ ap wordSum (take-all k (wordsOf s) (omega (arith, length-wordsOf s)))
 
 pub word-sum-spec : {M : Type 1} → statement M
 word-sum-spec =

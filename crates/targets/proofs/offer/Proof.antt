@@ -25,9 +25,10 @@ shared-slice-read-if2 c = search needs
 
 returns-2 : tie.Need-returns-2
 returns-2 c =
+    let the-if1 = c .before .before .if1 in
     let a = c .before .before .before .before .before .before .args in (
-      second-off (ltb (a .number) (a .holder)) (isZero (at (a .taken .now) (a .p))) (ltb (at (a .numbers .now) (a .p)) (a .number)) (a .waiting .now) (set (a .waiting .now) (a .p) (a .target)) (lt-ltb (a .number) (a .holder) (c .before .before .if1 .left)) (ne-eqb (at (a .taken .now) (a .p)) 0 (c .if2 .taken)),
-      second-off (ltb (a .number) (a .holder)) (isZero (at (a .taken .now) (a .p))) (ltb (at (a .numbers .now) (a .p)) (a .number)) (a .numbers .now) (set (a .numbers .now) (a .p) (a .number)) (lt-ltb (a .number) (a .holder) (c .before .before .if1 .left)) (ne-eqb (at (a .taken .now) (a .p)) 0 (c .if2 .taken)),
+      second-off (ltb (a .number) (a .holder)) (isZero (at (a .taken .now) (a .p))) (ltb (at (a .numbers .now) (a .p)) (a .number)) (a .waiting .now) (set (a .waiting .now) (a .p) (a .target)) (lt-ltb (a .number) (a .holder) (the-if1 .left)) (ne-eqb (at (a .taken .now) (a .p)) 0 (c .if2 .taken)),
+      second-off (ltb (a .number) (a .holder)) (isZero (at (a .taken .now) (a .p))) (ltb (at (a .numbers .now) (a .p)) (a .number)) (a .numbers .now) (set (a .numbers .now) (a .p) (a .number)) (lt-ltb (a .number) (a .holder) (the-if1 .left)) (ne-eqb (at (a .taken .now) (a .p)) 0 (c .if2 .taken)),
     )
 
 raise-requires : tie.Need-raise-requires
@@ -41,9 +42,16 @@ same-length-2 c = search needs
 
 returns-3 : tie.Need-returns-3
 returns-3 c =
+    let the-raise = c .before .before .before .before .raise in
+    let the-if2 = c .before .before .before .before .before .before .before .if2 in
+    let the-if1 = c .before .before .before .before .before .before .before .before .before .if1 in
     let a = c .before .before .before .before .before .before .before .before .before .before .before .before .before .args in (
-      c .before .before .before .before .raise .ensures .0 ∙ last-left (ltb (a .number) (a .holder)) (isZero (at (a .taken .now) (a .p))) (ltb (at (a .numbers .now) (a .p)) (a .number)) (a .waiting .now) (set (a .waiting .now) (a .p) (a .target)) (lt-ltb (a .number) (a .holder) (c .before .before .before .before .before .before .before .before .before .if1 .left)) (eq-eqb (at (a .taken .now) (a .p)) 0 (c .before .before .before .before .before .before .before .if2 .left)),
-      c .before .before .before .before .raise .ensures .1 ∙ last-left (ltb (a .number) (a .holder)) (isZero (at (a .taken .now) (a .p))) (ltb (at (a .numbers .now) (a .p)) (a .number)) (a .numbers .now) (set (a .numbers .now) (a .p) (a .number)) (lt-ltb (a .number) (a .holder) (c .before .before .before .before .before .before .before .before .before .if1 .left)) (eq-eqb (at (a .taken .now) (a .p)) 0 (c .before .before .before .before .before .before .before .if2 .left)),
+      the-raise .ensures .0 ∙ last-left (ltb (a .number) (a .holder)) (isZero (at (a .taken .now) (a .p)))
+          (ltb (at (a .numbers .now) (a .p)) (a .number)) (a .waiting .now) (set (a .waiting .now) (a .p) (a .target))
+          (lt-ltb (a .number) (a .holder) (the-if1 .left)) (eq-eqb (at (a .taken .now) (a .p)) 0 (the-if2 .left)),
+      the-raise .ensures .1 ∙ last-left (ltb (a .number) (a .holder)) (isZero (at (a .taken .now) (a .p)))
+          (ltb (at (a .numbers .now) (a .p)) (a .number)) (a .numbers .now) (set (a .numbers .now) (a .p) (a .number))
+          (lt-ltb (a .number) (a .holder) (the-if1 .left)) (eq-eqb (at (a .taken .now) (a .p)) 0 (the-if2 .left)),
     )
 
 pub offer-spec : {M : Type 1} → statement M

@@ -23,10 +23,10 @@ same-length-2 c = search needs
 
 returns : tie.Need-returns
 returns c =
-    let a = c .before .before .before .before .before .before .before .before .before .before .before .before .before .before .args in
+    let the-is-signed = c .before .before .before .before .before .is-signed in
     let p = c .before .before .before .before .before .before .before .before .before .before .before .before .before .before .pre in (
-      target-unsigned (a .n) (a .l) (sectorAt (a .image .now)) (a .holder) (a .waiting .now) (a .numbers .now) (a .taken .now) (p .1 .1 .1 .1) (a .target) (signed-here (a .n) (a .l) (sectorAt (a .image .now)) (a .target) (c .before .before .before .before .before .is-signed .result) false (p .1 .1 .0) (c .before .before .before .before .before .is-signed .ensures .0) (not-true (c .before .before .before .before .before .is-signed .result) (c .if1 .taken))),
-      c .before .before .before .before .before .is-signed .ensures .1,
+      target-unsigned _ _ _ _ _ _ (p .1 .1 .1 .1) _ (signed-here _ _ _ (the-is-signed .result) false (p .1 .1 .0) (the-is-signed .ensures .0) (not-true (the-is-signed .result) (c .if1 .taken))),
+      the-is-signed .ensures .1,
       p .1 .1 .1 .1,
     )
 
@@ -34,20 +34,32 @@ sector-requires : tie.Need-sector-requires
 sector-requires c κs = search needs
 
 number-of-requires : tie.Need-number-of-requires
-number-of-requires c κs = let a = c .before .before .before .before .before .before .before .before .before .before .before .before .before .before .before .before .before .args in let p = c .before .before .before .before .before .before .before .before .before .before .before .before .before .before .before .before .before .pre in let i = p .0 in let h = p .1 .1 .0 in ap length (c .before .before .sector .ensures) ∙ sector-length (a .image .now) (a .target) (omega arith)
+number-of-requires c κs =
+    let the-sector = c .before .before .sector in
+    ap length (the-sector .ensures) ∙ sector-length _ _ (omega arith)
 
 piece-of-requires : tie.Need-piece-of-requires
-piece-of-requires c κs = let a = c .before .before .before .before .before .before .before .before .before .before .before .before .before .before .before .before .before .before .args in let p = c .before .before .before .before .before .before .before .before .before .before .before .before .before .before .before .before .before .before .pre in let i = p .0 in let h = p .1 .1 .0 in ap length (c .before .before .before .sector .ensures) ∙ sector-length (a .image .now) (a .target) (omega arith)
+piece-of-requires c κs =
+    let the-sector = c .before .before .before .sector in
+    ap length (the-sector .ensures) ∙ sector-length _ _ (omega arith)
 
 cast-offer : tie.Need-cast-offer
 cast-offer c = search needs
 
 offer-requires : tie.Need-offer-requires
 offer-requires c κs =
-    let a = c .before .before .before .before .before .before .before .before .before .before .before .before .before .before .before .before .before .before .before .args in
-    let p = c .before .before .before .before .before .before .before .before .before .before .before .before .before .before .before .before .before .before .before .pre in
+    let the-number-of = c .before .number-of in
+    let the-sector = c .before .before .before .before .sector in
+    let the-if1 = c .before .before .before .before .before .if1 in
+    let the-is-signed = c .before .before .before .before .before .before .before .before .before .before .is-signed in
+    let start = c .before .before .before .before .before .before .before .before .before .before .before .before .before .before .before .before .before .before .before in
+    let a = start .args in
+    let p = start .pre in
     let w = p .1 .1 .1 .1 in
-    let b = piece-inside (a .n) (a .l) (sectorAt (a .image .now)) (a .holder) (a .waiting .now) (a .numbers .now) (a .taken .now) (p .1 .1 .1 .1) (a .target) (p .1 .0) (signed-here (a .n) (a .l) (sectorAt (a .image .now)) (a .target) (c .before .before .before .before .before .before .before .before .before .before .is-signed .result) true (p .1 .1 .0) (c .before .before .before .before .before .before .before .before .before .before .is-signed .ensures .0) (not-false (c .before .before .before .before .before .before .before .before .before .before .is-signed .result) (c .before .before .before .before .before .if1 .left))) _ (c .before .before .before .before .sector .ensures) (c .before .number-of .result) (c .piece-of .result) (c .before .number-of .ensures) (c .piece-of .ensures) in
+    let b = piece-inside (a .g) (sectorAt (a .image .now)) (a .holder) (a .waiting .now) (a .numbers .now) (a .taken .now) (p .1 .1 .1 .1) (a .target)
+    (p .1 .0) (signed-here (a .g) (sectorAt (a .image .now)) (a .target) (the-is-signed
+    .result) true (p .1 .1 .0) (the-is-signed .ensures .0) (not-false (the-is-signed .result) (the-if1 .left))) _ (the-sector .ensures)
+    (the-number-of .result) (c .piece-of .result) (the-number-of .ensures) (c .piece-of .ensures) in
     let wl = w .waitingLong in
     let nl = w .numbersLong in
     let tl = w .takenLong in
@@ -67,10 +79,17 @@ same-length-6 c = search needs
 
 returns-2 : tie.Need-returns-2
 returns-2 c =
-    let a = c .before .before .before .before .before .before .before .before .before .before .before .before .before .before .before .before .before .before .before .before .before .before .before .before .args in
+    let the-offer = c .before .before .before .before .offer in
+    let the-piece-of = c .before .before .before .before .before .piece-of in
+    let the-number-of = c .before .before .before .before .before .before .number-of in
+    let the-sector = c .before .before .before .before .before .before .before .before .before .sector in
+    let the-if1 = c .before .before .before .before .before .before .before .before .before .before .if1 in
+    let the-is-signed = c .before .before .before .before .before .before .before .before .before .before .before .before .before .before .before .is-signed in
     let p = c .before .before .before .before .before .before .before .before .before .before .before .before .before .before .before .before .before .before .before .before .before .before .before .before .pre in
-    let r = target-offered (a .n) (a .l) (sectorAt (a .image .now)) (a .holder) (a .waiting .now) (a .numbers .now) (a .taken .now) (p .1 .1 .1 .1) (a .target) (p .1 .0) (signed-here (a .n) (a .l) (sectorAt (a .image .now)) (a .target) (c .before .before .before .before .before .before .before .before .before .before .before .before .before .before .before .is-signed .result) true (p .1 .1 .0) (c .before .before .before .before .before .before .before .before .before .before .before .before .before .before .before .is-signed .ensures .0) (not-false (c .before .before .before .before .before .before .before .before .before .before .before .before .before .before .before .is-signed .result) (c .before .before .before .before .before .before .before .before .before .before .if1 .left))) _ (c .before .before .before .before .before .before .before .before .before .sector .ensures) (c .before .before .before .before .before .before .number-of .result) (c .before .before .before .before .before .piece-of .result) (c .before .before .before .before .before .before .number-of .ensures) (c .before .before .before .before .before .piece-of .ensures) _ _ (c .before .before .before .before .offer .ensures .0) (c .before .before .before .before .offer .ensures .1) in
-    (r .0, c .before .before .before .before .before .before .before .before .before .before .before .before .before .before .before .is-signed .ensures .1, r .1)
+    let r = target-offered _ _ _ _ _ _ (p .1 .1 .1 .1) _ (p .1 .0) (signed-here _ _ _ (the-is-signed .result) true (p .1 .1 .0) (the-is-signed
+    .ensures .0) (not-false (the-is-signed .result) (the-if1 .left))) _ (the-sector .ensures) (the-number-of .result) (the-piece-of .result)
+    (the-number-of .ensures) (the-piece-of .ensures) _ _ (the-offer .ensures .0) (the-offer .ensures .1) in
+    (r .0, the-is-signed .ensures .1, r .1)
 
 pub read-target-spec : {M : Type 1} → statement M
 read-target-spec =

@@ -1,5 +1,4 @@
 use Prim.Native.Nat.{_-_}
-use lib.ListN.{length}
 use borrow.Author.Needs.{needs}
 use Rattle.trial_disk.proofs.put_content.Statement.{statement}
 use Rattle.trial_disk.proofs.put_content.Tie as tie

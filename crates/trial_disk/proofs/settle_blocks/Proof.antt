@@ -1,5 +1,4 @@
 use Prim.Native.Nat.{_-_}
-use lib.ListN.{length}
 use borrow.Author.Needs.{needs}
 use Rattle.trial_disk.proofs.settle_blocks.Statement.{statement}
 use Rattle.trial_disk.proofs.settle_blocks.Tie as tie

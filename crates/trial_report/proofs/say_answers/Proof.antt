@@ -7,7 +7,7 @@ abbrev Inv-loop : tie.InvT-loop
 Inv-loop b number₀ number = Unit {0}
 
 abbrev μ-loop : tie.MeasureT-loop
-μ-loop b number₀ number = 11 - number
+μ-loop b number₀ number = 18 - number
 
 slice-aggregate-say-count : tie.Need-slice-aggregate-say-count Inv-loop μ-loop
 slice-aggregate-say-count c = search needs

@@ -26,22 +26,30 @@ shared-slice-read-if1 : tie.Need-shared-slice-read-if1 Inv-loop μ-loop
 shared-slice-read-if1 c = omega arith
 
 returns : tie.Need-returns Inv-loop μ-loop
-returns c = allBelow-not (λ q. not (isZero (at (c .before .before .before .before .args .taken .now) q))) (length (c .before .before .before .before .args .taken .now)) (c .before .before .before .loop .i) (c .before .before .loop-test .taken) (ap not (eq-eqb (at (c .before .before .before .before .args .taken .now) (c .before .before .before .loop .i)) 0 (c .if1 .taken)))
+returns c =
+    let the-loop-test = c .before .before .loop-test in
+    let the-loop = c .before .before .before .loop in
+    let the-args = c .before .before .before .before .args in
+    allBelow-not (λ q. not (isZero (at (the-args .taken .now) q))) (length (the-args .taken .now)) (the-loop .i) (the-loop-test .taken) (ap not (eq-eqb (at (the-args .taken .now) (the-loop .i)) 0 (c .if1 .taken)))
 
 add-i : tie.Need-add-i Inv-loop μ-loop
-add-i c = let t = c .before .before .loop-test .taken in omega arith
+add-i c = omega arith
 
 loop-less : tie.Need-loop-less Inv-loop μ-loop
-loop-less c = let t = c .before .before .loop-test .taken in omega arith
+loop-less c = omega arith
 
 loop-again : tie.Need-loop-again Inv-loop μ-loop
-loop-again c = let t = c .before .before .loop-test .taken in (omega arith, allBelow-more (λ q. not (isZero (at (c .before .before .before .before .args .taken .now) q))) (c .before .before .before .loop .i) (c .before .before .before .loop .inv .1) (ap not (ne-eqb (at (c .before .before .before .before .args .taken .now) (c .before .before .before .loop .i)) 0 (c .if1 .left))))
+loop-again c =
+    let the-loop = c .before .before .before .loop in
+    let the-args = c .before .before .before .before .args in
+    (omega arith, allBelow-more (λ q. not (isZero (at (the-args .taken .now) q))) (the-loop .i) (the-loop .inv .1) (ap not (ne-eqb (at (the-args .taken .now) (the-loop .i)) 0 (c .if1 .left))))
 
 returns-2 : tie.Need-returns-2 Inv-loop μ-loop
 returns-2 c =
+    let the-args = c .before .before .args in
     let l = c .before .loop in
-    let e : length (c .before .before .args .taken .now) ≡ l .i = (let i = l .inv .0 in let t = c .loop-test .left in omega arith) in
-    sym (ap (allBelow (λ q. not (isZero (at (c .before .before .args .taken .now) q)))) e ∙ l .inv .1)
+    let e : length (the-args .taken .now) ≡ l .i = (let i = l .inv .0 in let t = c .loop-test .left in omega arith) in
+    sym (ap (allBelow (λ q. not (isZero (at (the-args .taken .now) q)))) e ∙ l .inv .1)
 
 pub all-taken-spec : {M : Type 1} → statement M
 all-taken-spec =

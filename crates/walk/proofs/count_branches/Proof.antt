@@ -20,7 +20,7 @@ abbrev μ-loop : tie.MeasureT-loop
 μ-loop image places count₀ i₀ count i = length places - i
 
 loop-holds : tie.Need-loop-holds Inv-loop μ-loop
-loop-holds c = let a = c .before .before .args in (omega arith, count-none 0 0 (sectorAt (a .image .now)) (at (a .places .now)), omega arith)
+loop-holds c = (omega arith, count-none _ _, omega arith)
 
 mul-sector : tie.Need-mul-sector Inv-loop μ-loop
 mul-sector c = let t = c .loop-test .taken in omega arith
@@ -29,55 +29,59 @@ shared-slice-read-sector : tie.Need-shared-slice-read-sector Inv-loop μ-loop
 shared-slice-read-sector c = c .before .loop-test .taken
 
 cast-sector : tie.Need-cast-sector Inv-loop μ-loop
-cast-sector c = let h = (c .shared-slice-known3 .given (c .before .before .loop .i)) .fits in omega arith
+cast-sector c =
+    let the-loop = c .before .before .loop in
+    let h = (c .shared-slice-known3 .given (the-loop .i)) .fits in omega arith
 
 sector-requires : tie.Need-sector-requires Inv-loop μ-loop
 sector-requires c κs =
-    let a = c .before .before .before .before .before .args in
+    let the-pre = c .before .before .before .before .before .pre in
     let l = c .before .before .loop in
-    let t = c .before .loop-test .taken in c .before .before .before .before .before .pre .1 .0 (l .i) t
+    let t = c .before .loop-test .taken in the-pre .1 .0 (l .i) t
 
 branch-count-requires : tie.Need-branch-count-requires Inv-loop μ-loop
 branch-count-requires c κs =
+    let the-loop-test = c .before .before .loop-test in
+    let the-pre = c .before .before .before .before .before .before .pre in
     let a = c .before .before .before .before .before .before .args in
     let l = c .before .before .before .loop in
-    let t = c .before .before .loop-test .taken in ap length (c .sector .ensures) ∙ sector-length (a .image .now) (at (a .places .now) (l .i)) (c .before .before .before .before .before .before .pre .1 .0 (l .i) t)
+    let t = the-loop-test .taken in ap length (c .sector .ensures) ∙ sector-length (a .image .now) (at (a .places .now) (l .i)) (the-pre .1 .0 (l .i) t)
 
 add-count : tie.Need-add-count Inv-loop μ-loop
 add-count c =
-    let a = c .before .before .before .before .before .before .before .args in
+    let the-loop-test = c .before .before .before .loop-test in
+    let the-pre = c .before .before .before .before .before .before .before .pre in
     let l = c .before .before .before .before .loop in
-    let t = c .before .before .before .loop-test .taken in
+    let t = the-loop-test .taken in
     let x = c .branch-count .ensures ∙ ap (λ (s : List ℕ). at (wordsOf s) 6) (c .before .sector .ensures) in
-    let b = c .before .before .before .before .before .before .before .pre .1 .1 (l .i) t in
+    let b = the-pre .1 .1 (l .i) t in
     let m = l .inv .2 in
-    let h = c .before .before .before .before .before .before .before .pre .0 in
+    let h = the-pre .0 in
     let o = l .inv .0 in omega arith
 
 add-i : tie.Need-add-i Inv-loop μ-loop
-add-i c = let t = c .before .before .before .loop-test .taken in omega arith
+add-i c = omega arith
 
 loop-less : tie.Need-loop-less Inv-loop μ-loop
-loop-less c = let t = c .before .before .before .loop-test .taken in omega arith
+loop-less c = omega arith
 
 loop-again : tie.Need-loop-again Inv-loop μ-loop
 loop-again c =
-    let a = c .before .before .before .before .before .before .before .args in
+    let the-loop-test = c .before .before .before .loop-test in
+    let the-pre = c .before .before .before .before .before .before .before .pre in
     let l = c .before .before .before .before .loop in
-    let t = c .before .before .before .loop-test .taken in
+    let t = the-loop-test .taken in
     let x = c .branch-count .ensures ∙ ap (λ (s : List ℕ). at (wordsOf s) 6) (c .before .sector .ensures) in
-    let b = c .before .before .before .before .before .before .before .pre .1 .1 (l .i) t in
+    let b = the-pre .1 .1 (l .i) t in
     let m = l .inv .2 in
-    let h = c .before .before .before .before .before .before .before .pre .0 in
-    let o = l .inv .0 in (omega arith, count-more 0 0 (sectorAt (a .image .now)) (at (a .places .now)) (l .count) (l .i) (c .branch-count .result) (l .inv .1) x, omega arith)
+    let h = the-pre .0 in
+    let o = l .inv .0 in (omega arith, count-more _ _ (l .count) (l .i) (c .branch-count .result) (l .inv .1) x, omega arith)
 
 returns : tie.Need-returns Inv-loop μ-loop
 returns c =
     let a = c .before .before .before .before .args in
     let l = c .before .loop in
-    let e : l .i ≡ length (a .places .now) = (let i = l .inv .0 in let t = c .loop-test .left in omega arith) in
-    let m = l .inv .2 in
-    let h = c .before .before .before .before .pre .0 in
+    let e : l .i ≡ length (a .places .now) = (omega arith) in
     (l .inv .1 ∙ ap (branchWordCount (sectorAt (a .image .now)) (at (a .places .now))) e, omega arith)
 
 pub count-branches-spec : {M : Type 1} → statement M

@@ -22,74 +22,57 @@ loop-holds : tie.Need-loop-holds Inv-loop μ-loop
 loop-holds c = let a = c .before .before .before .args in filled-none (λ q. at (wordsOf (sectorAt (a .image .now) (at (a .places .now) q))) 2) (a .numbers .now)
 
 mul-sector : tie.Need-mul-sector Inv-loop μ-loop
-mul-sector c =
-    let a = c .before .before .before .before .before .args in
-    let l = c .before .loop in
-    let e = filled-length (λ q. at (wordsOf (sectorAt (a .image .now) (at (a .places .now) q))) 2) (a .numbers .now) (l .i) (l .numbers) (l .inv) in
-    let t = c .loop-test .taken in
-    let h = c .before .before .before .before .before .pre .0 in omega arith
+mul-sector c = omega arith
 
 shared-slice-read-sector : tie.Need-shared-slice-read-sector Inv-loop μ-loop
 shared-slice-read-sector c =
     let a = c .before .before .before .before .before .before .args in
     let l = c .before .before .loop in
     let e = filled-length (λ q. at (wordsOf (sectorAt (a .image .now) (at (a .places .now) q))) 2) (a .numbers .now) (l .i) (l .numbers) (l .inv) in
-    let t = c .before .loop-test .taken in
-    let h = c .before .before .before .before .before .before .pre .0 in omega arith
+    omega arith
 
 cast-sector : tie.Need-cast-sector Inv-loop μ-loop
-cast-sector c = let h = (c .shared-slice-known3 .given (c .before .before .loop .i)) .fits in omega arith
+cast-sector c =
+    let the-loop = c .before .before .loop in
+    let h = (c .shared-slice-known3 .given (the-loop .i)) .fits in omega arith
 
 sector-requires : tie.Need-sector-requires Inv-loop μ-loop
 sector-requires c κs =
+    let the-pre = c .before .before .before .before .before .before .pre in
     let a = c .before .before .before .before .before .before .args in
     let l = c .before .before .loop in
     let e = filled-length (λ q. at (wordsOf (sectorAt (a .image .now) (at (a .places .now) q))) 2) (a .numbers .now) (l .i) (l .numbers) (l .inv) in
-    let t = c .before .loop-test .taken in
-    let h = c .before .before .before .before .before .before .pre .0 in c .before .before .before .before .before .before .pre .1 (l .i) (omega arith)
+    let h = the-pre .0 in the-pre .1 (l .i) (omega arith)
 
 number-of-requires : tie.Need-number-of-requires Inv-loop μ-loop
 number-of-requires c κs =
+    let the-pre = c .before .before .before .before .before .before .before .pre in
     let a = c .before .before .before .before .before .before .before .args in
     let l = c .before .before .before .loop in
     let e = filled-length (λ q. at (wordsOf (sectorAt (a .image .now) (at (a .places .now) q))) 2) (a .numbers .now) (l .i) (l .numbers) (l .inv) in
-    let t = c .before .before .loop-test .taken in
-    let h = c .before .before .before .before .before .before .before .pre .0 in ap length (c .sector .ensures) ∙ sector-length (a .image .now) (at (a .places .now) (l .i)) (c .before .before .before .before .before .before .before .pre .1 (l .i) (omega arith))
+    let h = the-pre .0 in ap length (c .sector .ensures) ∙ sector-length (a .image .now) (at (a .places .now) (l .i)) (the-pre .1 (l .i) (omega arith))
 
 mul-numbers : tie.Need-mul-numbers Inv-loop μ-loop
-mul-numbers c =
-    let a = c .before .before .before .before .before .before .before .before .args in
-    let l = c .before .before .before .before .loop in
-    let e = filled-length (λ q. at (wordsOf (sectorAt (a .image .now) (at (a .places .now) q))) 2) (a .numbers .now) (l .i) (l .numbers) (l .inv) in
-    let t = c .before .before .before .loop-test .taken in
-    let h = c .before .before .before .before .before .before .before .before .pre .0 in omega arith
+mul-numbers c = omega arith
 
 slice-write-numbers : tie.Need-slice-write-numbers Inv-loop μ-loop
-slice-write-numbers c =
-    let a = c .before .before .before .before .before .before .before .before .args in
-    let l = c .before .before .before .before .loop in
-    let e = filled-length (λ q. at (wordsOf (sectorAt (a .image .now) (at (a .places .now) q))) 2) (a .numbers .now) (l .i) (l .numbers) (l .inv) in
-    let t = c .before .before .before .loop-test .taken in
-    let h = c .before .before .before .before .before .before .before .before .pre .0 in omega arith
+slice-write-numbers c = omega arith
 
 add-i : tie.Need-add-i Inv-loop μ-loop
-add-i c = let t = c .before .before .before .loop-test .taken in omega arith
+add-i c = omega arith
 
 loop-less : tie.Need-loop-less Inv-loop μ-loop
 loop-less c =
     let a = c .before .before .before .before .before .before .before .before .args in
     let l = c .before .before .before .before .loop in
     let e = filled-length (λ q. at (wordsOf (sectorAt (a .image .now) (at (a .places .now) q))) 2) (a .numbers .now) (l .i) (l .numbers) (l .inv) in
-    let t = c .before .before .before .loop-test .taken in
-    let h = c .before .before .before .before .before .before .before .before .pre .0 in omega arith
+    omega arith
 
 loop-again : tie.Need-loop-again Inv-loop μ-loop
 loop-again c =
     let a = c .before .before .before .before .before .before .before .before .args in
     let l = c .before .before .before .before .loop in
     let e = filled-length (λ q. at (wordsOf (sectorAt (a .image .now) (at (a .places .now) q))) 2) (a .numbers .now) (l .i) (l .numbers) (l .inv) in
-    let t = c .before .before .before .loop-test .taken in
-    let h = c .before .before .before .before .before .before .before .before .pre .0 in
     subst (λ (x : ℕ). Filled (λ q. at (wordsOf (sectorAt (a .image .now) (at (a .places .now) q))) 2) (a .numbers .now) (l .i + 1) (set (l .numbers) (l .i) x))
     (sym (c .number-of .ensures ∙ ap (λ (x : List ℕ). at (wordsOf x) 2) (c .before .sector .ensures))) (filled-more (λ q. at (wordsOf (sectorAt (a .image .now) (at (a .places .now) q))) 2) (a .numbers .now) (l .i) (l .numbers) (omega arith) (l .inv))
 

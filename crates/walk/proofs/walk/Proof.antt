@@ -13,7 +13,9 @@ use Rattle.walk.proofs.walk.Statement.{statement}
 use Rattle.walk.proofs.walk.Tie as tie
 
 parked-at-requires : tie.Need-parked-at-requires
-parked-at-requires c κs = let a = c .before .before .before .before .before .args in let s = sectors-some (a .n) (a .l) (c .before .before .before .before .before .pre .0) in (c .before .before .before .before .before .pre .1 .0, omega arith)
+parked-at-requires c κs =
+    let the-pre = c .before .before .before .before .before .pre in
+    let a = c .before .before .before .before .before .args in let s = sectors-some (a .g) (the-pre .0) in (the-pre .1 .0, omega arith)
 
 enum-told : tie.Need-enum-told
 enum-told c = search needs
@@ -22,7 +24,11 @@ enum-known-tail : tie.Need-enum-known-tail
 enum-known-tail c = search needs
 
 walk-tables-requires : tie.Need-walk-tables-requires
-walk-tables-requires c κs = let a = c .before .before .before .before .before .before .before .before .before .before .before .before .before .args in (c .before .before .before .before .before .before .before .before .before .before .before .before .before .pre .0, (c .before .before .before .before .before .before .before .before .before .before .before .before .before .pre .1 .0, (found-low (a .n) (a .l) (sectorAt (a .image .now)) (c .before .before .before .before .before .tail .given .0 .0) (c .before .before .before .before .before .tail .given .0 .1 .0) (sym (c .before .before .before .before .before .tail .given .1) ∙ c .before .before .before .before .before .before .before .parked-at .ensures), (found-signed (a .n) (a .l) (sectorAt (a .image .now)) (c .before .before .before .before .before .tail .given .0 .0) (c .before .before .before .before .before .tail .given .0 .1 .0) (sym (c .before .before .before .before .before .tail .given .1) ∙ c .before .before .before .before .before .before .before .parked-at .ensures), c .before .before .before .before .before .before .before .before .before .before .before .before .before .pre .1 .1))))
+walk-tables-requires c κs =
+    let the-tail = c .before .before .before .before .before .tail in
+    let the-parked-at = c .before .before .before .before .before .before .before .parked-at in
+    let the-pre = c .before .before .before .before .before .before .before .before .before .before .before .before .before .pre in
+    (the-pre .0, (the-pre .1 .0, (found-low _ _ (the-tail .given .0 .0) (the-tail .given .0 .1 .0) (sym (the-tail .given .1) ∙ the-parked-at .ensures), (found-signed _ _ (the-tail .given .0 .0) (the-tail .given .0 .1 .0) (sym (the-tail .given .1) ∙ the-parked-at .ensures), the-pre .1 .1))))
 
 same-length : tie.Need-same-length
 same-length c = search needs
@@ -37,19 +43,26 @@ same-length-4 : tie.Need-same-length-4
 same-length-4 c = search needs
 
 returns : tie.Need-returns
-returns c = let a = c .before .before .before .before .before .before .before .before .before .before .before .before .before .before .before .before .before .before .before .before .before .before .before .args in found-incomplete (a .n) (a .l) (sectorAt (a .image .now)) (c .before .before .before .before .before .before .before .before .before .before .before .before .before .before .before .tail .given .0 .0) (c .before .before .before .before .before .before .before .before .before .before .before .before .before .before .before .tail .given .0 .1 .0) (sym (c .before .before .before .before .before .before .before .before .before .before .before .before .before .before .before .tail .given .1) ∙ c .before .before .before .before .before .before .before .before .before .before .before .before .before .before .before .before .before .parked-at .ensures) (c .before .before .before .before .before .before .before .before .before .walk-tables .result) (c .before .before .before .before .before .before .before .before .before .walk-tables .ensures .0) (c .if1 .taken) _
+returns c =
+    let the-walk-tables = c .before .before .before .before .before .before .before .before .before .walk-tables in
+    let the-tail = c .before .before .before .before .before .before .before .before .before .before .before .before .before .before .before .tail in
+    let the-parked-at = c .before .before .before .before .before .before .before .before .before .before .before .before .before .before .before .before .before .parked-at in
+    found-incomplete _ _ (the-tail .given .0 .0) (the-tail .given .0 .1 .0) (sym (the-tail .given .1) ∙ the-parked-at .ensures) (the-walk-tables .result) (the-walk-tables .ensures .0) (c .if1 .taken) _
 
 count-branches-requires : tie.Need-count-branches-requires
 count-branches-requires c κs =
-    let a = c .before .before .before .before .before .before .before .before .before .before .before .before .before .before .before .before .before .before .before .before .before .before .before .before .args in
-    let left = c .before .before .before .before .before .before .before .before .before .before .walk-tables .ensures .1 (not-false (c .before .before .before .before .before .before .before .before .before .before .walk-tables .result) (c .before .if1 .left)) in
-    let i = c .before .before .before .before .before .before .before .before .before .before .before .before .before .before .before .before .before .before .before .before .before .before .before .before .pre .1 .0 in
+    let the-walk-tables = c .before .before .before .before .before .before .before .before .before .before .walk-tables in
+    let start = c .before .before .before .before .before .before .before .before .before .before .before .before .before .before .before .before .before .before .before .before .before .before .before .before in
+    let the-pre = start .pre in
+    let a = start .args in
+    let left = the-walk-tables .ensures .1 (not-false (the-walk-tables .result) (c .before .if1 .left)) in
+    let i = the-pre .1 .0 in
     let k = left .long in
-    let m = blocks-most (a .n) (a .l) (c .before .before .before .before .before .before .before .before .before .before .before .before .before .before .before .before .before .before .before .before .before .before .before .before .pre .0) in (
+    let m = blocks-most (a .g) (the-pre .0) in (
       omega arith,
       (
-        λ q h. (let b = inside (a .n) (a .l) (sectorAt (a .image .now)) _ (left .signed q (omega arith)) in omega arith),
-        λ q h. signed-count (a .n) (a .l) (sectorAt (a .image .now)) _ (left .signed q (omega arith)),
+        λ q h. (let b = inside (a .g) (sectorAt (a .image .now)) _ (left .signed q (omega arith)) in omega arith),
+        λ q h. signed-count (a .g) (sectorAt (a .image .now)) _ (left .signed q (omega arith)),
       ),
     )
 
@@ -57,7 +70,9 @@ add-read : tie.Need-add-read
 add-read c = let b = c .count-branches .ensures .1 in omega arith
 
 returns-2 : tie.Need-returns-2
-returns-2 c = let a = c .before .before .before .before .before .before .before .before .args in found-nowhere (a .n) (a .l) (sectorAt (a .image .now)) _ (sym (c .enum-told .given .1) ∙ c .before .before .parked-at .ensures)
+returns-2 c =
+    let the-parked-at = c .before .before .parked-at in
+    found-nowhere _ _ _ (sym (c .enum-told .given .1) ∙ the-parked-at .ensures)
 
 same-length-5 : tie.Need-same-length-5
 same-length-5 c = search needs
@@ -73,11 +88,15 @@ same-length-8 c = search needs
 
 returns-3 : tie.Need-returns-3
 returns-3 c =
-    let a = c .before .before .before .before .before .before .before .before .before .before .before .before .before .before .before .before .before .before .before .before .before .before .before .before .before .args in
-    let left = c .before .before .before .before .before .before .before .before .before .before .before .walk-tables .ensures .1 (not-false (c .before .before .before .before .before .before .before .before .before .before .before .walk-tables .result) (c .before .before .if1 .left)) in
-    let i = c .before .before .before .before .before .before .before .before .before .before .before .before .before .before .before .before .before .before .before .before .before .before .before .before .before .pre .1 .0 in
-    found-log (a .n) (a .l) (sectorAt (a .image .now)) (c .before .before .before .before .before .before .before .before .before .before .before .before .before .before .before .before .before .tail .given .0 .0) (c .before .before .before .before .before .before .before .before .before .before .before .before .before .before .before .before .before .tail .given .0 .1 .0) (sym (c .before .before .before .before .before .before .before .before .before .before .before .before .before .before .before .before .before .tail .given .1) ∙ c .before .before .before .before .before .before .before .before .before .before .before .before .before .before .before .before .before .before .before .parked-at .ensures) (c .before .before .before .before .before .before .before .before .before .before .before .walk-tables .result) (c .before .before .before .before .before .before .before .before .before .before .before .walk-tables .ensures .0) (c .before .before .if1 .left) _ _ _ _ left
-    (λ q h. (let b = inside (a .n) (a .l) (sectorAt (a .image .now)) _ (left .signed q h) in sector-length (a .image .now) _ (omega arith)))
+    let the-if1 = c .before .before .if1 in
+    let the-walk-tables = c .before .before .before .before .before .before .before .before .before .before .before .walk-tables in
+    let the-tail = c .before .before .before .before .before .before .before .before .before .before .before .before .before .before .before .before .before .tail in
+    let the-parked-at = c .before .before .before .before .before .before .before .before .before .before .before .before .before .before .before .before .before .before .before .parked-at in
+    let the-pre = c .before .before .before .before .before .before .before .before .before .before .before .before .before .before .before .before .before .before .before .before .before .before .before .before .before .pre in
+    let left = the-walk-tables .ensures .1 (not-false (the-walk-tables .result) (the-if1 .left)) in
+    let i = the-pre .1 .0 in
+    found-log _ _ (the-tail .given .0 .0) (the-tail .given .0 .1 .0) (sym (the-tail .given .1) ∙ the-parked-at .ensures) (the-walk-tables .result) (the-walk-tables .ensures .0) (the-if1 .left) _ _ _ _ left
+    (λ q h. (let b = inside _ _ _ (left .signed q h) in sector-length _ _ (omega arith)))
     (c .count-branches .result) (c .count-branches .ensures .0)
 
 pub walk-spec : {M : Type 1} → statement M

@@ -1,8 +1,6 @@
 -- Both are filled from the places.
 use Prim.Native.Nat.{_-_}
 use mathlib.Core.Path.{refl}
-use lib.ListN.{length}
-use Rattle.volume.specs.Tables.{sectorAt}
 use Rattle.scan.proofs.ScanLaws.{is-map}
 use borrow.Author.Needs.{needs}
 use Rattle.walk.proofs.walk_fill.Statement.{statement}
@@ -21,7 +19,10 @@ same-length-2 : tie.Need-same-length-2
 same-length-2 c = search needs
 
 returns : tie.Need-returns
-returns c = let a = c .before .before .before .before .before .before .before .before .before .before .before .before .args in (is-map (sectorAt (a .image .now)) (a .places .now) _ (length (a .map .now)) (length (a .map .now)) refl (c .before .before .before .before .before .before .fill-map .ensures), c .before .before .read-numbers .ensures)
+returns c =
+    let the-read-numbers = c .before .before .read-numbers in
+    let the-fill-map = c .before .before .before .before .before .before .fill-map in
+    (is-map _ _ _ _ _ refl (the-fill-map .ensures), the-read-numbers .ensures)
 
 pub walk-fill-spec : {M : Type 1} → statement M
 walk-fill-spec =

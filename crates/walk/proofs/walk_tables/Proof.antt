@@ -15,8 +15,9 @@ zero-words-requires c κs = search needs
 
 walk-from-requires : tie.Need-walk-from-requires
 walk-from-requires c κs =
+    let the-zero-words = c .before .before .before .zero-words in
     let p = c .before .before .before .before .before .before .before .before .before .before .pre in
-    (p .0, (p .1 .0, (p .1 .1 .0, (p .1 .1 .1 .0, c .before .before .before .zero-words .ensures ∙ ap (λ (x : ℕ). replicate x 0) (p .1 .1 .1 .1 .1 .0)))))
+    (p .0, (p .1 .0, (p .1 .1 .0, (p .1 .1 .1 .0, the-zero-words .ensures ∙ ap (λ (x : ℕ). replicate x 0) (p .1 .1 .1 .1 .1 .0)))))
 
 all-taken-requires : tie.Need-all-taken-requires
 all-taken-requires c κs = search needs
@@ -26,33 +27,41 @@ same-length c = search needs
 
 returns : tie.Need-returns
 returns c =
-    let a = c .before .before .before .before .before .before .before .before .before .before .before .before .before .before .before .before .args in
-    let p = c .before .before .before .before .before .before .before .before .before .before .before .before .before .before .before .before .pre in
-    let s = sectors-some (a .n) (a .l) (p .0) in
-    let pos : 0 < a .n = omega arith in walk-fails (a .n) (a .l) (sectorAt (a .image .now)) (a .tail) (a .number) pos _ (c .before .before .before .before .before .walk-from .ensures) (c .before .all-taken .result) (c .before .all-taken .ensures) (c .if1 .taken) _ _ _
+    let the-all-taken = c .before .all-taken in
+    let the-walk-from = c .before .before .before .before .before .walk-from in
+    let start = c .before .before .before .before .before .before .before .before .before .before .before .before .before .before .before .before in
+    let a = start .args in
+    let p = start .pre in
+    let s = sectors-some (a .g) (p .0) in
+    let pos : 0 < a .g .n = omega arith in walk-fails (a .g) (sectorAt (a .image .now)) (a .tail) (a .number) pos _ (the-walk-from .ensures) (the-all-taken .result) (the-all-taken .ensures) (c .if1 .taken) _ _ _
 
 walk-fill-requires : tie.Need-walk-fill-requires
 walk-fill-requires c κs =
-    let a = c .before .before .before .before .before .before .before .before .before .before .before .before .before .before .before .before .before .before .before .args in
-    let p = c .before .before .before .before .before .before .before .before .before .before .before .before .before .before .before .before .before .before .before .pre in
-    let s = sectors-some (a .n) (a .l) (p .0) in
-    let pos : 0 < a .n = omega arith in
-    let k = places-long (a .n) (a .l) (sectorAt (a .image .now)) (a .tail) (a .number) pos _ (c .before .before .before .before .before .before .before .before .walk-from .ensures) in
+    let the-walk-from = c .before .before .before .before .before .before .before .before .walk-from in
+    let start = c .before .before .before .before .before .before .before .before .before .before .before .before .before .before .before .before .before .before .before in
+    let a = start .args in
+    let p = start .pre in
+    let s = sectors-some (a .g) (p .0) in
+    let pos : 0 < a .g .n = omega arith in
+    let k = places-long (a .g) (sectorAt (a .image .now)) (a .tail) (a .number) pos _ (the-walk-from .ensures) in
     let m = p .1 .1 .1 .1 .0 in
     let q = p .1 .1 .1 .1 .1 .1 .0 in
     let i = p .1 .0 in (
       omega arith,
-      (omega arith, λ j h. let b = place-below (a .n) (a .l) (sectorAt (a .image .now)) (a .tail) (a .number) pos _ (c .before .before .before .before .before .before .before .before .walk-from .ensures) j (omega arith) in omega arith),
+      (omega arith, λ j h. let b = place-below (a .g) (sectorAt (a .image .now)) (a .tail) (a .number) pos _ (the-walk-from .ensures) j (omega arith) in omega arith),
     )
 
 log-agrees-requires : tie.Need-log-agrees-requires
 log-agrees-requires c κs =
-    let a = c .before .before .before .before .before .before .before .before .before .before .before .before .before .before .before .before .before .before .before .before .before .before .before .before .before .before .before .before .args in
-    let p = c .before .before .before .before .before .before .before .before .before .before .before .before .before .before .before .before .before .before .before .before .before .before .before .before .before .before .before .before .pre in
-    let s = sectors-some (a .n) (a .l) (p .0) in
-    let pos : 0 < a .n = omega arith in
-    let k = c .before .before .before .before .before .before .before .before .walk-fill .kept .1 .1 in
-    (p .0, (k .0 ∙ p .1 .1 .1 .1 .0, (places-long (a .n) (a .l) (sectorAt (a .image .now)) (a .tail) (a .number) pos _ (c .before .before .before .before .before .before .before .before .before .before .before .before .before .before .before .before .before .walk-from .ensures), (k .1 .0 ∙ p .1 .1 .1 .1 .1 .1 .0, p .1 .1 .1 .1 .1 .1 .1))))
+    let the-walk-fill = c .before .before .before .before .before .before .before .before .walk-fill in
+    let the-walk-from = c .before .before .before .before .before .before .before .before .before .before .before .before .before .before .before .before .before .walk-from in
+    let start = c .before .before .before .before .before .before .before .before .before .before .before .before .before .before .before .before .before .before .before .before .before .before .before .before .before .before .before .before in
+    let a = start .args in
+    let p = start .pre in
+    let s = sectors-some (a .g) (p .0) in
+    let pos : 0 < a .g .n = omega arith in
+    let k = the-walk-fill .kept .1 .1 in
+    (p .0, (k .0 ∙ p .1 .1 .1 .1 .0, (places-long (a .g) (sectorAt (a .image .now)) (a .tail) (a .number) pos _ (the-walk-from .ensures), (k .1 .0 ∙ p .1 .1 .1 .1 .1 .1 .0, p .1 .1 .1 .1 .1 .1 .1))))
 
 same-length-2 : tie.Need-same-length-2
 same-length-2 c = search needs
@@ -68,12 +77,18 @@ same-length-5 c = search needs
 
 returns-2 : tie.Need-returns-2
 returns-2 c =
-    let a = c .before .before .before .before .before .before .before .before .before .before .before .before .before .before .before .before .before .before .before .before .before .before .before .before .before .before .before .before .before .before .before .args in
-    let p = c .before .before .before .before .before .before .before .before .before .before .before .before .before .before .before .before .before .before .before .before .before .before .before .before .before .before .before .before .before .before .before .pre in
-    let s = sectors-some (a .n) (a .l) (p .0) in
-    let pos : 0 < a .n = omega arith in
-    walk-decides (a .n) (a .l) (sectorAt (a .image .now)) (a .tail) (a .number) pos _ (c .before .before .before .before .before .before .before .before .before .before .before .before .before .before .before .before .before .before .before .before .walk-from .ensures) (c .before .before .before .before .before .before .before .before .before .before .before .before .before .before .before .before .all-taken .result) (c .before .before .before .before .before .before .before .before .before .before .before .before .before .before .before .before .all-taken .ensures) (c .before .before .before .before .before .before .before .before .before .before .before .before .before .before .before .if1 .left) _ _ _ _ (p .1 .1 .1 .1 .0) (p .1 .1 .1 .1 .1 .1 .0) (c .before .before .before .before .before .before .before .before .before .before .before .walk-fill .ensures .0) (c .before .before .before .before .before .before .before .before .before .before .before .walk-fill .ensures .1)
-    _ (c .before .before .log-agrees .result) (c .before .before .log-agrees .ensures .0) (c .before .before .log-agrees .ensures .1)
+    let the-log-agrees = c .before .before .log-agrees in
+    let the-walk-fill = c .before .before .before .before .before .before .before .before .before .before .before .walk-fill in
+    let the-if1 = c .before .before .before .before .before .before .before .before .before .before .before .before .before .before .before .if1 in
+    let the-all-taken = c .before .before .before .before .before .before .before .before .before .before .before .before .before .before .before .before .all-taken in
+    let the-walk-from = c .before .before .before .before .before .before .before .before .before .before .before .before .before .before .before .before .before .before .before .before .walk-from in
+    let start = c .before .before .before .before .before .before .before .before .before .before .before .before .before .before .before .before .before .before .before .before .before .before .before .before .before .before .before .before .before .before .before in
+    let a = start .args in
+    let p = start .pre in
+    let s = sectors-some (a .g) (p .0) in
+    let pos : 0 < a .g .n = omega arith in
+    walk-decides (a .g) (sectorAt (a .image .now)) (a .tail) (a .number) pos _ (the-walk-from .ensures) (the-all-taken .result) (the-all-taken .ensures) (the-if1 .left) _ _ _ _ (p .1 .1 .1 .1 .0) (p .1 .1 .1 .1 .1 .1 .0) (the-walk-fill .ensures .0) (the-walk-fill .ensures .1)
+    _ (the-log-agrees .result) (the-log-agrees .ensures .0) (the-log-agrees .ensures .1)
 
 pub walk-tables-spec : {M : Type 1} → statement M
 walk-tables-spec =

@@ -17,33 +17,52 @@ sector-requires c κs = search needs
 
 is-park-requires : tie.Need-is-park-requires
 is-park-requires c κs =
-    let a = c .before .before .args in
-    let i = c .before .before .pre .0 in
-    let m = c .before .before .pre .1 in ap length (c .sector .ensures) ∙ sector-length (a .image .now) 0 (omega arith)
+    ap length (c .sector .ensures) ∙ sector-length _ 0 (omega arith)
 
 returns : tie.Need-returns
-returns c = let a = c .before .before .before .before .args in no-record (a .n) (imageView (a .n) (a .l) (sectorAt (a .image .now))) (sectorAt (a .image .now) 0) _ (c .before .before .sector .ensures) (c .before .is-park .result) (c .before .is-park .ensures) (not-true (c .before .is-park .result) (c .if1 .taken))
+returns c =
+    let the-is-park = c .before .is-park in
+    let the-sector = c .before .before .sector in
+    no-record _ (imageView _ _) (sectorAt _ 0) _ (the-sector .ensures) (the-is-park .result) (the-is-park .ensures) (not-true (the-is-park .result) (c .if1 .taken))
 
 parked-tail-requires : tie.Need-parked-tail-requires
 parked-tail-requires c κs =
-    let a = c .before .before .before .before .args in
-    let i = c .before .before .before .before .pre .0 in
-    let m = c .before .before .before .before .pre .1 in ap length (c .before .before .sector .ensures) ∙ sector-length (a .image .now) 0 (omega arith)
+    let the-sector = c .before .before .sector in
+    ap length (the-sector .ensures) ∙ sector-length _ 0 (omega arith)
 
 parked-number-requires : tie.Need-parked-number-requires
 parked-number-requires c κs =
-    let a = c .before .before .before .before .before .args in
-    let i = c .before .before .before .before .before .pre .0 in
-    let m = c .before .before .before .before .before .pre .1 in ap length (c .before .before .before .sector .ensures) ∙ sector-length (a .image .now) 0 (omega arith)
+    let the-sector = c .before .before .before .sector in
+    ap length (the-sector .ensures) ∙ sector-length _ 0 (omega arith)
 
 starts-at-requires : tie.Need-starts-at-requires
 starts-at-requires c κs = search needs
 
 returns-2 : tie.Need-returns-2
-returns-2 c = let a = c .before .before .before .before .before .before .before .before .args in no-start (a .n) (imageView (a .n) (a .l) (sectorAt (a .image .now))) (sectorAt (a .image .now) 0) _ (c .before .before .before .before .before .before .sector .ensures) (c .before .before .before .before .before .is-park .result) (c .before .before .before .before .before .is-park .ensures) (not-false (c .before .before .before .before .before .is-park .result) (c .before .before .before .before .if1 .left)) (c .before .before .before .parked-tail .result) (c .before .before .parked-number .result) (c .before .before .before .parked-tail .ensures) (c .before .before .parked-number .ensures) (c .before .starts-at .result) (c .before .starts-at .ensures) (not-true (c .before .starts-at .result) (c .if2 .taken))
+returns-2 c =
+    let the-starts-at = c .before .starts-at in
+    let the-parked-number = c .before .before .parked-number in
+    let the-parked-tail = c .before .before .before .parked-tail in
+    let the-if1 = c .before .before .before .before .if1 in
+    let the-is-park = c .before .before .before .before .before .is-park in
+    let the-sector = c .before .before .before .before .before .before .sector in
+    no-start _ (imageView _ _) (sectorAt _ 0) _ (the-sector .ensures) (the-is-park .result) (the-is-park .ensures)
+    (not-false (the-is-park .result) (the-if1 .left)) (the-parked-tail .result) (the-parked-number .result) (the-parked-tail .ensures)
+    (the-parked-number .ensures) (the-starts-at .result) (the-starts-at .ensures)
+    (not-true (the-starts-at .result) (c .if2 .taken))
 
 returns-3 : tie.Need-returns-3
-returns-3 c = let a = c .before .before .before .before .before .before .before .before .args in start-here (a .n) (imageView (a .n) (a .l) (sectorAt (a .image .now))) (sectorAt (a .image .now) 0) _ (c .before .before .before .before .before .before .sector .ensures) (c .before .before .before .before .before .is-park .result) (c .before .before .before .before .before .is-park .ensures) (not-false (c .before .before .before .before .before .is-park .result) (c .before .before .before .before .if1 .left)) (c .before .before .before .parked-tail .result) (c .before .before .parked-number .result) (c .before .before .before .parked-tail .ensures) (c .before .before .parked-number .ensures) (c .before .starts-at .result) (c .before .starts-at .ensures) (not-false (c .before .starts-at .result) (c .if2 .left))
+returns-3 c =
+    let the-starts-at = c .before .starts-at in
+    let the-parked-number = c .before .before .parked-number in
+    let the-parked-tail = c .before .before .before .parked-tail in
+    let the-if1 = c .before .before .before .before .if1 in
+    let the-is-park = c .before .before .before .before .before .is-park in
+    let the-sector = c .before .before .before .before .before .before .sector in
+    start-here _ (imageView _ _) (sectorAt _ 0) _ (the-sector .ensures) (the-is-park .result) (the-is-park .ensures)
+    (not-false (the-is-park .result) (the-if1 .left)) (the-parked-tail .result) (the-parked-number .result) (the-parked-tail .ensures)
+    (the-parked-number .ensures) (the-starts-at .result) (the-starts-at .ensures)
+    (not-false (the-starts-at .result) (c .if2 .left))
 
 pub parked-at-spec : {M : Type 1} → statement M
 parked-at-spec =

@@ -5,7 +5,6 @@ use mathlib.Core.Bool.{true, false}
 use native.Mathlib.Omega.{arith}
 use lib.ListN.{length}
 use borrow.Author.Tests.{not-true, not-false}
-use Rattle.volume.specs.Tables.{sectorAt}
 use Rattle.laws.proofs.Sectors.{sector-length}
 use Rattle.signed.proofs.SignedLaws.{is-signed}
 use Rattle.targets.proofs.TargetLaws.{signed-here}
@@ -15,64 +14,64 @@ use Rattle.walk_start.proofs.starts_at.Statement.{statement}
 use Rattle.walk_start.proofs.starts_at.Tie as tie
 
 returns : tie.Need-returns
-returns c = let a = c .before .before .args in starts-low (a .n) (a .l) (sectorAt (a .image .now)) (a .tail) (a .number) (c .if1 .taken)
+returns c = starts-low _ _ _ _ (c .if1 .taken)
 
 sub-if2 : tie.Need-sub-if2
 sub-if2 c = search needs
 
 returns-2 : tie.Need-returns-2
-returns-2 c = let a = c .before .before .before .args in starts-high (a .n) (a .l) (sectorAt (a .image .now)) (a .tail) (a .number) (c .before .if1 .left) (c .if2 .taken)
+returns-2 c = starts-high _ _ _ _ (c .before .before .if1 .left) (c .if2 .taken)
 
 sector-requires : tie.Need-sector-requires
 sector-requires c κs = search needs
 
 is-valid-requires : tie.Need-is-valid-requires
 is-valid-requires c κs =
-    let a = c .before .before .before .before .args in
-    let p = c .before .before .before .before .pre in
-    let i = p .0 in
+    let p = c .before .before .before .before .before .pre in
     let m = p .1 in
-    let h = c .before .if2 .left in (ap length (c .sector .ensures) ∙ sector-length (a .image .now) (a .tail) (omega arith), m)
+    (ap length (c .sector .ensures) ∙ sector-length _ _ (omega arith), m)
 
 returns-3 : tie.Need-returns-3
 returns-3 c =
-    let a = c .before .before .before .before .before .before .args in
-    let p = c .before .before .before .before .before .before .pre in
-    let i = p .0 in
-    let m = p .1 in
-    let h = c .before .before .before .if2 .left in starts-unsigned (a .n) (a .l) (sectorAt (a .image .now)) (a .tail) (a .number) (signed-here (a .n) (a .l) (sectorAt (a .image .now)) (a .tail) (c .before .is-valid .result) false (omega arith) (sym (is-signed (a .n) (a .l) (sectorAt (a .image .now)) (a .tail) _ (c .before .is-valid .result) (c .before .is-valid .result) (c .before .before .sector .ensures) (c .before .is-valid .ensures) refl)) (not-true (c .before .is-valid .result) (c .if3 .taken)))
+    let the-is-valid = c .before .is-valid in
+    let the-sector = c .before .before .sector in
+    starts-unsigned _ _ _ _ (signed-here _ _ _ (the-is-valid .result) false (omega arith) (sym (is-signed _ _ _ _ (the-is-valid .result) (the-is-valid .result) (the-sector .ensures) (the-is-valid .ensures) refl)) (not-true (the-is-valid .result) (c .if3 .taken)))
 
 is-closing-requires : tie.Need-is-closing-requires
 is-closing-requires c κs =
-    let a = c .before .before .before .before .before .before .args in
-    let p = c .before .before .before .before .before .before .pre in
-    let i = p .0 in
-    let m = p .1 in
-    let h = c .before .before .before .if2 .left in ap length (c .before .before .sector .ensures) ∙ sector-length (a .image .now) (a .tail) (omega arith)
+    let the-sector = c .before .before .sector in
+    ap length (the-sector .ensures) ∙ sector-length _ _ (omega arith)
 
 returns-4 : tie.Need-returns-4
 returns-4 c =
-    let a = c .before .before .before .before .before .before .before .before .args in
-    let p = c .before .before .before .before .before .before .before .before .pre in
-    let i = p .0 in
-    let m = p .1 in
-    let h = c .before .before .before .before .before .if2 .left in starts-member (a .n) (a .l) (sectorAt (a .image .now)) (a .tail) (a .number) (c .before .before .before .before .before .before .if1 .left) (c .before .before .before .before .before .if2 .left) (signed-here (a .n) (a .l) (sectorAt (a .image .now)) (a .tail) (c .before .before .before .is-valid .result) true (omega arith) (sym (is-signed (a .n) (a .l) (sectorAt (a .image .now)) (a .tail) _ (c .before .before .before .is-valid .result) (c .before .before .before .is-valid .result) (c .before .before .before .before .sector .ensures) (c .before .before .before .is-valid .ensures) refl)) (not-false (c .before .before .before .is-valid .result) (c .before .before .if3 .left))) _ (c .before .before .before .before .sector .ensures) (c .before .is-closing .result) (c .before .is-closing .ensures) (not-true (c .before .is-closing .result) (c .if4 .taken))
+    let the-is-closing = c .before .is-closing in
+    let the-if3 = c .before .before .if3 in
+    let the-is-valid = c .before .before .before .is-valid in
+    let the-sector = c .before .before .before .before .sector in
+    let the-if2 = c .before .before .before .before .before .if2 in
+    let the-if1 = c .before .before .before .before .before .before .before .if1 in
+    starts-member _ _ _ _ (the-if1 .left) (the-if2 .left) (signed-here _ _ _ (the-is-valid .result) true (omega arith) (sym (is-signed
+    _ _ _ _ (the-is-valid .result) (the-is-valid .result) (the-sector .ensures)
+    (the-is-valid .ensures) refl)) (not-false (the-is-valid .result) (the-if3 .left))) _ (the-sector .ensures) (the-is-closing .result)
+    (the-is-closing .ensures) (not-true (the-is-closing .result) (c .if4 .taken))
 
 number-of-requires : tie.Need-number-of-requires
 number-of-requires c κs =
-    let a = c .before .before .before .before .before .before .before .before .args in
-    let p = c .before .before .before .before .before .before .before .before .pre in
-    let i = p .0 in
-    let m = p .1 in
-    let h = c .before .before .before .before .before .if2 .left in ap length (c .before .before .before .before .sector .ensures) ∙ sector-length (a .image .now) (a .tail) (omega arith)
+    let the-sector = c .before .before .before .before .sector in
+    ap length (the-sector .ensures) ∙ sector-length _ _ (omega arith)
 
 returns-5 : tie.Need-returns-5
 returns-5 c =
-    let a = c .before .before .before .before .before .before .before .before .before .args in
-    let p = c .before .before .before .before .before .before .before .before .before .pre in
-    let i = p .0 in
-    let m = p .1 in
-    let h = c .before .before .before .before .before .before .if2 .left in starts-number (a .n) (a .l) (sectorAt (a .image .now)) (a .tail) (a .number) (c .before .before .before .before .before .before .before .if1 .left) (c .before .before .before .before .before .before .if2 .left) (signed-here (a .n) (a .l) (sectorAt (a .image .now)) (a .tail) (c .before .before .before .before .is-valid .result) true (omega arith) (sym (is-signed (a .n) (a .l) (sectorAt (a .image .now)) (a .tail) _ (c .before .before .before .before .is-valid .result) (c .before .before .before .before .is-valid .result) (c .before .before .before .before .before .sector .ensures) (c .before .before .before .before .is-valid .ensures) refl)) (not-false (c .before .before .before .before .is-valid .result) (c .before .before .before .if3 .left))) _ (c .before .before .before .before .before .sector .ensures) (c .before .before .is-closing .result) (c .before .before .is-closing .ensures) (not-false (c .before .before .is-closing .result) (c .before .if4 .left)) (c .number-of .result) (c .number-of .ensures)
+    let the-is-closing = c .before .before .is-closing in
+    let the-if3 = c .before .before .before .if3 in
+    let the-is-valid = c .before .before .before .before .is-valid in
+    let the-sector = c .before .before .before .before .before .sector in
+    let the-if2 = c .before .before .before .before .before .before .if2 in
+    let the-if1 = c .before .before .before .before .before .before .before .before .if1 in
+    starts-number _ _ _ _ (the-if1 .left) (the-if2 .left) (signed-here _ _ _ (the-is-valid .result) true (omega arith) (sym (is-signed
+    _ _ _ _ (the-is-valid .result) (the-is-valid .result) (the-sector .ensures)
+    (the-is-valid .ensures) refl)) (not-false (the-is-valid .result) (the-if3 .left))) _ (the-sector .ensures) (the-is-closing .result)
+    (the-is-closing .ensures) (not-false (the-is-closing .result) (c .before .if4 .left)) (c .number-of .result) (c .number-of .ensures)
 
 pub starts-at-spec : {M : Type 1} → statement M
 starts-at-spec =

@@ -25,35 +25,44 @@ slice-aggregate-walk-waiting-2 c = search needs
 
 array-borrow-prefix-waiting : tie.Need-array-borrow-prefix-waiting
 array-borrow-prefix-waiting c =
+    let the-pre = c .before .before .before .before .before .pre in
     let a = c .before .before .before .before .before .args in
-    let m = blocks-most (a .n) (a .l) (c .before .before .before .before .before .pre .0) in
-    let q = c .before .before .pieces-for .ensures in omega arith
+    let m = blocks-most (a .g) (the-pre .0) in
+    omega arith
 
 slice-aggregate-walk-waiting-3 : tie.Need-slice-aggregate-walk-waiting-3
 slice-aggregate-walk-waiting-3 c =
+    let the-pieces-for = c .before .before .before .pieces-for in
+    let the-pre = c .before .before .before .before .before .before .pre in
     let a = c .before .before .before .before .before .before .args in
-    let m = blocks-most (a .n) (a .l) (c .before .before .before .before .before .before .pre .0) in
-    let q = c .before .before .before .pieces-for .ensures in sym (length-take-le (c .before .before .before .pieces-for .result) (replicate {A = ℕ} 256 0) (omega arith))
+    let m = blocks-most (a .g) (the-pre .0) in
+    let q = the-pieces-for .ensures in sym (length-take-le (the-pieces-for .result) (replicate {A = ℕ} 256 0) (omega arith))
 
 array-borrow-prefix-numbers : tie.Need-array-borrow-prefix-numbers
 array-borrow-prefix-numbers c =
+    let the-pre = c .before .before .before .before .before .before .pre in
     let a = c .before .before .before .before .before .before .args in
-    let m = blocks-most (a .n) (a .l) (c .before .before .before .before .before .before .pre .0) in
-    let q = c .before .before .before .pieces-for .ensures in omega arith
+    let m = blocks-most (a .g) (the-pre .0) in
+    omega arith
 
 slice-aggregate-walk-waiting-4 : tie.Need-slice-aggregate-walk-waiting-4
 slice-aggregate-walk-waiting-4 c =
+    let the-pieces-for = c .before .before .before .before .pieces-for in
+    let the-pre = c .before .before .before .before .before .before .before .pre in
     let a = c .before .before .before .before .before .before .before .args in
-    let m = blocks-most (a .n) (a .l) (c .before .before .before .before .before .before .before .pre .0) in
-    let q = c .before .before .before .before .pieces-for .ensures in sym (length-take-le (c .before .before .before .before .pieces-for .result) (replicate {A = ℕ} 256 0) (omega arith))
+    let m = blocks-most (a .g) (the-pre .0) in
+    let q = the-pieces-for .ensures in sym (length-take-le (the-pieces-for .result) (replicate {A = ℕ} 256 0) (omega arith))
 
 walk-waiting-requires : tie.Need-walk-waiting-requires
 walk-waiting-requires c κs =
-    let a = c .before .before .before .before .before .before .before .before .args in
-    let m = blocks-most (a .n) (a .l) (c .before .before .before .before .before .before .before .before .pre .0) in
-    let q = c .before .before .before .before .before .pieces-for .ensures in
-    let z = zeros-part (c .before .before .before .before .before .pieces-for .result) 256 (omega arith) ∙ ap (λ (x : ℕ). replicate {A = ℕ} x 0) q in
-    (c .before .before .before .before .before .before .before .before .pre .1 .0, (c .before .before .before .before .before .before .before .before .pre .1 .1 .0, (c .before .before .before .before .before .before .before .before .pre .1 .1 .1 .0, (known-none (a .n) (a .l) (sectorAt (a .image .now)) (sectors-most (a .n) (a .l) (c .before .before .before .before .before .before .before .before .pre .0)), (z, (z, c .before .before .before .before .before .before .before .before .pre .1 .1 .1 .1))))))
+    let the-pieces-for = c .before .before .before .before .before .pieces-for in
+    let start = c .before .before .before .before .before .before .before .before in
+    let the-pre = start .pre in
+    let a = start .args in
+    let m = blocks-most (a .g) (the-pre .0) in
+    let q = the-pieces-for .ensures in
+    let z = zeros-part (the-pieces-for .result) 256 (omega arith) ∙ ap (λ (x : ℕ). replicate {A = ℕ} x 0) q in
+    (the-pre .1 .0, (the-pre .1 .1 .0, (the-pre .1 .1 .1 .0, (known-none (a .g) (sectorAt (a .image .now)) (sectors-most (a .g) (the-pre .0)), (z, (z, the-pre .1 .1 .1 .1))))))
 
 same-length : tie.Need-same-length
 same-length c = search needs

@@ -1,113 +1,129 @@
 -- The newest that waits is signed, and its branches are read.
 use Prim.Native.Nat.{_-_}
 use native.Mathlib.Omega.{arith}
-use Rattle.volume.specs.Tables.{sectorAt}
 use Rattle.walk_steps.proofs.WalkLaws.{newest-inside, step-none, newest-signed, done-waits, step-some}
 use borrow.Author.Needs.{needs}
 use Rattle.walk_steps.proofs.walk_step.Statement.{statement}
 use Rattle.walk_steps.proofs.walk_step.Tie as tie
 
 newest-requires : tie.Need-newest-requires
-newest-requires c κs = let h = c .before .before .before .before .before .before .before .pre .1 .0 in let e = c .before .before .before .before .before .before .before .pre .1 .1 .1 .numbersLong in omega arith
+newest-requires c κs =
+    omega arith
 
 mul-if1 : tie.Need-mul-if1
 mul-if1 c =
-    let a = c .before .before .before .before .before .before .before .before .args in
-    let b = newest-inside (a .n) (a .l) (sectorAt (a .image .now)) (a .waiting .now) (a .numbers .now) (a .taken .now) (c .before .before .before .before .before .before .before .before .pre .1 .1 .1) (c .before .before .before .before .before .before .before .before .pre .1 .0) (c .newest .result) (c .newest .ensures) in
-    let wl = c .before .before .before .before .before .before .before .before .pre .1 .1 .1 .waitingLong in
-    let nl = c .before .before .before .before .before .before .before .before .pre .1 .1 .1 .numbersLong in
-    let tl = c .before .before .before .before .before .before .before .before .pre .1 .1 .1 .takenLong in
+    let the-pre = c .before .before .before .before .before .before .before .before .pre in
+    let b = newest-inside _ _ _ _ _ (the-pre .1 .1 .1) (the-pre .1 .0) (c .newest .result) (c .newest .ensures) in
+    let wl = the-pre .1 .1 .1 .waitingLong in
+    let nl = the-pre .1 .1 .1 .numbersLong in
+    let tl = the-pre .1 .1 .1 .takenLong in
     omega arith
 
 slice-read-if1 : tie.Need-slice-read-if1
 slice-read-if1 c =
-    let a = c .before .before .before .before .before .before .before .before .before .args in
-    let b = newest-inside (a .n) (a .l) (sectorAt (a .image .now)) (a .waiting .now) (a .numbers .now) (a .taken .now) (c .before .before .before .before .before .before .before .before .before .pre .1 .1 .1) (c .before .before .before .before .before .before .before .before .before .pre .1 .0) (c .before .newest .result) (c .before .newest .ensures) in
-    let wl = c .before .before .before .before .before .before .before .before .before .pre .1 .1 .1 .waitingLong in
-    let nl = c .before .before .before .before .before .before .before .before .before .pre .1 .1 .1 .numbersLong in
-    let tl = c .before .before .before .before .before .before .before .before .before .pre .1 .1 .1 .takenLong in
+    let the-newest = c .before .newest in
+    let the-pre = c .before .before .before .before .before .before .before .before .before .pre in
+    let b = newest-inside _ _ _ _ _ (the-pre .1 .1 .1) (the-pre .1 .0) (the-newest .result) (the-newest .ensures) in
+    let wl = the-pre .1 .1 .1 .waitingLong in
+    let nl = the-pre .1 .1 .1 .numbersLong in
+    let tl = the-pre .1 .1 .1 .takenLong in
     omega arith
 
 same-length : tie.Need-same-length
 same-length c = search needs
 
 returns : tie.Need-returns
-returns c = let a = c .before .before .before .before .before .before .before .before .before .before .args in (step-none (a .n) (a .l) (sectorAt (a .image .now)) (a .waiting .now) (a .numbers .now) (a .taken .now) (c .before .before .before .before .before .before .before .before .before .before .pre .1 .1 .1) (c .before .before .before .before .before .before .before .before .before .before .pre .1 .0) (c .before .before .newest .result) (c .before .before .newest .ensures) (c .if1 .taken), c .before .before .before .before .before .before .before .before .before .before .pre .1 .1 .0, c .before .before .before .before .before .before .before .before .before .before .pre .1 .1 .1)
+returns c =
+    let the-newest = c .before .before .newest in
+    let the-pre = c .before .before .before .before .before .before .before .before .before .before .pre in
+    (step-none _ _ _ _ _ (the-pre .1 .1 .1) (the-pre .1 .0) (the-newest .result) (the-newest .ensures) (c .if1 .taken), the-pre .1 .1 .0, the-pre .1 .1 .1)
 
 mul-k : tie.Need-mul-k
 mul-k c =
-    let a = c .before .before .before .before .before .before .before .before .before .before .args in
-    let b = newest-inside (a .n) (a .l) (sectorAt (a .image .now)) (a .waiting .now) (a .numbers .now) (a .taken .now) (c .before .before .before .before .before .before .before .before .before .before .pre .1 .1 .1) (c .before .before .before .before .before .before .before .before .before .before .pre .1 .0) (c .before .before .newest .result) (c .before .before .newest .ensures) in
-    let wl = c .before .before .before .before .before .before .before .before .before .before .pre .1 .1 .1 .waitingLong in
-    let nl = c .before .before .before .before .before .before .before .before .before .before .pre .1 .1 .1 .numbersLong in
-    let tl = c .before .before .before .before .before .before .before .before .before .before .pre .1 .1 .1 .takenLong in
+    let the-newest = c .before .before .newest in
+    let the-pre = c .before .before .before .before .before .before .before .before .before .before .pre in
+    let b = newest-inside _ _ _ _ _ (the-pre .1 .1 .1) (the-pre .1 .0) (the-newest .result) (the-newest .ensures) in
+    let wl = the-pre .1 .1 .1 .waitingLong in
+    let nl = the-pre .1 .1 .1 .numbersLong in
+    let tl = the-pre .1 .1 .1 .takenLong in
     omega arith
 
 slice-read-k : tie.Need-slice-read-k
 slice-read-k c =
-    let a = c .before .before .before .before .before .before .before .before .before .before .before .args in
-    let b = newest-inside (a .n) (a .l) (sectorAt (a .image .now)) (a .waiting .now) (a .numbers .now) (a .taken .now) (c .before .before .before .before .before .before .before .before .before .before .before .pre .1 .1 .1) (c .before .before .before .before .before .before .before .before .before .before .before .pre .1 .0) (c .before .before .before .newest .result) (c .before .before .before .newest .ensures) in
-    let wl = c .before .before .before .before .before .before .before .before .before .before .before .pre .1 .1 .1 .waitingLong in
-    let nl = c .before .before .before .before .before .before .before .before .before .before .before .pre .1 .1 .1 .numbersLong in
-    let tl = c .before .before .before .before .before .before .before .before .before .before .before .pre .1 .1 .1 .takenLong in
+    let the-newest = c .before .before .before .newest in
+    let the-pre = c .before .before .before .before .before .before .before .before .before .before .before .pre in
+    let b = newest-inside _ _ _ _ _ (the-pre .1 .1 .1) (the-pre .1 .0) (the-newest .result) (the-newest .ensures) in
+    let wl = the-pre .1 .1 .1 .waitingLong in
+    let nl = the-pre .1 .1 .1 .numbersLong in
+    let tl = the-pre .1 .1 .1 .takenLong in
     omega arith
 
 mul-waiting : tie.Need-mul-waiting
 mul-waiting c =
-    let a = c .before .before .before .before .before .before .before .before .before .before .before .args in
-    let b = newest-inside (a .n) (a .l) (sectorAt (a .image .now)) (a .waiting .now) (a .numbers .now) (a .taken .now) (c .before .before .before .before .before .before .before .before .before .before .before .pre .1 .1 .1) (c .before .before .before .before .before .before .before .before .before .before .before .pre .1 .0) (c .before .before .before .newest .result) (c .before .before .before .newest .ensures) in
-    let wl = c .before .before .before .before .before .before .before .before .before .before .before .pre .1 .1 .1 .waitingLong in
-    let nl = c .before .before .before .before .before .before .before .before .before .before .before .pre .1 .1 .1 .numbersLong in
-    let tl = c .before .before .before .before .before .before .before .before .before .before .before .pre .1 .1 .1 .takenLong in
+    let the-newest = c .before .before .before .newest in
+    let the-pre = c .before .before .before .before .before .before .before .before .before .before .before .pre in
+    let b = newest-inside _ _ _ _ _ (the-pre .1 .1 .1) (the-pre .1 .0) (the-newest .result) (the-newest .ensures) in
+    let wl = the-pre .1 .1 .1 .waitingLong in
+    let nl = the-pre .1 .1 .1 .numbersLong in
+    let tl = the-pre .1 .1 .1 .takenLong in
     omega arith
 
 slice-write-waiting : tie.Need-slice-write-waiting
 slice-write-waiting c =
-    let a = c .before .before .before .before .before .before .before .before .before .before .before .args in
-    let b = newest-inside (a .n) (a .l) (sectorAt (a .image .now)) (a .waiting .now) (a .numbers .now) (a .taken .now) (c .before .before .before .before .before .before .before .before .before .before .before .pre .1 .1 .1) (c .before .before .before .before .before .before .before .before .before .before .before .pre .1 .0) (c .before .before .before .newest .result) (c .before .before .before .newest .ensures) in
-    let wl = c .before .before .before .before .before .before .before .before .before .before .before .pre .1 .1 .1 .waitingLong in
-    let nl = c .before .before .before .before .before .before .before .before .before .before .before .pre .1 .1 .1 .numbersLong in
-    let tl = c .before .before .before .before .before .before .before .before .before .before .before .pre .1 .1 .1 .takenLong in
+    let the-newest = c .before .before .before .newest in
+    let the-pre = c .before .before .before .before .before .before .before .before .before .before .before .pre in
+    let b = newest-inside _ _ _ _ _ (the-pre .1 .1 .1) (the-pre .1 .0) (the-newest .result) (the-newest .ensures) in
+    let wl = the-pre .1 .1 .1 .waitingLong in
+    let nl = the-pre .1 .1 .1 .numbersLong in
+    let tl = the-pre .1 .1 .1 .takenLong in
     omega arith
 
 mul-numbers : tie.Need-mul-numbers
 mul-numbers c =
-    let a = c .before .before .before .before .before .before .before .before .before .before .before .args in
-    let b = newest-inside (a .n) (a .l) (sectorAt (a .image .now)) (a .waiting .now) (a .numbers .now) (a .taken .now) (c .before .before .before .before .before .before .before .before .before .before .before .pre .1 .1 .1) (c .before .before .before .before .before .before .before .before .before .before .before .pre .1 .0) (c .before .before .before .newest .result) (c .before .before .before .newest .ensures) in
-    let wl = c .before .before .before .before .before .before .before .before .before .before .before .pre .1 .1 .1 .waitingLong in
-    let nl = c .before .before .before .before .before .before .before .before .before .before .before .pre .1 .1 .1 .numbersLong in
-    let tl = c .before .before .before .before .before .before .before .before .before .before .before .pre .1 .1 .1 .takenLong in
+    let the-newest = c .before .before .before .newest in
+    let the-pre = c .before .before .before .before .before .before .before .before .before .before .before .pre in
+    let b = newest-inside _ _ _ _ _ (the-pre .1 .1 .1) (the-pre .1 .0) (the-newest .result) (the-newest .ensures) in
+    let wl = the-pre .1 .1 .1 .waitingLong in
+    let nl = the-pre .1 .1 .1 .numbersLong in
+    let tl = the-pre .1 .1 .1 .takenLong in
     omega arith
 
 slice-write-numbers : tie.Need-slice-write-numbers
 slice-write-numbers c =
-    let a = c .before .before .before .before .before .before .before .before .before .before .before .args in
-    let b = newest-inside (a .n) (a .l) (sectorAt (a .image .now)) (a .waiting .now) (a .numbers .now) (a .taken .now) (c .before .before .before .before .before .before .before .before .before .before .before .pre .1 .1 .1) (c .before .before .before .before .before .before .before .before .before .before .before .pre .1 .0) (c .before .before .before .newest .result) (c .before .before .before .newest .ensures) in
-    let wl = c .before .before .before .before .before .before .before .before .before .before .before .pre .1 .1 .1 .waitingLong in
-    let nl = c .before .before .before .before .before .before .before .before .before .before .before .pre .1 .1 .1 .numbersLong in
-    let tl = c .before .before .before .before .before .before .before .before .before .before .before .pre .1 .1 .1 .takenLong in
+    let the-newest = c .before .before .before .newest in
+    let the-pre = c .before .before .before .before .before .before .before .before .before .before .before .pre in
+    let b = newest-inside _ _ _ _ _ (the-pre .1 .1 .1) (the-pre .1 .0) (the-newest .result) (the-newest .ensures) in
+    let wl = the-pre .1 .1 .1 .waitingLong in
+    let nl = the-pre .1 .1 .1 .numbersLong in
+    let tl = the-pre .1 .1 .1 .takenLong in
     omega arith
 
 mul-taken : tie.Need-mul-taken
 mul-taken c =
-    let a = c .before .before .before .before .before .before .before .before .before .before .before .args in
-    let b = newest-inside (a .n) (a .l) (sectorAt (a .image .now)) (a .waiting .now) (a .numbers .now) (a .taken .now) (c .before .before .before .before .before .before .before .before .before .before .before .pre .1 .1 .1) (c .before .before .before .before .before .before .before .before .before .before .before .pre .1 .0) (c .before .before .before .newest .result) (c .before .before .before .newest .ensures) in
-    let wl = c .before .before .before .before .before .before .before .before .before .before .before .pre .1 .1 .1 .waitingLong in
-    let nl = c .before .before .before .before .before .before .before .before .before .before .before .pre .1 .1 .1 .numbersLong in
-    let tl = c .before .before .before .before .before .before .before .before .before .before .before .pre .1 .1 .1 .takenLong in
+    let the-newest = c .before .before .before .newest in
+    let the-pre = c .before .before .before .before .before .before .before .before .before .before .before .pre in
+    let b = newest-inside _ _ _ _ _ (the-pre .1 .1 .1) (the-pre .1 .0) (the-newest .result) (the-newest .ensures) in
+    let wl = the-pre .1 .1 .1 .waitingLong in
+    let nl = the-pre .1 .1 .1 .numbersLong in
+    let tl = the-pre .1 .1 .1 .takenLong in
     omega arith
 
 slice-write-taken : tie.Need-slice-write-taken
 slice-write-taken c =
-    let a = c .before .before .before .before .before .before .before .before .before .before .before .args in
-    let b = newest-inside (a .n) (a .l) (sectorAt (a .image .now)) (a .waiting .now) (a .numbers .now) (a .taken .now) (c .before .before .before .before .before .before .before .before .before .before .before .pre .1 .1 .1) (c .before .before .before .before .before .before .before .before .before .before .before .pre .1 .0) (c .before .before .before .newest .result) (c .before .before .before .newest .ensures) in
-    let wl = c .before .before .before .before .before .before .before .before .before .before .before .pre .1 .1 .1 .waitingLong in
-    let nl = c .before .before .before .before .before .before .before .before .before .before .before .pre .1 .1 .1 .numbersLong in
-    let tl = c .before .before .before .before .before .before .before .before .before .before .before .pre .1 .1 .1 .takenLong in
+    let the-newest = c .before .before .before .newest in
+    let the-pre = c .before .before .before .before .before .before .before .before .before .before .before .pre in
+    let b = newest-inside _ _ _ _ _ (the-pre .1 .1 .1) (the-pre .1 .0) (the-newest .result) (the-newest .ensures) in
+    let wl = the-pre .1 .1 .1 .waitingLong in
+    let nl = the-pre .1 .1 .1 .numbersLong in
+    let tl = the-pre .1 .1 .1 .takenLong in
     omega arith
 
 read-targets-requires : tie.Need-read-targets-requires
-read-targets-requires c κs = let a = c .before .before .before .before .before .before .before .before .before .before .before .before .before .before .before .before .args in (c .before .before .before .before .before .before .before .before .before .before .before .before .before .before .before .before .pre .0, (newest-signed (a .n) (a .l) (sectorAt (a .image .now)) (a .waiting .now) (a .numbers .now) (a .taken .now) (c .before .before .before .before .before .before .before .before .before .before .before .before .before .before .before .before .pre .1 .1 .1) (c .before .before .before .before .before .before .before .before .before .before .before .before .before .before .before .before .pre .1 .0) (c .before .before .before .before .before .before .before .before .newest .result) (c .before .before .before .before .before .before .before .before .newest .ensures) (c .before .before .before .before .before .before .if1 .left), (c .before .before .before .before .before .before .before .before .before .before .before .before .before .before .before .before .pre .1 .1 .0, done-waits (a .n) (a .l) (sectorAt (a .image .now)) (a .waiting .now) (a .numbers .now) (a .taken .now) (c .before .before .before .before .before .before .before .before .before .before .before .before .before .before .before .before .pre .1 .1 .1) (c .before .before .before .before .before .before .before .before .before .before .before .before .before .before .before .before .pre .1 .0) (c .before .before .before .before .before .before .before .before .newest .result) (c .before .before .before .before .before .before .before .before .newest .ensures) (c .before .before .before .before .before .before .if1 .left))))
+read-targets-requires c κs =
+    let the-if1 = c .before .before .before .before .before .before .if1 in
+    let the-newest = c .before .before .before .before .before .before .before .before .newest in
+    let the-pre = c .before .before .before .before .before .before .before .before .before .before .before .before .before .before .before .before .pre in
+    (the-pre .0, (newest-signed _ _ _ _ _ (the-pre .1 .1 .1) (the-pre .1 .0) (the-newest .result) (the-newest .ensures) (the-if1 .left), (the-pre .1 .1 .0, done-waits _ _ _ _ _ (the-pre .1 .1 .1) (the-pre .1 .0) (the-newest .result) (the-newest .ensures) (the-if1 .left))))
 
 same-length-2 : tie.Need-same-length-2
 same-length-2 c = search needs
@@ -125,7 +141,12 @@ same-length-6 : tie.Need-same-length-6
 same-length-6 c = search needs
 
 returns-2 : tie.Need-returns-2
-returns-2 c = let a = c .before .before .before .before .before .before .before .before .before .before .before .before .before .before .before .before .before .before .before .before .before .before .before .before .before .args in (step-some (a .n) (a .l) (sectorAt (a .image .now)) (a .waiting .now) (a .numbers .now) (a .taken .now) (c .before .before .before .before .before .before .before .before .before .before .before .before .before .before .before .before .before .before .before .before .before .before .before .before .before .pre .1 .1 .1) (c .before .before .before .before .before .before .before .before .before .before .before .before .before .before .before .before .before .before .before .before .before .before .before .before .before .pre .1 .0) (c .before .before .before .before .before .before .before .before .before .before .before .before .before .before .before .before .before .newest .result) (c .before .before .before .before .before .before .before .before .before .before .before .before .before .before .before .before .before .newest .ensures) (c .before .before .before .before .before .before .before .before .before .before .before .before .before .before .before .if1 .left) _ (c .before .before .before .before .before .before .before .before .read-targets .ensures .0), c .before .before .before .before .before .before .before .before .read-targets .ensures .1, c .before .before .before .before .before .before .before .before .read-targets .ensures .2)
+returns-2 c =
+    let the-read-targets = c .before .before .before .before .before .before .before .before .read-targets in
+    let the-if1 = c .before .before .before .before .before .before .before .before .before .before .before .before .before .before .before .if1 in
+    let the-newest = c .before .before .before .before .before .before .before .before .before .before .before .before .before .before .before .before .before .newest in
+    let the-pre = c .before .before .before .before .before .before .before .before .before .before .before .before .before .before .before .before .before .before .before .before .before .before .before .before .before .pre in
+    (step-some _ _ _ _ _ (the-pre .1 .1 .1) (the-pre .1 .0) (the-newest .result) (the-newest .ensures) (the-if1 .left) _ (the-read-targets .ensures .0), the-read-targets .ensures .1, the-read-targets .ensures .2)
 
 pub walk-step-spec : {M : Type 1} → statement M
 walk-step-spec =

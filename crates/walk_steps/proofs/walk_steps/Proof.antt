@@ -13,42 +13,48 @@ use Rattle.walk_steps.proofs.walk_steps.Statement.{statement}
 use Rattle.walk_steps.proofs.walk_steps.Tie as tie
 
 abbrev Inv-loop : tie.InvT-loop
-Inv-loop seen₀ good₀ waiting₀ numbers₀ taken₀ image n l pieces step₀ seen good waiting numbers taken step =
-    (step ≤ pieces) × (length seen ≡ length seen₀) × (length good ≡ length good₀) × Known n l (sectorAt image) seen good
-    × Waits (piecesFor l) (imageView n l (sectorAt image)) waiting numbers taken
-    × (walkOf waiting taken ≡ walkedFor (piecesFor l) (imageView n l (sectorAt image)) (walkOf waiting₀ taken₀) step)
+Inv-loop seen₀ good₀ waiting₀ numbers₀ taken₀ image g pieces step₀ seen good waiting numbers taken step =
+    (step ≤ pieces) × (length seen ≡ length seen₀) × (length good ≡ length good₀) × Known g (sectorAt image) seen good
+    × Waits (piecesFor (g .l)) (imageView g (sectorAt image)) waiting numbers taken
+    × (walkOf waiting taken ≡ walkedFor (piecesFor (g .l)) (imageView g (sectorAt image)) (walkOf waiting₀ taken₀) step)
 
 abbrev μ-loop : tie.MeasureT-loop
-μ-loop seen₀ good₀ waiting₀ numbers₀ taken₀ image n l pieces step₀ seen good waiting numbers taken step =
+μ-loop seen₀ good₀ waiting₀ numbers₀ taken₀ image g pieces step₀ seen good waiting numbers taken step =
     pieces - step
 
 pieces-for-requires : tie.Need-pieces-for-requires Inv-loop μ-loop
 pieces-for-requires c κs = search needs
 
 loop-holds : tie.Need-loop-holds Inv-loop μ-loop
-loop-holds c = let a = c .before .before .before .before .before .before .before .args in (omega arith, refl, refl, c .before .before .before .before .before .before .before .pre .1 .1 .0, c .before .before .before .before .before .before .before .pre .1 .1 .1, walked-none (piecesFor (a .l)) (imageView (a .n) (a .l) (sectorAt (a .image .now))) (walkOf (a .waiting .now) (a .taken .now)))
+loop-holds c =
+    let the-pre = c .before .before .before .before .before .before .before .pre in
+    let a = c .before .before .before .before .before .before .before .args in (omega arith, refl, refl, the-pre .1 .1 .0, the-pre .1 .1 .1, walked-none (piecesFor (a .g .l)) (imageView (a .g) (sectorAt (a .image .now))) (walkOf (a .waiting .now) (a .taken .now)))
 
 walk-step-requires : tie.Need-walk-step-requires Inv-loop μ-loop
-walk-step-requires c κs = (c .before .before .before .before .before .before .before .before .before .before .before .before .before .before .pre .0, (c .before .before .before .before .before .before .before .before .before .before .before .before .before .before .pre .1 .0, (c .before .before .before .before .before .before .loop .inv .3, c .before .before .before .before .before .before .loop .inv .4)))
+walk-step-requires c κs =
+    let the-loop = c .before .before .before .before .before .before .loop in
+    let the-pre = c .before .before .before .before .before .before .before .before .before .before .before .before .before .before .pre in
+    (the-pre .0, (the-pre .1 .0, (the-loop .inv .3, the-loop .inv .4)))
 
 add-step : tie.Need-add-step Inv-loop μ-loop
-add-step c = let t = c .before .before .before .before .before .before .before .before .before .before .before .before .before .before .before .before .loop-test .taken in omega arith
+add-step c =
+    omega arith
 
 loop-less : tie.Need-loop-less Inv-loop μ-loop
-loop-less c = let t = c .before .before .before .before .before .before .before .before .before .before .before .before .before .before .before .before .loop-test .taken in omega arith
+loop-less c =
+    omega arith
 
 loop-again : tie.Need-loop-again Inv-loop μ-loop
 loop-again c =
     let a = c .before .before .before .before .before .before .before .before .before .before .before .before .before .before .before .before .before .before .before .before .before .before .before .before .before .args in
     let l = c .before .before .before .before .before .before .before .before .before .before .before .before .before .before .before .before .before .loop in
-    let t = c .before .before .before .before .before .before .before .before .before .before .before .before .before .before .before .before .loop-test .taken in
     let r = c .before .before .before .before .before .before .before .before .before .before .walk-step in (
       omega arith,
       r .kept .0 ∙ l .inv .1,
       r .kept .1 .0 ∙ l .inv .2,
       r .ensures .1,
       r .ensures .2,
-      walked-more (piecesFor (a .l)) (imageView (a .n) (a .l) (sectorAt (a .image .now))) (walkOf (a .waiting .now) (a .taken .now)) (walkOf (l .waiting) (l .taken)) _ (l .step) (l .inv .5) (r .ensures .0),
+      walked-more (piecesFor (a .g .l)) (imageView (a .g) (sectorAt (a .image .now))) (walkOf (a .waiting .now) (a .taken .now)) (walkOf (l .waiting) (l .taken)) _ (l .step) (l .inv .5) (r .ensures .0),
     )
 
 same-length : tie.Need-same-length Inv-loop μ-loop
@@ -58,20 +64,26 @@ same-length-2 : tie.Need-same-length-2 Inv-loop μ-loop
 same-length-2 c = c .before .loop .inv .2
 
 same-length-3 : tie.Need-same-length-3 Inv-loop μ-loop
-same-length-3 c = c .before .loop .inv .4 .waitingLong ∙ sym (c .before .before .before .before .before .before .before .before .before .pre .1 .1 .1 .waitingLong)
+same-length-3 c =
+    let the-pre = c .before .before .before .before .before .before .before .before .before .pre in
+    c .before .loop .inv .4 .waitingLong ∙ sym (the-pre .1 .1 .1 .waitingLong)
 
 same-length-4 : tie.Need-same-length-4 Inv-loop μ-loop
-same-length-4 c = c .before .loop .inv .4 .numbersLong ∙ sym (c .before .before .before .before .before .before .before .before .before .pre .1 .1 .1 .numbersLong)
+same-length-4 c =
+    let the-pre = c .before .before .before .before .before .before .before .before .before .pre in
+    c .before .loop .inv .4 .numbersLong ∙ sym (the-pre .1 .1 .1 .numbersLong)
 
 same-length-5 : tie.Need-same-length-5 Inv-loop μ-loop
-same-length-5 c = c .before .loop .inv .4 .takenLong ∙ sym (c .before .before .before .before .before .before .before .before .before .pre .1 .1 .1 .takenLong)
+same-length-5 c =
+    let the-pre = c .before .before .before .before .before .before .before .before .before .pre in
+    c .before .loop .inv .4 .takenLong ∙ sym (the-pre .1 .1 .1 .takenLong)
 
 returns : tie.Need-returns Inv-loop μ-loop
 returns c =
     let a = c .before .before .before .before .before .before .before .before .before .args in
     let l = c .before .loop in
-    let e : l .step ≡ piecesFor (a .l) = (let i = l .inv .0 in let t = c .loop-test .left in let q = c .before .before .pieces-for .ensures in omega arith) in
-    l .inv .5 ∙ ap (walkedFor (piecesFor (a .l)) (imageView (a .n) (a .l) (sectorAt (a .image .now))) (walkOf (a .waiting .now) (a .taken .now))) e
+    let e : l .step ≡ piecesFor (a .g .l) = (omega arith) in
+    l .inv .5 ∙ ap (walkedFor (piecesFor (a .g .l)) (imageView (a .g) (sectorAt (a .image .now))) (walkOf (a .waiting .now) (a .taken .now))) e
 
 pub walk-steps-spec : {M : Type 1} → statement M
 walk-steps-spec =

@@ -17,17 +17,15 @@ use Rattle.walk_steps.proofs.walk_waiting.Tie as tie
 
 sector-requires : tie.Need-sector-requires
 sector-requires c κs =
-    let a = c .before .before .before .before .before .before .args in
     let p = c .before .before .before .before .before .before .pre in
     let i = p .0 in
-    let h = inside (a .n) (a .l) (sectorAt (a .image .now)) (a .tail) (p .1 .1 .0) in omega arith
+    let h = inside _ _ _ (p .1 .1 .0) in omega arith
 
 piece-of-requires : tie.Need-piece-of-requires
 piece-of-requires c κs =
-    let a = c .before .before .before .before .before .before .before .args in
     let p = c .before .before .before .before .before .before .before .pre in
     let i = p .0 in
-    let h = inside (a .n) (a .l) (sectorAt (a .image .now)) (a .tail) (p .1 .1 .0) in ap length (c .sector .ensures) ∙ sector-length (a .image .now) (a .tail) (omega arith)
+    let h = inside _ _ _ (p .1 .1 .0) in ap length (c .sector .ensures) ∙ sector-length _ _ (omega arith)
 
 cast-p : tie.Need-cast-p
 cast-p c = search needs
@@ -37,44 +35,48 @@ mul-waiting c = search needs
 
 slice-write-waiting : tie.Need-slice-write-waiting
 slice-write-waiting c =
-    let a = c .before .before .before .before .before .before .before .before .args in
-    let p = c .before .before .before .before .before .before .before .before .pre in
+    let start = c .before .before .before .before .before .before .before .before in
+    let a = start .args in
+    let p = start .pre in
     let i = p .0 in
-    let h = inside (a .n) (a .l) (sectorAt (a .image .now)) (a .tail) (p .1 .1 .0) in
-    let b = signed-piece (a .n) (a .l) (sectorAt (a .image .now)) (a .tail) (p .1 .1 .0) in
+    let h = inside (a .g) (sectorAt (a .image .now)) (a .tail) (p .1 .1 .0) in
+    let b = signed-piece (a .g) (sectorAt (a .image .now)) (a .tail) (p .1 .1 .0) in
     let e = c .piece-of .ensures ∙ ap (λ (x : List ℕ). at (wordsOf x) 4) (c .before .sector .ensures) in
-    let z = ap length (p .1 .1 .1 .1 .0) ∙ length-replicate (piecesFor (a .l)) 0 in
+    let z = ap length (p .1 .1 .1 .1 .0) ∙ length-replicate (piecesFor (a .g .l)) 0 in
     omega arith
 
 number-of-requires : tie.Need-number-of-requires
 number-of-requires c κs =
-    let a = c .before .before .before .before .before .before .before .before .args in
     let p = c .before .before .before .before .before .before .before .before .pre in
     let i = p .0 in
-    let h = inside (a .n) (a .l) (sectorAt (a .image .now)) (a .tail) (p .1 .1 .0) in ap length (c .before .sector .ensures) ∙ sector-length (a .image .now) (a .tail) (omega arith)
+    let h = inside _ _ _ (p .1 .1 .0) in ap length (c .before .sector .ensures) ∙ sector-length _ _ (omega arith)
 
 mul-numbers : tie.Need-mul-numbers
 mul-numbers c = search needs
 
 slice-write-numbers : tie.Need-slice-write-numbers
 slice-write-numbers c =
-    let a = c .before .before .before .before .before .before .before .before .before .args in
-    let p = c .before .before .before .before .before .before .before .before .before .pre in
+    let the-sector = c .before .before .sector in
+    let start = c .before .before .before .before .before .before .before .before .before in
+    let a = start .args in
+    let p = start .pre in
     let i = p .0 in
-    let h = inside (a .n) (a .l) (sectorAt (a .image .now)) (a .tail) (p .1 .1 .0) in
-    let b = signed-piece (a .n) (a .l) (sectorAt (a .image .now)) (a .tail) (p .1 .1 .0) in
-    let e = c .before .piece-of .ensures ∙ ap (λ (x : List ℕ). at (wordsOf x) 4) (c .before .before .sector .ensures) in
-    let z = ap length (p .1 .1 .1 .1 .1 .0) ∙ length-replicate (piecesFor (a .l)) 0 in
+    let h = inside (a .g) (sectorAt (a .image .now)) (a .tail) (p .1 .1 .0) in
+    let b = signed-piece (a .g) (sectorAt (a .image .now)) (a .tail) (p .1 .1 .0) in
+    let e = c .before .piece-of .ensures ∙ ap (λ (x : List ℕ). at (wordsOf x) 4) (the-sector .ensures) in
+    let z = ap length (p .1 .1 .1 .1 .1 .0) ∙ length-replicate (piecesFor (a .g .l)) 0 in
     omega arith
 
 walk-steps-requires : tie.Need-walk-steps-requires
 walk-steps-requires c κs =
-    let a = c .before .before .before .before .before .before .before .before .before .before .before .before .before .before .args in
+    let the-number-of = c .before .before .before .before .before .number-of in
+    let the-piece-of = c .before .before .before .before .before .before .piece-of in
+    let the-sector = c .before .before .before .before .before .before .before .sector in
     let p = c .before .before .before .before .before .before .before .before .before .before .before .before .before .before .pre in
     let i = p .0 in
-    let h = inside (a .n) (a .l) (sectorAt (a .image .now)) (a .tail) (p .1 .1 .0) in
-    let b = tail-inside (a .n) (a .l) (sectorAt (a .image .now)) (a .tail) (p .1 .0) (p .1 .1 .0) _ (c .before .before .before .before .before .before .before .sector .ensures) (c .before .before .before .before .before .before .piece-of .result) (c .before .before .before .before .before .number-of .result) (c .before .before .before .before .before .before .piece-of .ensures) (c .before .before .before .before .before .number-of .ensures) in
-    (p .0, (omega arith, (p .1 .1 .1 .0, start-waits (a .n) (a .l) (sectorAt (a .image .now)) (a .tail) (p .1 .0) (p .1 .1 .0) _ (c .before .before .before .before .before .before .before .sector .ensures) (c .before .before .before .before .before .before .piece-of .result) (c .before .before .before .before .before .number-of .result) (c .before .before .before .before .before .before .piece-of .ensures) (c .before .before .before .before .before .number-of .ensures) (a .waiting .now) (a .numbers .now) (a .taken .now) (p .1 .1 .1 .1 .0) (p .1 .1 .1 .1 .1 .0) (p .1 .1 .1 .1 .1 .1))))
+    let h = inside _ _ _ (p .1 .1 .0) in
+    let b = tail-inside _ _ _ (p .1 .0) (p .1 .1 .0) _ (the-sector .ensures) (the-piece-of .result) (the-number-of .result) (the-piece-of .ensures) (the-number-of .ensures) in
+    (p .0, (omega arith, (p .1 .1 .1 .0, start-waits _ _ _ (p .1 .0) (p .1 .1 .0) _ (the-sector .ensures) (the-piece-of .result) (the-number-of .result) (the-piece-of .ensures) (the-number-of .ensures) _ _ _ (p .1 .1 .1 .1 .0) (p .1 .1 .1 .1 .1 .0) (p .1 .1 .1 .1 .1 .1))))
 
 same-length : tie.Need-same-length
 same-length c = search needs
@@ -83,20 +85,34 @@ same-length-2 : tie.Need-same-length-2
 same-length-2 c = search needs
 
 same-length-3 : tie.Need-same-length-3
-same-length-3 c = c .before .before .before .before .before .before .before .before .before .before .walk-steps .kept .1 .1 .0 ∙ length-set (c .before .before .before .before .before .before .before .before .before .before .before .before .before .before .before .before .before .before .before .before .before .before .before .before .before .args .waiting .now) (c .before .before .before .before .before .before .before .before .before .before .before .before .before .before .before .before .before .piece-of .result) (c .before .before .before .before .before .before .before .before .before .before .before .before .before .before .before .before .before .before .before .before .before .before .before .before .before .args .tail)
+same-length-3 c =
+    let the-walk-steps = c .before .before .before .before .before .before .before .before .before .before .walk-steps in
+    let the-piece-of = c .before .before .before .before .before .before .before .before .before .before .before .before .before .before .before .before .before .piece-of in
+    let the-args = c .before .before .before .before .before .before .before .before .before .before .before .before .before .before .before .before .before .before .before .before .before .before .before .before .before .args in
+    the-walk-steps .kept .1 .1 .0 ∙ length-set (the-args .waiting .now) (the-piece-of .result) (the-args .tail)
 
 same-length-4 : tie.Need-same-length-4
-same-length-4 c = c .before .before .before .before .before .before .before .before .before .before .walk-steps .kept .1 .1 .1 .0 ∙ length-set (c .before .before .before .before .before .before .before .before .before .before .before .before .before .before .before .before .before .before .before .before .before .before .before .before .before .args .numbers .now) (c .before .before .before .before .before .before .before .before .before .before .before .before .before .before .before .before .before .piece-of .result) (c .before .before .before .before .before .before .before .before .before .before .before .before .before .before .before .before .number-of .result)
+same-length-4 c =
+    let the-walk-steps = c .before .before .before .before .before .before .before .before .before .before .walk-steps in
+    let the-number-of = c .before .before .before .before .before .before .before .before .before .before .before .before .before .before .before .before .number-of in
+    let the-piece-of = c .before .before .before .before .before .before .before .before .before .before .before .before .before .before .before .before .before .piece-of in
+    let the-args = c .before .before .before .before .before .before .before .before .before .before .before .before .before .before .before .before .before .before .before .before .before .before .before .before .before .args in
+    the-walk-steps .kept .1 .1 .1 .0 ∙ length-set (the-args .numbers .now) (the-piece-of .result) (the-number-of .result)
 
 same-length-5 : tie.Need-same-length-5
 same-length-5 c = search needs
 
 returns : tie.Need-returns
 returns c =
-    let a = c .before .before .before .before .before .before .before .before .before .before .before .before .before .before .before .before .before .before .before .before .before .before .before .before .before .args in
+    let the-walk-steps = c .before .before .before .before .before .before .before .before .before .before .walk-steps in
+    let the-number-of = c .before .before .before .before .before .before .before .before .before .before .before .before .before .before .before .before .number-of in
+    let the-piece-of = c .before .before .before .before .before .before .before .before .before .before .before .before .before .before .before .before .before .piece-of in
+    let the-sector = c .before .before .before .before .before .before .before .before .before .before .before .before .before .before .before .before .before .before .sector in
     let p = c .before .before .before .before .before .before .before .before .before .before .before .before .before .before .before .before .before .before .before .before .before .before .before .before .before .pre in
     let i = p .0 in
-    let h = inside (a .n) (a .l) (sectorAt (a .image .now)) (a .tail) (p .1 .1 .0) in walk-is (a .n) (a .l) (sectorAt (a .image .now)) (a .tail) (p .1 .0) (p .1 .1 .0) _ (c .before .before .before .before .before .before .before .before .before .before .before .before .before .before .before .before .before .before .sector .ensures) (c .before .before .before .before .before .before .before .before .before .before .before .before .before .before .before .before .before .piece-of .result) (c .before .before .before .before .before .before .before .before .before .before .before .before .before .before .before .before .number-of .result) (c .before .before .before .before .before .before .before .before .before .before .before .before .before .before .before .before .before .piece-of .ensures) (c .before .before .before .before .before .before .before .before .before .before .before .before .before .before .before .before .number-of .ensures) (a .waiting .now) (a .numbers .now) (a .taken .now) (p .1 .1 .1 .1 .0) (p .1 .1 .1 .1 .1 .0) (p .1 .1 .1 .1 .1 .1) (c .before .before .before .before .before .before .before .before .before .before .walk-steps .last .1 .1 .0) (c .before .before .before .before .before .before .before .before .before .before .walk-steps .last .1 .1 .1 .1 .0) (c .before .before .before .before .before .before .before .before .before .before .walk-steps .kept .1 .1 .1 .1 .0) (c .before .before .before .before .before .before .before .before .before .before .walk-steps .ensures)
+    let h = inside _ _ _ (p .1 .1 .0) in walk-is _ _ _ (p .1 .0) (p .1 .1 .0) _ (the-sector .ensures) (the-piece-of .result) (the-number-of .result)
+    (the-piece-of .ensures) (the-number-of .ensures) _ _ _ (p .1 .1 .1 .1 .0) (p .1 .1 .1 .1 .1 .0) (p .1 .1 .1 .1 .1 .1)
+    (the-walk-steps .last .1 .1 .0) (the-walk-steps .last .1 .1 .1 .1 .0) (the-walk-steps .kept .1 .1 .1 .1 .0) (the-walk-steps .ensures)
 
 pub walk-waiting-spec : {M : Type 1} → statement M
 walk-waiting-spec =

@@ -48,9 +48,10 @@ same-length c = c .before .loop .inv .1
 
 returns : tie.Need-returns Inv-loop μ-loop
 returns c =
+    let the-loop = c .before .loop in
     let a = c .before .before .before .args in
-    let e : c .before .loop .i ≡ a .n = omega arith in
-    c .before .loop .inv .2 ∙ ap (λ (m : ℕ). sets (a .s .now) (4 * a .k) (bytesOf (replicate m 0))) e
+    let e : the-loop .i ≡ a .n = omega arith in
+    the-loop .inv .2 ∙ ap (λ (m : ℕ). sets (a .s .now) (4 * a .k) (bytesOf (replicate m 0))) e
 
 pub put-zeros-spec : {M : Type 1} → statement M
 put-zeros-spec =

@@ -25,8 +25,9 @@ slice-aggregate-commit c = search needs
 
 commit-requires : tie.Need-commit-requires
 commit-requires c κs =
-    let a = c .before .before .before .before .before .before .before .before .before .before .before .before .before .before .before .before .before .before .before .before .args in
-    ((sym (c .before .before .before .before .before .before .enum-told .given .1) ∙ c .before .before .before .before .before .before .before .before .commit-verdict .ensures), (inl refl, refl))
+    let the-enum-told = c .before .before .before .before .before .before .enum-told in
+    let the-commit-verdict = c .before .before .before .before .before .before .before .before .commit-verdict in
+    ((sym (the-enum-told .given .1) ∙ the-commit-verdict .ensures), (inl refl, refl))
 
 same-length : tie.Need-same-length
 same-length c = search needs
@@ -45,8 +46,8 @@ same-length-5 c = search needs
 
 returns : tie.Need-returns
 returns c =
-    let a = c .before .before .before .before .before .before .before .before .before .before .before .before .before .before .before .args in
-    drop-refused (a .s) (a .image .now) (a .map .now) (a .places .now) (a .numbers .now) (a .used .now) (a .head) (a .blocks .now) (a .allowance) _ (sym (c .before .verdict .given .1) ∙ c .before .before .before .commit-verdict .ensures)
+    let the-commit-verdict = c .before .before .before .commit-verdict in
+    drop-refused _ _ _ _ _ _ _ _ _ _ (sym (c .before .verdict .given .1) ∙ the-commit-verdict .ensures)
 
 same-length-6 : tie.Need-same-length-6
 same-length-6 c = search needs
@@ -65,8 +66,10 @@ same-length-10 c = search needs
 
 returns-2 : tie.Need-returns-2
 returns-2 c =
-    let a = c .before .before .before .before .before .before .before .before .before .before .before .before .before .before .before .before .before .before .before .before .before .before .before .before .before .before .before .before .before .before .before .args in
-    drop-done (a .s) (a .image .now) (a .map .now) (a .places .now) (a .numbers .now) (a .used .now) (a .head) (a .blocks .now) (a .allowance) [] _ (sym (c .before .before .before .before .before .before .before .before .before .before .before .before .before .before .before .before .before .enum-told .given .1) ∙ c .before .before .before .before .before .before .before .before .before .before .before .before .before .before .before .before .before .before .before .commit-verdict .ensures) (c .before .before .before .before .before .before .before .before .before .before .commit .ensures)
+    let the-commit = c .before .before .before .before .before .before .before .before .before .before .commit in
+    let the-enum-told = c .before .before .before .before .before .before .before .before .before .before .before .before .before .before .before .before .before .enum-told in
+    let the-commit-verdict = c .before .before .before .before .before .before .before .before .before .before .before .before .before .before .before .before .before .before .before .commit-verdict in
+    drop-done _ _ _ _ _ _ _ _ _ [] _ (sym (the-enum-told .given .1) ∙ the-commit-verdict .ensures) (the-commit .ensures)
 
 pub drop-spec : {M : Type 1} → statement M
 drop-spec =

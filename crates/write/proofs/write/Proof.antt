@@ -23,14 +23,31 @@ enum-told c = search needs
 
 cast-commit : tie.Need-cast-commit
 cast-commit c =
+    let the-enum-told = c .before .before .before .before .before .enum-told in
+    let the-commit-verdict = c .before .before .before .before .before .before .before .commit-verdict in
+    let the-bytes-fit = c .before .before .before .before .before .before .before .before .before .before .before .before .before .bytes-fit in
     let a = c .before .before .before .before .before .before .before .before .before .before .before .before .before .before .before .before .before .before .before .before .before .args in
-    let h = write-few (a .s) (a .image .now) (a .map .now) (a .places .now) (a .numbers .now) (a .used .now) (a .head) (a .blocks .now) (a .allowance) (a .bytes .now) (c .before .before .before .before .before .before .before .before .before .before .before .before .before .bytes-fit .result) (c .before .before .before .before .before .before .before .before .before .before .before .before .before .bytes-fit .ensures) (sym (c .before .before .before .before .before .enum-told .given .1) ∙ c .before .before .before .before .before .before .before .commit-verdict .ensures) in
+    let h = write-few (a .s) (a .image .now) (a .map .now) (a .places .now) (a .numbers .now) (a .used .now) (a .head) (a .blocks .now) (a .allowance) (a .bytes .now) (the-bytes-fit .result) (the-bytes-fit .ensures) (sym (the-enum-told .given .1) ∙ the-commit-verdict .ensures) in
     omega arith
 
 commit-requires : tie.Need-commit-requires
 commit-requires c κs =
-    let a = c .before .before .before .before .before .before .before .before .before .before .before .before .before .before .before .before .before .before .before .before .before .args in
-    (write-passed (a .s) (a .image .now) (a .map .now) (a .places .now) (a .numbers .now) (a .used .now) (a .head) (a .blocks .now) (a .allowance) (a .bytes .now) (c .before .before .before .before .before .before .before .before .before .before .before .before .before .bytes-fit .result) (c .before .before .before .before .before .before .before .before .before .before .before .before .before .bytes-fit .ensures) (sym (c .before .before .before .before .before .enum-told .given .1) ∙ c .before .before .before .before .before .before .before .commit-verdict .ensures), (inr refl, write-length (a .s) (a .image .now) (a .map .now) (a .places .now) (a .numbers .now) (a .used .now) (a .head) (a .blocks .now) (a .allowance) (a .bytes .now) (c .before .before .before .before .before .before .before .before .before .before .before .before .before .bytes-fit .result) (c .before .before .before .before .before .before .before .before .before .before .before .before .before .bytes-fit .ensures) (sym (c .before .before .before .before .before .enum-told .given .1) ∙ c .before .before .before .before .before .before .before .commit-verdict .ensures)))
+    let the-enum-told = c .before .before .before .before .before .enum-told in
+    let the-commit-verdict = c .before .before .before .before .before .before .before .commit-verdict in
+    let the-bytes-fit = c .before .before .before .before .before .before .before .before .before .before .before .before .before .bytes-fit in
+    let a = c .before .before .before .before .before .before .before .before .before .before .before .before .before .before .before .before .before .before .before .before .before .args in (
+      write-passed (a .s) (a .image .now) (a .map .now) (a .places .now) (a .numbers
+          .now) (a .used .now) (a .head) (a .blocks .now) (a .allowance) (a .bytes
+          .now) (the-bytes-fit .result) (the-bytes-fit .ensures) (sym (the-enum-told
+          .given .1) ∙ the-commit-verdict .ensures),
+      (
+        inr refl,
+        write-length (a .s)
+            (a .image .now) (a .map .now) (a .places .now) (a .numbers .now) (a .used
+            .now) (a .head) (a .blocks .now) (a .allowance) (a .bytes .now) (the-bytes-fit
+            .result) (the-bytes-fit .ensures) (sym (the-enum-told .given .1) ∙ the-commit-verdict .ensures),
+      ),
+    )
 
 same-length : tie.Need-same-length
 same-length c = search needs
@@ -49,8 +66,9 @@ same-length-5 c = search needs
 
 returns : tie.Need-returns
 returns c =
-    let a = c .before .before .before .before .before .before .before .before .before .before .before .before .before .before .before .before .before .args in
-    write-refused (a .s) (a .image .now) (a .map .now) (a .places .now) (a .numbers .now) (a .used .now) (a .head) (a .blocks .now) (a .allowance) (a .bytes .now) (c .before .before .before .before .before .before .before .before .before .bytes-fit .result) (c .before .before .before .before .before .before .before .before .before .bytes-fit .ensures) _ (sym (c .before .verdict .given .1) ∙ c .before .before .before .commit-verdict .ensures)
+    let the-commit-verdict = c .before .before .before .commit-verdict in
+    let the-bytes-fit = c .before .before .before .before .before .before .before .before .before .bytes-fit in
+    write-refused _ _ _ _ _ _ _ _ _ _ (the-bytes-fit .result) (the-bytes-fit .ensures) _ (sym (c .before .verdict .given .1) ∙ the-commit-verdict .ensures)
 
 same-length-6 : tie.Need-same-length-6
 same-length-6 c = search needs
@@ -69,8 +87,11 @@ same-length-10 c = search needs
 
 returns-2 : tie.Need-returns-2
 returns-2 c =
-    let a = c .before .before .before .before .before .before .before .before .before .before .before .before .before .before .before .before .before .before .before .before .before .before .before .before .before .before .before .before .before .before .before .before .args in
-    write-done (a .s) (a .image .now) (a .map .now) (a .places .now) (a .numbers .now) (a .used .now) (a .head) (a .blocks .now) (a .allowance) (a .bytes .now) (c .before .before .before .before .before .before .before .before .before .before .before .before .before .before .before .before .before .before .before .before .before .before .before .before .bytes-fit .result) (c .before .before .before .before .before .before .before .before .before .before .before .before .before .before .before .before .before .before .before .before .before .before .before .before .bytes-fit .ensures) _ (sym (c .before .before .before .before .before .before .before .before .before .before .before .before .before .before .before .before .enum-told .given .1) ∙ c .before .before .before .before .before .before .before .before .before .before .before .before .before .before .before .before .before .before .commit-verdict .ensures) (c .before .before .before .before .before .before .before .before .before .before .commit .ensures)
+    let the-commit = c .before .before .before .before .before .before .before .before .before .before .commit in
+    let the-enum-told = c .before .before .before .before .before .before .before .before .before .before .before .before .before .before .before .before .enum-told in
+    let the-commit-verdict = c .before .before .before .before .before .before .before .before .before .before .before .before .before .before .before .before .before .before .commit-verdict in
+    let the-bytes-fit = c .before .before .before .before .before .before .before .before .before .before .before .before .before .before .before .before .before .before .before .before .before .before .before .before .bytes-fit in
+    write-done _ _ _ _ _ _ _ _ _ _ (the-bytes-fit .result) (the-bytes-fit .ensures) _ (sym (the-enum-told .given .1) ∙ the-commit-verdict .ensures) (the-commit .ensures)
 
 pub write-spec : {M : Type 1} → statement M
 write-spec =

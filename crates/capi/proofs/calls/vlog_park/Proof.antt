@@ -21,8 +21,13 @@ same-length c = search needs
 
 returns : tie.Need-returns
 returns c =
+    let the-park = c .before .before .before .park in
+    let the-state-of = c .before .before .before .before .before .state-of in
     let a = c .before .before .before .before .before .before .before .before .before .before .before .args in
-    call-in-numbers (a .c) _ (c .before .before .before .park .result) _ (c .result-of .result) (c .before .before .before .before .before .state-of .ensures) (c .result-of .ensures) (λ (s : State). parkOf s (memory (a .image .now) (a .map .now) (a .places .now) (a .numbers .now) (a .used .now)) (a .allowance)) (c .before .before .before .park .ensures)
+    call-in-numbers (a .c) _ (the-park .result) _ (c .result-of .result)
+    (the-state-of .ensures) (c .result-of .ensures)
+    (λ (s : State). parkOf s (memory (a .image .now) (a .map .now) (a .places .now) (a .numbers .now) (a .used .now)) (a .allowance))
+    (the-park .ensures)
 
 pub vlog-park-spec : {M : Type 1} → statement M
 vlog-park-spec =

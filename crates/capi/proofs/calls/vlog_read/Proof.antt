@@ -21,8 +21,13 @@ same-length c = search needs
 
 returns : tie.Need-returns
 returns c =
+    let the-read = c .before .before .before .read in
+    let the-state-of = c .before .before .before .before .before .state-of in
     let a = c .before .before .before .before .before .before .before .before .before .before .before .before .args in
-    read-in-numbers (a .c) _ (c .before .before .before .read .result) _ (c .result-of .result) (c .before .before .before .before .before .state-of .ensures) (c .result-of .ensures) _ (λ (s : State). readOf s (memory (a .image .now) (a .map .now) (a .places .now) (a .numbers .now) (a .used .now)) (a .block) (a .out .now)) (c .before .before .before .read .ensures)
+    read-in-numbers (a .c) _ (the-read .result) _ (c .result-of .result)
+    (the-state-of .ensures) (c .result-of .ensures) _
+    (λ (s : State). readOf s (memory (a .image .now) (a .map .now) (a .places .now) (a .numbers .now) (a .used .now)) (a .block) (a .out .now))
+    (the-read .ensures)
 
 pub vlog-read-spec : {M : Type 1} → statement M
 vlog-read-spec =

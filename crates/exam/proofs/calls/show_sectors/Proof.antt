@@ -4,10 +4,10 @@ use Rattle.exam.proofs.calls.show_sectors.Statement.{statement}
 use Rattle.exam.proofs.calls.show_sectors.Tie as tie
 
 abbrev Inv-loop : tie.InvT-loop
-Inv-loop image n l k₀ k = Unit {0}
+Inv-loop image g n k₀ k = Unit {0}
 
 abbrev μ-loop : tie.MeasureT-loop
-μ-loop image n l k₀ k = n - k
+μ-loop image g n k₀ k = n - k
 
 loop-holds : tie.Need-loop-holds Inv-loop μ-loop
 loop-holds c = tt

@@ -24,15 +24,21 @@ add-least c = search needs
 
 returns-3 : tie.Need-returns-3
 returns-3 c =
-    let a = c .before .before .before .before .args .self in
+    let the-if2 = c .before .before .if2 in
+    let the-if1 = c .before .before .before .if1 in
+    let the-args = c .before .before .before .before .args in
+    let a = the-args .self in
     let low : a .n < 2 * piecesFor (a .l) + 2 = omega arith in
-    simp (le-leb _ _ (c .before .before .before .if1 .left), le-leb _ _ (c .before .before .if2 .left), lt-leb _ _ low)
+    simp (le-leb _ _ (the-if1 .left), le-leb _ _ (the-if2 .left), lt-leb _ _ low)
 
 returns-4 : tie.Need-returns-4
 returns-4 c =
-    let a = c .before .before .before .before .args .self in
+    let the-if2 = c .before .before .if2 in
+    let the-if1 = c .before .before .before .if1 in
+    let the-args = c .before .before .before .before .args in
+    let a = the-args .self in
     let high : 2 * piecesFor (a .l) + 2 ≤ a .n = omega arith in
-    simp (le-leb _ _ (c .before .before .before .if1 .left), le-leb _ _ (c .before .before .if2 .left), le-leb _ _ high)
+    simp (le-leb _ _ (the-if1 .left), le-leb _ _ (the-if2 .left), le-leb _ _ high)
 
 pub fits-spec : {M : Type 1} → statement M
 fits-spec =

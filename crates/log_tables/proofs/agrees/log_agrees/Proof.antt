@@ -14,18 +14,22 @@ zero-bytes-requires c κs = search needs
 
 mark-names-requires : tie.Need-mark-names-requires
 mark-names-requires c κs =
-    let a = c .before .before .before .before .before .before .before .before .before .args in
-    let p = c .before .before .before .before .before .before .before .before .before .pre in
-    let some = sectors-some (a .n) (a .l) (p .0) in
+    let the-zero-bytes = c .before .before .before .zero-bytes in
+    let start = c .before .before .before .before .before .before .before .before .before in
+    let a = start .args in
+    let p = start .pre in
+    let some = sectors-some (a .g) (p .0) in
     let e = p .1 .1 .1 .1 in
-    let k = c .before .before .before .zero-bytes .kept .0 in
-    (omega arith, (omega arith, (p .1 .0, (p .1 .1 .0, c .before .before .before .zero-bytes .ensures ∙ ap (λ (x : ℕ). replicate x 0) (sym k)))))
+    let k = the-zero-bytes .kept .0 in
+    (omega arith, (omega arith, (p .1 .0, (p .1 .1 .0, the-zero-bytes .ensures ∙ ap (λ (x : ℕ). replicate x 0) (sym k)))))
 
 same-length : tie.Need-same-length
 same-length c = search needs
 
 returns : tie.Need-returns
-returns c = let a = c .before .before .before .before .before .before .before .before .before .before .before .before .before .args in names-fail (a .n) (a .l) (a .map .now) (a .places .now) (a .numbers .now) (a .tail) (a .number) _ (c .before .before .before .mark-names .result) (c .before .before .before .mark-names .ensures) (c .if1 .taken)
+returns c =
+    let the-mark-names = c .before .before .before .mark-names in
+    let a = c .before .before .before .before .before .before .before .before .before .before .before .before .before .args in names-fail (a .g) (a .map .now) (a .places .now) (a .numbers .now) (a .tail) (a .number) _ (the-mark-names .result) (the-mark-names .ensures) (c .if1 .taken)
 
 count-free-requires : tie.Need-count-free-requires
 count-free-requires c κs = search needs
@@ -37,13 +41,22 @@ same-length-2 : tie.Need-same-length-2
 same-length-2 c = search needs
 
 returns-2 : tie.Need-returns-2
-returns-2 c = let a = c .before .before .before .before .before .before .before .before .before .before .before .before .before .before .before .before .before .args in room-fails (a .n) (a .l) (a .map .now) (a .places .now) (a .numbers .now) (a .tail) (a .number) _ (c .before .before .before .before .before .before .before .mark-names .result) (c .before .before .before .before .before .before .before .mark-names .ensures) (c .before .before .before .before .if1 .left) (c .before .before .count-free .result) (c .before .pieces-for .result) (c .before .before .count-free .ensures) (c .before .pieces-for .ensures) (c .if2 .taken)
+returns-2 c =
+    let the-pieces-for = c .before .pieces-for in
+    let the-count-free = c .before .before .count-free in
+    let the-if1 = c .before .before .before .before .if1 in
+    let the-mark-names = c .before .before .before .before .before .before .before .mark-names in
+    let a = c .before .before .before .before .before .before .before .before .before .before .before .before .before .before .before .before .before
+    .args in room-fails (a .g) (a .map .now) (a .places .now) (a .numbers .now) (a .tail) (a .number) _ (the-mark-names .result)
+    (the-mark-names .ensures) (the-if1 .left) (the-count-free .result) (the-pieces-for .result) (the-count-free .ensures)
+    (the-pieces-for .ensures) (c .if2 .taken)
 
 numbers-agree-requires : tie.Need-numbers-agree-requires
 numbers-agree-requires c κs =
-    let a = c .before .before .before .before .before .before .before .before .before .before .before .before .before .before .before .before .before .args in
-    let p = c .before .before .before .before .before .before .before .before .before .before .before .before .before .before .before .before .before .pre in
-    let some = blocks-some (a .n) (a .l) (p .0) in
+    let start = c .before .before .before .before .before .before .before .before .before .before .before .before .before .before .before .before .before in
+    let a = start .args in
+    let p = start .pre in
+    let some = blocks-some (a .g) (p .0) in
     let e = p .1 .1 .1 .0 in
     (omega arith, p .1 .1 .0 ∙ sym e)
 
@@ -52,9 +65,15 @@ same-length-3 c = search needs
 
 returns-3 : tie.Need-returns-3
 returns-3 c =
-    let a = c .before .before .before .before .before .before .before .before .before .before .before .before .before .before .before .before .before .before .args in
-    numbers-decide (a .n) (a .l) (a .map .now) (a .places .now) (a .numbers .now) (a .tail) (a .number) _ (c .before .before .before .before .before .before .before .before .mark-names .result) (c .before .before .before .before .before .before .before .before .mark-names .ensures) (c .before .before .before .before .before .if1 .left) (c .before .before .before .count-free .result) (c .before .before .pieces-for .result) (c .before .before .before .count-free .ensures) (c .before .before .pieces-for .ensures) (c .before .if2 .left)
-    (c .numbers-agree .result) (length (a .numbers .now)) (c .before .before .before .before .before .before .before .before .before .before .before .before .before .before .before .before .before .before .pre .1 .1 .1 .0) (c .numbers-agree .ensures)
+    let the-pieces-for = c .before .before .pieces-for in
+    let the-count-free = c .before .before .before .count-free in
+    let the-if1 = c .before .before .before .before .before .if1 in
+    let the-mark-names = c .before .before .before .before .before .before .before .before .mark-names in
+    let start = c .before .before .before .before .before .before .before .before .before .before .before .before .before .before .before .before .before .before in
+    let the-pre = start .pre in
+    let a = start .args in
+    numbers-decide (a .g) (a .map .now) (a .places .now) (a .numbers .now) (a .tail) (a .number) _ (the-mark-names .result) (the-mark-names .ensures) (the-if1 .left) (the-count-free .result) (the-pieces-for .result) (the-count-free .ensures) (the-pieces-for .ensures) (c .before .if2 .left)
+    (c .numbers-agree .result) (length (a .numbers .now)) (the-pre .1 .1 .1 .0) (c .numbers-agree .ensures)
 
 pub log-agrees-spec : {M : Type 1} → statement M
 log-agrees-spec =

@@ -35,10 +35,14 @@ rem-entry-at : tie.Need-rem-entry-at
 rem-entry-at c = search needs
 
 entry-at-requires : tie.Need-entry-at-requires
-entry-at-requires c κs = let a = c .before .before .before .before .args in (ap length (c .sector .ensures) ∙ sector-length (a .image .now) (at (a .places .now) (pieceOf (a .block))) (c .before .before .before .before .pre .1), omega arith)
+entry-at-requires c κs =
+    let the-pre = c .before .before .before .before .pre in
+    let a = c .before .before .before .before .args in (ap length (c .sector .ensures) ∙ sector-length (a .image .now) (at (a .places .now) (pieceOf (a .block))) (the-pre .1), omega arith)
 
 returns : tie.Need-returns
-returns c = c .entry-at .ensures ∙ ap (λ (x : List ℕ). at (entryWords (wordsOf x)) (indexOf (c .before .before .before .before .before .args .block))) (c .before .sector .ensures)
+returns c =
+    let the-args = c .before .before .before .before .before .args in
+    c .entry-at .ensures ∙ ap (λ (x : List ℕ). at (entryWords (wordsOf x)) (indexOf (the-args .block))) (c .before .sector .ensures)
 
 pub entry-in-spec : {M : Type 1} → statement M
 entry-in-spec =

@@ -24,39 +24,29 @@ loop-holds c = let a = c .before .before .before .args in filled-none (λ b. at 
 
 entry-in-requires : tie.Need-entry-in-requires Inv-loop μ-loop
 entry-in-requires c κs =
+    let the-pre = c .before .before .before .before .before .pre in
     let a = c .before .before .before .before .before .args in
     let l = c .before .loop in
     let e = filled-length (λ b. at (entryWords (wordsOf (sectorAt (a .image .now) (at (a .places .now) (pieceOf b))))) (indexOf b)) (a .map .now) (l .b) (l .map) (l .inv) in
     let t = c .loop-test .taken in
-    let h = c .before .before .before .before .before .pre .0 in
+    let h = the-pre .0 in
     let p : pieceOf (l .b) < length (a .places .now) = omega arith in
-    (p, c .before .before .before .before .before .pre .1 (pieceOf (l .b)) p)
+    (p, the-pre .1 (pieceOf (l .b)) p)
 
 mul-map : tie.Need-mul-map Inv-loop μ-loop
-mul-map c =
-    let a = c .before .before .before .before .before .before .args in
-    let l = c .before .before .loop in
-    let e = filled-length (λ b. at (entryWords (wordsOf (sectorAt (a .image .now) (at (a .places .now) (pieceOf b))))) (indexOf b)) (a .map .now) (l .b) (l .map) (l .inv) in
-    let t = c .before .loop-test .taken in
-    omega arith
+mul-map c = omega arith
 
 slice-write-map : tie.Need-slice-write-map Inv-loop μ-loop
-slice-write-map c =
-    let a = c .before .before .before .before .before .before .args in
-    let l = c .before .before .loop in
-    let e = filled-length (λ b. at (entryWords (wordsOf (sectorAt (a .image .now) (at (a .places .now) (pieceOf b))))) (indexOf b)) (a .map .now) (l .b) (l .map) (l .inv) in
-    let t = c .before .loop-test .taken in
-    omega arith
+slice-write-map c = omega arith
 
 add-b : tie.Need-add-b Inv-loop μ-loop
-add-b c = let t = c .before .loop-test .taken in omega arith
+add-b c = omega arith
 
 loop-less : tie.Need-loop-less Inv-loop μ-loop
 loop-less c =
     let a = c .before .before .before .before .before .before .args in
     let l = c .before .before .loop in
     let e = filled-length (λ b. at (entryWords (wordsOf (sectorAt (a .image .now) (at (a .places .now) (pieceOf b))))) (indexOf b)) (a .map .now) (l .b) (l .map) (l .inv) in
-    let t = c .before .loop-test .taken in
     omega arith
 
 loop-again : tie.Need-loop-again Inv-loop μ-loop
@@ -64,8 +54,10 @@ loop-again c =
     let a = c .before .before .before .before .before .before .args in
     let l = c .before .before .loop in
     let e = filled-length (λ b. at (entryWords (wordsOf (sectorAt (a .image .now) (at (a .places .now) (pieceOf b))))) (indexOf b)) (a .map .now) (l .b) (l .map) (l .inv) in
-    let t = c .before .loop-test .taken in
-    subst (λ (x : ℕ). Filled (λ b. at (entryWords (wordsOf (sectorAt (a .image .now) (at (a .places .now) (pieceOf b))))) (indexOf b)) (a .map .now) (l .b + 1) (set (l .map) (l .b) x)) (sym (c .entry-in .ensures)) (filled-more (λ b. at (entryWords (wordsOf (sectorAt (a .image .now) (at (a .places .now) (pieceOf b))))) (indexOf b)) (a .map .now) (l .b) (l .map) (omega arith) (l .inv))
+    subst (λ (x : ℕ). Filled (λ b. at (entryWords (wordsOf (sectorAt (a .image .now)
+    (at (a .places .now) (pieceOf b))))) (indexOf b)) (a .map .now) (l .b + 1) (set (l .map) (l .b) x)) (sym (c .entry-in .ensures))
+    (filled-more (λ b. at (entryWords (wordsOf (sectorAt (a .image .now) (at
+    (a .places .now) (pieceOf b))))) (indexOf b)) (a .map .now) (l .b) (l .map) (omega arith) (l .inv))
 
 same-length : tie.Need-same-length Inv-loop μ-loop
 same-length c = let a = c .before .before .before .before .before .args in let l = c .before .loop in filled-length (λ b. at (entryWords (wordsOf (sectorAt (a .image .now) (at (a .places .now) (pieceOf b))))) (indexOf b)) (a .map .now) (l .b) (l .map) (l .inv)

@@ -1,5 +1,4 @@
 use Prim.Native.Nat.{_-_}
-use lib.ListN.{length}
 use borrow.Author.Needs.{needs}
 use Rattle.reference.proofs.calls.list_sectors.Statement.{statement}
 use Rattle.reference.proofs.calls.list_sectors.Tie as tie

@@ -1,5 +1,4 @@
 use Prim.Native.Nat.{_-_}
-use lib.ListN.{length}
 use borrow.Author.Needs.{needs}
 use Rattle.reference_commit.proofs.branches.follow_all.Statement.{statement}
 use Rattle.reference_commit.proofs.branches.follow_all.Tie as tie

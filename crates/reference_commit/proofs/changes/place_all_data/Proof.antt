@@ -1,5 +1,4 @@
 use Prim.Native.Nat.{_-_}
-use lib.ListN.{length}
 use borrow.Author.Needs.{needs}
 use Rattle.reference_commit.proofs.changes.place_all_data.Statement.{statement}
 use Rattle.reference_commit.proofs.changes.place_all_data.Tie as tie

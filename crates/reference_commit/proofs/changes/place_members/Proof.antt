@@ -1,5 +1,4 @@
 use Prim.Native.Nat.{_-_}
-use lib.ListN.{length}
 use borrow.Author.Needs.{needs}
 use Rattle.reference_commit.proofs.changes.place_members.Statement.{statement}
 use Rattle.reference_commit.proofs.changes.place_members.Tie as tie

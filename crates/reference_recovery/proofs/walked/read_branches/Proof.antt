@@ -1,5 +1,4 @@
 use Prim.Native.Nat.{_-_}
-use lib.ListN.{length}
 use borrow.Author.Needs.{needs}
 use Rattle.reference_recovery.proofs.walked.read_branches.Statement.{statement}
 use Rattle.reference_recovery.proofs.walked.read_branches.Tie as tie

@@ -1,5 +1,4 @@
 use Prim.Native.Nat.{_-_}
-use lib.ListN.{length}
 use borrow.Author.Needs.{needs}
 use Rattle.trial.proofs.cuts.cut_everywhere.Statement.{statement}
 use Rattle.trial.proofs.cuts.cut_everywhere.Tie as tie

@@ -1,5 +1,4 @@
 use Prim.Native.Nat.{_-_}
-use lib.ListN.{length}
 use borrow.Author.Needs.{needs}
 use Rattle.trial.proofs.cuts.cut_formats.Statement.{statement}
 use Rattle.trial.proofs.cuts.cut_formats.Tie as tie

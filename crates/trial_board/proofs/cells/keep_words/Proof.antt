@@ -1,5 +1,4 @@
 use Prim.Native.Nat.{_-_}
-use lib.ListN.{length}
 use borrow.Author.Needs.{needs}
 use Rattle.trial_board.proofs.cells.keep_words.Statement.{statement}
 use Rattle.trial_board.proofs.cells.keep_words.Tie as tie

@@ -1,5 +1,4 @@
 use Prim.Native.Nat.{_-_}
-use lib.ListN.{length}
 use borrow.Author.Needs.{needs}
 use Rattle.trial_choice.proofs.damage.damage_more.Statement.{statement}
 use Rattle.trial_choice.proofs.damage.damage_more.Tie as tie

@@ -1,11 +1,13 @@
 -- Past the end stands 0.
-use Rattle.live_sectors.proofs.LiveLaws.{past-end}
+use Rattle.laws.proofs.Bounded.{past-end}
 use borrow.Author.Needs.{needs}
-use Rattle.live_sectors.proofs.entry_of.Statement.{statement}
-use Rattle.live_sectors.proofs.entry_of.Tie as tie
+use Rattle.blocks.proofs.entry_of.Statement.{statement}
+use Rattle.blocks.proofs.entry_of.Tie as tie
 
 returns : tie.Need-returns
-returns c = past-end (c .before .args .map .now) (c .before .args .block) (c .if1 .taken)
+returns c =
+    let the-args = c .before .args in
+    past-end (the-args .map .now) (the-args .block) (c .if1 .taken)
 
 mul-result : tie.Need-mul-result
 mul-result c = search needs

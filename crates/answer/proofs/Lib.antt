@@ -1,0 +1,2 @@
+-- The order of the refusals, by their numbers.
+pub mod Order

@@ -1,0 +1,2 @@
+-- Volumes and settings by their numbers, for rows.
+pub mod Sized
