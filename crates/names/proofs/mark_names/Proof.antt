@@ -38,17 +38,19 @@ same-length c =
 
 returns : tie.Need-returns Inv-entries μ-entries
 returns c =
+    let the-args = c .before .before .before .before .before .before .before .before .before .before .before .before .args in
     let the-pre = c .before .before .before .before .before .before .before .before .before .before .before .before .pre in
     let m = c .before .before .before .mark-places in
-    places-refused _ _ _ _ (the-pre .1 .1 .1 .0) _ (m .result) (m .ensures) (c .if1 .taken)
+    places-refused (the-args .g) _ _ _ (the-pre .1 .1 .1 .0) _ (m .result) (m .ensures) (c .if1 .taken)
 
 entries-holds : tie.Need-entries-holds Inv-entries μ-entries
 entries-holds c =
+    let the-args = c .before .before .before .before .before .before .before .before .before .before .before .before .args in
     let the-pre = c .before .before .before .before .before .before .before .before .before .before .before .before .pre in
     let m = c .before .before .before .mark-places in (
       omega arith,
       refl,
-      entries-start _ _ _ _ (the-pre .1 .1 .1 .0) _ (m .result) (m .ensures) (c .if1 .left),
+      entries-start (the-args .g) _ _ _ (the-pre .1 .1 .1 .0) _ (m .result) (m .ensures) (c .if1 .left),
     )
 
 mul-entry : tie.Need-mul-entry Inv-entries μ-entries
@@ -65,8 +67,9 @@ entries-less c = omega arith
 
 entries-again : tie.Need-entries-again Inv-entries μ-entries
 entries-again c =
+    let the-args = c .before .before .before .before .before .before .before .before .before .before .before .before .before .before .before .before .args in
     let l = c .before .before .before .entries in
-    (omega arith, l .inv .1, entries-skip _ _ _ (l .i) (bitAt (l .marks)) (c .if2 .taken) (l .inv .2))
+    (omega arith, l .inv .1, entries-skip (the-args .g) _ _ (l .i) (bitAt (l .marks)) (c .if2 .taken) (l .inv .2))
 
 sector-of-requires : tie.Need-sector-of-requires Inv-entries μ-entries
 sector-of-requires c κs = search needs
@@ -86,11 +89,12 @@ same-length-2 c =
 
 returns-2 : tie.Need-returns-2 Inv-entries μ-entries
 returns-2 c =
+    let the-args = c .before .before .before .before .before .before .before .before .before .before .before .before .before .before .before .before .before .before .before .before .before .before .args in
     let the-if2 = c .before .before .before .before .before .before .if2 in
     let l = c .before .before .before .before .before .before .before .before .before .entries in
     let m = c .before .before .before .mark-name in
     let s = c .before .before .before .before .sector-of in
-    entry-refused _ _ _ (l .i) (bitAt (l .marks)) _ (m .result) (s .result)
+    entry-refused (the-args .g) _ _ (l .i) (bitAt (l .marks)) _ (m .result) (s .result)
     (the-if2 .left) (s .ensures) (l .inv .2) (m .ensures) (omega arith) (c .if3 .taken)
 
 add-i-2 : tie.Need-add-i-2 Inv-entries μ-entries
@@ -101,13 +105,14 @@ entries-less-2 c = omega arith
 
 entries-again-2 : tie.Need-entries-again-2 Inv-entries μ-entries
 entries-again-2 c =
+    let the-args = c .before .before .before .before .before .before .before .before .before .before .before .before .before .before .before .before .before .before .before .before .before .before .args in
     let the-if2 = c .before .before .before .before .before .before .if2 in
     let l = c .before .before .before .before .before .before .before .before .before .entries in
     let m = c .before .before .before .mark-name in
     let s = c .before .before .before .before .sector-of in (
       omega arith,
       m .kept .0 ∙ l .inv .1,
-      entry-marks _ _ _ (l .i) (bitAt (l .marks)) _ (m .result) (s .result)
+      entry-marks (the-args .g) _ _ (l .i) (bitAt (l .marks)) _ (m .result) (s .result)
           (the-if2 .left) (s .ensures) (l .inv .2) (m .ensures) (c .if3 .left),
     )
 

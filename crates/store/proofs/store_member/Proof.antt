@@ -75,7 +75,11 @@ mul-store-map : tie.Need-mul-store-map
 mul-store-map c = search needs
 
 shared-slice-read-store-map : tie.Need-shared-slice-read-store-map
-shared-slice-read-store-map c = search needs
+shared-slice-read-store-map c =
+    let the-pre = c .before .before .before .before .before .before .before .before .before .before .before .before .before .pre in
+    let all = the-pre .1 .1 .1 .1 .1 .0 in
+    let below = the-pre .1 .1 .1 .1 .1 .1 .1 .1 .0 in
+    omega arith
 
 add-store-map : tie.Need-add-store-map
 add-store-map c =
