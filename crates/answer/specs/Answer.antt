@@ -10,16 +10,19 @@ use Rattle.answer.specs.declared.Cost.{Cost}
 use Rattle.answer.specs.declared.Answer.{Answer}
 use Rattle.answer.specs.declared.Answer.the-variants.{Accepted, Walked, Scanned, Refused, Lost, PowerFailed}
 
--- The order in which every call judges: of the refusals that apply, the first is returned. Sizes, lengths and numbers that the
--- caller hands in come first, and then how the volume stands.
-abbrev pub given : List Refusal
-given = Size ∷ BufferLength ∷ BlockNumbers ∷ []
+-- The order in which every call judges: of the refusals that apply, the first is returned. Sizes and lengths of what is lent come
+-- first, then the numbers that the caller hands in, and then how the volume stands.
+abbrev pub lengths : List Refusal
+lengths = Size ∷ BufferLength ∷ []
+
+abbrev pub named : List Refusal
+named = BlockNumbers ∷ []
 
 abbrev pub standing : List Refusal
 standing = WrongPhase ∷ Inconsistent ∷ NoRoom ∷ NumbersUsedUp ∷ []
 
 abbrev pub order : List Refusal
-order = given ++ standing
+order = lengths ++ named ++ standing
 
 abbrev pub refusalNumber : Refusal → ℕ
 refusalNumber Size = 1

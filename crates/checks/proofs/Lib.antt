@@ -1,3 +1,3 @@
 -- Laws that this crate's proofs cite, and its callers' may.
-pub mod TestLaws
+pub mod StateLaws
 pub mod SizeLaws

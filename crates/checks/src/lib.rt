@@ -5,8 +5,10 @@ ghost use Prim.Native.Nat.{_*_, _/_, _%_};
 ghost use lib.Dec.{eqb};
 ghost use Rattle.geometry.specs.Geometry.{sectorBytes, piecesFor, usedBytes, geometryOf, geometryFits};
 ghost use Rattle.layout.specs.Bounded.{isZero};
-ghost use Rattle.volume.specs.Refusals.{judged};
+ghost use Rattle.answer.specs.Answer.{lengths};
+ghost use Rattle.volume.specs.Refusals.{firstOf, judged};
 ghost use Rattle.volume.specs.Format.{sizeChecks};
+ghost use Rattle.volume.specs.Calls.{stateChecks};
 ghost use Rattle.checks.specs.Left.{lent};
 use answer::Refusal;
 use answer::Verdict;
@@ -15,7 +17,7 @@ use geometry::Settings;
 use state::State;
 
 // Refusal 1 of a call on a state: N and L are in range, and the image has N sectors.
-pub fn state_fits(s: State, image: usize) -> bool
+fn state_fits(s: State, image: usize) -> bool
     ensures { λ r. ⌜ r ≡ (eqb image (sectorBytes * s .geometry .n) && geometryFits (s .geometry)) ⌝ }
 {
     let g = s.geometry;
@@ -26,7 +28,7 @@ pub fn state_fits(s: State, image: usize) -> bool
 }
 
 // Refusal 2: the tables have their lengths.
-pub fn tables_fit(g: Geometry, map: usize, places: usize, numbers: usize, used: usize) -> bool
+fn tables_fit(g: Geometry, map: usize, places: usize, numbers: usize, used: usize) -> bool
     ensures { λ r. ⌜ r ≡ (eqb map (g .l) && eqb places (piecesFor (g .l)) && eqb numbers (piecesFor (g .l)) && eqb used (usedBytes (g .n))) ⌝ }
 {
     if map != g.l as usize {
@@ -40,6 +42,31 @@ pub fn tables_fit(g: Geometry, map: usize, places: usize, numbers: usize, used: 
         return false;
     }
     used == g.used_bytes() as usize
+}
+
+// The refusals that every call on a state begins with, by the lengths of what is lent; own says so of the call's own buffer.
+pub fn state_verdict(
+    s: State,
+    image: usize,
+    map: usize,
+    places: usize,
+    numbers: usize,
+    used: usize,
+    own: bool,
+) -> Verdict
+    ensures { λ r. ⌜ r ≡ firstOf lengths (stateChecks s (lent image map places numbers used) own) ⌝ }
+{
+    if !state_fits(s, image) {
+        return Verdict::Refuse(Refusal::Size);
+    }
+    let g = s.geometry;
+    if !tables_fit(g, map, places, numbers, used) {
+        return Verdict::Refuse(Refusal::BufferLength);
+    }
+    if !own {
+        return Verdict::Refuse(Refusal::BufferLength);
+    }
+    Verdict::Pass
 }
 
 // The image is whole sectors, and their number and what is given are in range.

@@ -2,12 +2,12 @@
 use Prim.Native.Nat.{ℕ, suc, _+_, _-_, _≤_, _<_, _^_}
 use mathlib.Core.Path.{_≡_, refl, sym, _∙_, ap, subst}
 use mathlib.Core.Logic.{_⊎_, ⊎-elim}
-use mathlib.Core.Bool.{Bool, true, false}
+use mathlib.Core.Bool.{Bool, true, false, not}
 use mathlib.Core.List.{List, [], _++_}
 use native.Mathlib.Omega.{arith}
 use lib.ListN.{length, take, drop, replicate, length-append, length-drop, length-replicate, List·getD-append}
-use lib.Seq.{getD-append-add, getD-drop}
-use lib.Dec.{eqb}
+use lib.Seq.{getD-append-add, getD-drop, length-take-le}
+use lib.Dec.{eqb, ltb}
 use borrow.Author.Tests.{eq-eqb, ne-eqb}
 use Rattle.laws.proofs.Filling.{zeros-get}
 use Rattle.state.specs.declared.State.{State}
@@ -15,10 +15,12 @@ use Rattle.geometry.specs.Geometry.{piecesFor, pieceOf}
 use Rattle.layout.specs.Bounded.{at, countBelow, isZero, listFrom}
 use Rattle.layout.specs.MapSector.{View}
 use Rattle.layout.specs.Entry.{isEmpty, sectorOf, stored, entryFor}
-use Rattle.volume.specs.Tables.{bitAt, sectorAt, tablesOf, usedBy, freeSectors}
+use Rattle.volume.specs.Tables.{bitAt, memory, sectorAt, tablesOf, usedBy, freeSectors}
 use Rattle.volume.specs.Placing.{base, placeOf}
 use Rattle.volume.specs.Commit.{Plan, touches, branchesFor, planned, planAction, commitAction}
-use Rattle.volume.specs.Calls.{viewOf, writeChange, dropChange}
+use Rattle.answer.specs.declared.Verdict.the-variants.{Pass}
+use Rattle.volume.specs.Refusals.{judged}
+use Rattle.volume.specs.Calls.{viewOf, commitChecks, writeChange, dropChange}
 use Rattle.laws.proofs.Bounded.{or-r, cond-true, cond-false, tabled-at, tabled-past, anyBelow-is, count-before, count-le, length-listFrom, listFrom-at}
 use Rattle.laws.proofs.Codec.{entry-sector, entry-full}
 use Rattle.laws.proofs.Names.{sound}
@@ -27,11 +29,15 @@ use Rattle.laws.proofs.Sizes.{Fits, fits}
 use Rattle.pieces.specs.Arrays.{flagged, planOf, changeOf, Settling, Planning}
 use Rattle.plan.proofs.PlanLaws.{listing-any}
 use Rattle.commit.specs.Commit.{changeWith, changeBy}
-use Rattle.verdict.proofs.CommitChecks.{Passed}
+use Rattle.verdict.proofs.CommitChecks.{Passed, passed}
 use Rattle.commit.proofs.CommitLaws.{action-plan, action-change}
 
-module _ (s : State) (im mp pl nu us : List ℕ) (head : ℕ) (blocks bytes : List ℕ) (count : ℕ) (p : Passed s im mp pl nu us head blocks count)
+module _ (s : State) (im mp pl nu us : List ℕ) (head : ℕ) (blocks : List ℕ) (count : ℕ)
+    (pass : Pass ≡ judged (commitChecks base s (memory im mp pl nu us) head blocks true (not (ltb (freeSectors (s .geometry .n) (bitAt us)) (count + piecesFor (s .geometry .l))))))
     (how : (count ≡ 0) ⊎ (count ≡ length blocks)) where
+  p : Passed s im mp pl nu us head blocks count
+  p = passed s im mp pl nu us head blocks count pass
+
   abbrev view : View
   view = viewOf (s .geometry) (sectorAt im)
 
@@ -41,8 +47,11 @@ module _ (s : State) (im mp pl nu us : List ℕ) (head : ℕ) (blocks bytes : Li
   fit : Fits (s .geometry)
   fit = fits (s .geometry) (p .range)
 
-  pub few-data : count ≤ length blocks
+  few-data : count ≤ length blocks
   few-data = ⊎-elim (λ (e : count ≡ 0). omega arith) (λ (e : count ≡ length blocks). omega arith) how
+
+  pub few-blocks : count ≤ 64
+  few-blocks = let few = few-data in let high = p .high in omega arith
 
   written-in : (q : ℕ) → q < piecesFor (s .geometry .l) → touches blocks q ≡ true → the-plan .written q ≡ true
   unfolding planned
@@ -131,8 +140,11 @@ module _ (s : State) (im mp pl nu us : List ℕ) (head : ℕ) (blocks bytes : Li
     pub ts-enough : count ≤ length ts
     ts-enough = let e = ts-length in omega arith
 
+    pub ts-all : length taken ≡ 320 → count + members ≡ length ts
+    ts-all e = let h = total-few in sym (length-take-le (count + members) taken (omega arith)) ∙ ap length (sym slice)
+
     -- The new entries: those of the data sectors, then zeros.
-    module _ (news : List ℕ) (new : news ≡ listFrom (λ i. entryFor (sectorAt bytes i) (at ts i)) 0 count ++ drop count (replicate 64 0)) where
+    module _ (bytes news : List ℕ) (new : news ≡ listFrom (λ i. entryFor (sectorAt bytes i) (at ts i)) 0 count ++ drop count (replicate 64 0)) where
       news-length : length news ≡ 64
       news-length =
           let k = few-data in

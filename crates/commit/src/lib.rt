@@ -2,12 +2,12 @@
 ghost use mathlib.Core.Path.{_≡_};
 ghost use mathlib.Core.Logic.{_⊎_};
 ghost use mathlib.Core.Bool.{true, not};
-ghost use Prim.Native.Nat.{_+_, _*_, _≤_};
+ghost use Prim.Native.Nat.{_+_, _-_, _*_, _≤_};
 ghost use lib.ListN.{length};
 ghost use lib.Dec.{ltb};
 ghost use Rattle.geometry.specs.Geometry.{sectorBytes, branchRoom, piecesFor, usedBytes, geometryFits};
 ghost use Rattle.answer.specs.declared.Verdict.the-variants.{Pass};
-ghost use Rattle.layout.specs.Bounded.{countBelow};
+ghost use Rattle.layout.specs.Bounded.{at, countBelow};
 ghost use Rattle.volume.specs.Tables.{bitAt, sectorAt, memory, tablesOf, freeSectors, consistent};
 ghost use Rattle.volume.specs.Refusals.{judged};
 ghost use Rattle.volume.specs.Store.{after, performed};
@@ -20,6 +20,14 @@ use answer::Answer;
 use power::allowance::Power;
 use state::Outcome;
 use state::State;
+
+// The last member's sector is the new tail.
+fn last_of(taken: &[u32]) -> u32
+    requires { ⌜ 1 ≤ length (now taken) ⌝ }
+    ensures { λ r. ⌜ r ≡ at (now (taken .entry)) (length (now (taken .entry)) - 1) ⌝ }
+{
+    taken[taken.len() - 1]
+}
 
 // Stores a planned commit, and changes the tables when all was stored.
 fn carry_out(
@@ -85,7 +93,7 @@ fn carry_out(
                 count as usize,
                 written,
             );
-            let tail = taken[taken.len() - 1];
+            let tail = last_of(taken);
             let number = s.number + members;
             let stores = allowance - left;
             Outcome {
@@ -135,7 +143,8 @@ pub fn commit(
     let members = sizes.members;
     let first = sizes.branches;
     let total = (count + members) as usize;
-    entries::entries_for(bytes, &taken[..total], count as usize, &mut news);
+    let sectors = &taken[..total];
+    entries::entries_for(bytes, sectors, count as usize, &mut news);
     carry_out(
         s,
         image,
@@ -146,7 +155,7 @@ pub fn commit(
         blocks,
         bytes,
         &news,
-        &taken[..total],
+        sectors,
         count,
         &branches[..first],
         &written,

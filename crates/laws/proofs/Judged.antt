@@ -16,7 +16,7 @@ use Rattle.answer.specs.declared.Answer.the-variants.{PowerFailed}
 use Rattle.answer.specs.declared.Verdict.{Verdict}
 use Rattle.answer.specs.declared.Verdict.the-variants.{Pass, Refuse}
 use Rattle.state.specs.State.{cutState}
-use Rattle.answer.specs.Answer.{given, standing, order, refusalNumber, lossNumber}
+use Rattle.answer.specs.Answer.{lengths, named, standing, order, refusalNumber, lossNumber}
 use Rattle.layout.specs.Bounded.{isZero}
 use Rattle.volume.specs.Tables.{Memory}
 use Rattle.volume.specs.Refusals.{Check, applies, firstOf, judged}
@@ -88,13 +88,23 @@ first-of-both (q ∷ qs) rs checks =
     (λ (z : applies q checks ≡ false). (λ r e. rw z (first-of-both qs rs checks .0 r (rw z at e)), λ e. rw z (first-of-both qs rs checks .1 (rw z at e))))
     (bool? (applies q checks))
 
-pub given-refused : (checks : List Check) (r : Refusal) → Refuse r ≡ firstOf given checks → Refuse r ≡ judged checks
-unfolding judged
-given-refused checks r e = sym (first-of-both given standing checks .0 r (sym e))
+part-refused : (qs rs : List Refusal) (checks : List Check) (r : Refusal) → Refuse r ≡ firstOf qs checks → Refuse r ≡ firstOf (qs ++ rs) checks
+part-refused qs rs checks r e = sym (first-of-both qs rs checks .0 r (sym e))
 
-pub given-passed : (checks : List Check) (v : Verdict) → Pass ≡ firstOf given checks → v ≡ firstOf standing checks → v ≡ judged checks
+pub part-passed : (qs rs : List Refusal) (checks : List Check) (v : Verdict) → Pass ≡ firstOf qs checks → v ≡ firstOf rs checks → v ≡ firstOf (qs ++ rs) checks
+part-passed qs rs checks v e f = f ∙ sym (first-of-both qs rs checks .1 (sym e))
+
+-- The refusals by lengths first, and then the rest.
+abbrev pub later : List Refusal
+later = named ++ standing
+
+pub lengths-refused : (checks : List Check) (r : Refusal) → Refuse r ≡ firstOf lengths checks → Refuse r ≡ judged checks
 unfolding judged
-given-passed checks v e f = f ∙ sym (first-of-both given standing checks .1 (sym e))
+lengths-refused checks r e = part-refused lengths later checks r e
+
+pub lengths-passed : (checks : List Check) (v : Verdict) → Pass ≡ firstOf lengths checks → v ≡ firstOf later checks → v ≡ judged checks
+unfolding judged
+lengths-passed checks v e f = part-passed lengths later checks v e f
 
 -- A call that passes: none of its checks applies, each looked up by its refusal.
 pub cleared : (r : Refusal) (checks : List Check) → judged checks ≡ Pass → applies r checks ≡ false

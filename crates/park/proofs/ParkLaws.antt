@@ -2,16 +2,16 @@
 use Prim.Native.Nat.{ℕ, _≤_}
 use mathlib.Core.Path.{_≡_, refl, sym, _∙_, ap}
 use mathlib.Core.Bool.{Bool, true, false, not}
-use mathlib.Core.List.{List}
+use mathlib.Core.List.{List, []}
 use native.Mathlib.Omega.{arith}
 use lib.ListN.{length, take}
 use borrow.Author.Tests.{not-true, not-false}
 use Rattle.state.specs.declared.State.{State}
 use Rattle.answer.specs.declared.Refusal.{Refusal}
-use Rattle.answer.specs.Answer.{storesAlone}
+use Rattle.answer.specs.Answer.{lengths, storesAlone}
 use Rattle.answer.specs.declared.Answer.{Answer}
 use Rattle.answer.specs.declared.Answer.the-variants.{Accepted, Refused, PowerFailed}
-use Rattle.answer.specs.declared.Refusal.the-variants.{Size, BufferLength, WrongPhase, Inconsistent}
+use Rattle.answer.specs.declared.Refusal.the-variants.{Size, WrongPhase, Inconsistent}
 use Rattle.answer.specs.declared.Verdict.{Verdict}
 use Rattle.answer.specs.declared.Verdict.the-variants.{Pass, Refuse}
 use Rattle.state.specs.State.{parkedState, cutState, isRunning}
@@ -21,48 +21,47 @@ use Rattle.volume.specs.Tables.{memory, sectorAt}
 use Rattle.volume.specs.Refusals.{applies, firstOf, judged}
 use Rattle.volume.specs.Store.{applied, after, memoryWith, performed, unlessRefused}
 use Rattle.volume.specs.Format.{tablesFit}
-use Rattle.volume.specs.Calls.{stateFits, tablesAgree, parkChecks, parkAction, parkOf}
+use Rattle.volume.specs.Calls.{stateFits, stateChecks, tablesAgree, parkChecks, parkAction, parkOf}
 use Rattle.laws.proofs.Sizes.{fits, state-fits}
-use Rattle.laws.proofs.Judged.{cleared, performed-cut, performed-whole}
-use Rattle.checks.proofs.TestLaws.{StateTest, TablesTest}
+use Rattle.laws.proofs.Judged.{cleared, later, performed-cut, performed-whole}
+use Rattle.checks.specs.Left.{lent}
+use Rattle.checks.proofs.StateLaws.{refused-by-lengths, passed-by-lengths, sizes-passed, tables-passed}
 use Rattle.power.proofs.Performing.{memory-left}
 
-module _ (s : State) (im mp pl nu us : List ℕ) (b1 : Bool) (f1 : StateTest s im b1) where
+-- The verdict on the lengths is v.
+module _ (s : State) (im mp pl nu us : List ℕ) (v : Verdict)
+    (f : v ≡ firstOf lengths (stateChecks s (lent (length im) (length mp) (length pl) (length nu) (length us)) true)) where
   abbrev verdict : Verdict
   verdict = judged (parkChecks s (memory im mp pl nu us))
 
-  pub size-refused : not b1 ≡ true → Refuse Size ≡ verdict
-  unfolding parkChecks stateFits memory judged firstOf applies
-  size-refused e = rw (sym f1 ∙ not-true b1 e) refl
+  pub lengths-refused : (r : Refusal) → v ≡ Refuse r → Refuse r ≡ verdict
+  unfolding parkChecks
+  lengths-refused r e = refused-by-lengths s im mp pl nu us true _ v f r e
 
-  pub state-passed : not b1 ≡ false → stateFits s (memory im mp pl nu us) ≡ true
-  unfolding stateFits memory
-  state-passed e = sym f1 ∙ not-false b1 e
+  module _ (e : v ≡ Pass) where
+    pub state-passed : stateFits s (memory im mp pl nu us) ≡ true
+    state-passed = sizes-passed s im mp pl nu us true [] v f e
 
-  module _ (e1 : not b1 ≡ false) (b2 : Bool) (f2 : TablesTest s mp pl nu us b2) where
-    pub lengths-refused : not b2 ≡ true → Refuse BufferLength ≡ verdict
-    unfolding parkChecks stateFits tablesFit memory judged firstOf applies
-    lengths-refused e = rw (sym f1 ∙ not-false b1 e1, sym f2 ∙ not-true b2 e) refl
+    pub lengths-passed : tablesFit (memory im mp pl nu us) (s .geometry) ≡ true
+    lengths-passed = tables-passed s im mp pl nu us true [] v f e
 
-    pub lengths-passed : not b2 ≡ false → tablesFit (memory im mp pl nu us) (s .geometry) ≡ true
-    unfolding tablesFit memory
-    lengths-passed e = sym f2 ∙ not-false b2 e
+    then : (w : Verdict) → w ≡ firstOf later (parkChecks s (memory im mp pl nu us)) → w ≡ verdict
+    unfolding parkChecks
+    then w k = passed-by-lengths s im mp pl nu us true _ v f e w k
 
-    module _ (e2 : not b2 ≡ false) (b3 : Bool) (f3 : b3 ≡ isRunning (s .phase)) where
+    module _ (b3 : Bool) (f3 : b3 ≡ isRunning (s .phase)) where
       pub phase-refused : not b3 ≡ true → Refuse WrongPhase ≡ verdict
-      unfolding parkChecks stateFits tablesFit memory judged firstOf applies
-      phase-refused e = rw (sym f1 ∙ not-false b1 e1, sym f2 ∙ not-false b2 e2, sym f3 ∙ not-true b3 e) refl
+      unfolding parkChecks firstOf applies
+      phase-refused e3 = then (Refuse WrongPhase) (rw (sym f3 ∙ not-true b3 e3) refl)
 
       module _ (e3 : not b3 ≡ false) (b4 : Bool) (f4 : b4 ≡ tablesAgree s (memory im mp pl nu us)) where
         pub tables-refused : not b4 ≡ true → Refuse Inconsistent ≡ verdict
-        unfolding parkChecks stateFits tablesFit memory judged firstOf applies
-        tables-refused e =
-            rw (sym f1 ∙ not-false b1 e1, sym f2 ∙ not-false b2 e2, sym f3 ∙ not-false b3 e3, sym f4 ∙ not-true b4 e) refl
+        unfolding parkChecks firstOf applies
+        tables-refused e4 = then (Refuse Inconsistent) (rw (sym f3 ∙ not-false b3 e3, sym f4 ∙ not-true b4 e4) refl)
 
         pub none-refused : not b4 ≡ false → Pass ≡ verdict
-        unfolding parkChecks stateFits tablesFit memory judged firstOf applies
-        none-refused e =
-            rw (sym f1 ∙ not-false b1 e1, sym f2 ∙ not-false b2 e2, sym f3 ∙ not-false b3 e3, sym f4 ∙ not-false b4 e) refl
+        unfolding parkChecks firstOf applies
+        none-refused e4 = then Pass (rw (sym f3 ∙ not-false b3 e3, sym f4 ∙ not-false b4 e4) refl)
 
 -- There is a sector 0.
 pub first-sector : (s : State) (im mp pl nu us : List ℕ) → Pass ≡ judged (parkChecks s (memory im mp pl nu us)) → 512 ≤ length im

@@ -22,20 +22,27 @@ fn park_verdict(
 ) -> Verdict
     ensures { λ r. ⌜ r ≡ judged (parkChecks s (memory (now (image .entry)) (now (map .entry)) (now (places .entry)) (now (numbers .entry)) (now (used .entry)))) ⌝ }
 {
-    if !checks::state_fits(s, image.len()) {
-        return Verdict::Refuse(Refusal::Size);
+    let lengths = checks::state_verdict(
+        s,
+        image.len(),
+        map.len(),
+        places.len(),
+        numbers.len(),
+        used.len(),
+        true,
+    );
+    match lengths {
+        Verdict::Refuse(refusal) => Verdict::Refuse(refusal),
+        Verdict::Pass => {
+            if !s.is_running() {
+                return Verdict::Refuse(Refusal::WrongPhase);
+            }
+            if !live_sectors::tables_agree(s, image, map, places, numbers, used) {
+                return Verdict::Refuse(Refusal::Inconsistent);
+            }
+            Verdict::Pass
+        }
     }
-    let g = s.geometry;
-    if !checks::tables_fit(g, map.len(), places.len(), numbers.len(), used.len()) {
-        return Verdict::Refuse(Refusal::BufferLength);
-    }
-    if !s.is_running() {
-        return Verdict::Refuse(Refusal::WrongPhase);
-    }
-    if !live_sectors::tables_agree(s, image, map, places, numbers, used) {
-        return Verdict::Refuse(Refusal::Inconsistent);
-    }
-    Verdict::Pass
 }
 
 // Stores the park record.

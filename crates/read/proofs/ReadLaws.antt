@@ -3,32 +3,32 @@ use Prim.Native.Nat.{ℕ, _*_, _+_, _-_, _≤_, _<_}
 use mathlib.Core.Path.{_≡_, refl, sym, _∙_, ap}
 use mathlib.Core.Logic.{⊎-elim}
 use mathlib.Core.Bool.{Bool, true, false, not, _&&_}
-use mathlib.Core.List.{List}
+use mathlib.Core.List.{List, []}
 use native.Mathlib.Omega.{arith}
 use lib.ListN.{length}
 use lib.Dec.{eqb, ltb, leb}
-use borrow.Author.Tests.{eqb-true, eq-eqb, ne-eqb, lt-ltb, le-ltb, ltb-true, leb-true, le-leb, lt-leb, not-true, not-false}
+use borrow.Author.Tests.{eqb-true, ne-eqb, lt-ltb, le-ltb, ltb-true, leb-true, le-leb, lt-leb, not-true, not-false}
 use Rattle.state.specs.declared.State.{State}
 use Rattle.answer.specs.declared.Refusal.{Refusal}
-use Rattle.answer.specs.Answer.{storesAlone}
+use Rattle.answer.specs.Answer.{lengths, storesAlone}
 use Rattle.answer.specs.declared.Answer.{Answer}
 use Rattle.answer.specs.declared.Answer.the-variants.{Accepted, Refused}
 use Rattle.answer.specs.declared.Refusal.the-variants.{Size, BufferLength, BlockNumbers, WrongPhase, Inconsistent}
 use Rattle.answer.specs.declared.Verdict.{Verdict}
 use Rattle.answer.specs.declared.Verdict.the-variants.{Pass, Refuse}
-use Rattle.geometry.specs.Geometry.{within, piecesFor, usedBytes, geometryFits}
+use Rattle.geometry.specs.Geometry.{within}
 use Rattle.state.specs.State.{isReadable}
 use Rattle.layout.specs.Bounded.{at}
 use Rattle.layout.specs.Entry.{isEmpty, sectorOf, restored}
 use Rattle.volume.specs.Tables.{memory, sectorAt}
 use Rattle.volume.specs.Refusals.{applies, firstOf, judged}
 use Rattle.volume.specs.Format.{tablesFit}
-use Rattle.volume.specs.Calls.{stateFits, entryReadable, readChecks, blockOf, readJudged, readOf}
-use Rattle.checks.specs.Left.{readLeft}
+use Rattle.volume.specs.Calls.{stateFits, stateChecks, entryReadable, readChecks, blockOf, readJudged, readOf}
+use Rattle.checks.specs.Left.{readLeft, lent}
 use Rattle.laws.proofs.Bounded.{and-l, and-r, or-cases}
 use Rattle.laws.proofs.Sizes.{fits, state-fits, tables-fit}
-use Rattle.laws.proofs.Judged.{cleared}
-use Rattle.checks.proofs.TestLaws.{StateTest, TablesTest}
+use Rattle.laws.proofs.Judged.{cleared, later}
+use Rattle.checks.proofs.StateLaws.{refused-by-lengths, passed-by-lengths, sizes-passed, tables-passed}
 
 -- The test of one entry.
 pub entry-empty : (n entry : ℕ) → entry ≡ 0 → true ≡ entryReadable n entry
@@ -43,75 +43,47 @@ pub entry-high : (n entry : ℕ) → (entry ≡ 0 → ⊥) → (k : ℕ) → k �
 unfolding entryReadable
 entry-high n entry d k e h = rw (ne-eqb entry 0 d, ← e, le-leb 1 k h) refl
 
-module _ (s : State) (im mp pl nu us : List ℕ) (block out : ℕ) (b1 : Bool) (f1 : StateTest s im b1) where
+-- The verdict on the lengths is v.
+module _ (s : State) (im mp pl nu us : List ℕ) (block out : ℕ) (v : Verdict)
+    (f : v ≡ firstOf lengths (stateChecks s (lent (length im) (length mp) (length pl) (length nu) (length us)) (eqb out 512))) where
   abbrev verdict : Verdict
   verdict = judged (readChecks s (memory im mp pl nu us) block out)
 
-  pub size-refused : not b1 ≡ true → Refuse Size ≡ verdict
-  unfolding readChecks stateFits memory judged firstOf applies
-  size-refused e = rw (sym f1 ∙ not-true b1 e) refl
+  pub lengths-refused : (r : Refusal) → v ≡ Refuse r → Refuse r ≡ verdict
+  unfolding readChecks
+  lengths-refused r e = refused-by-lengths s im mp pl nu us (eqb out 512) _ v f r e
 
-  module _ (e1 : not b1 ≡ false) (b2 : Bool) (f2 : TablesTest s mp pl nu us b2) where
-    pub tables-refused : not b2 ≡ true → Refuse BufferLength ≡ verdict
-    unfolding readChecks stateFits tablesFit memory judged firstOf applies
-    tables-refused e = rw (sym f1 ∙ not-false b1 e1, sym f2 ∙ not-true b2 e) refl
+  module _ (e : v ≡ Pass) where
+    pub in-map : block < s .geometry .l → block < length mp
+    in-map h = let m = tables-fit im mp pl nu us (s .geometry) (tables-passed s im mp pl nu us (eqb out 512) [] v f e) .map in omega arith
 
-    module _ (e2 : not b2 ≡ false) where
-      pub out-refused : (out ≡ 512 → ⊥) → Refuse BufferLength ≡ verdict
-      unfolding readChecks stateFits tablesFit memory judged firstOf applies
-      out-refused e = rw (sym f1 ∙ not-false b1 e1, sym f2 ∙ not-false b2 e2, ne-eqb out 512 e) refl
+    pub some-sectors : 1 ≤ s .geometry .n
+    some-sectors =
+        let least = fits (s .geometry) (state-fits s im mp pl nu us (sizes-passed s im mp pl nu us (eqb out 512) [] v f e) .range) .least in
+        omega arith
 
-      pub block-refused : out ≡ 512 → s .geometry .l ≤ block → Refuse BlockNumbers ≡ verdict
-      unfolding readChecks stateFits tablesFit memory judged firstOf applies
-      block-refused e h = rw (sym f1 ∙ not-false b1 e1, sym f2 ∙ not-false b2 e2, eq-eqb out 512 e, le-ltb block (s .geometry .l) h) refl
+    then : (w : Verdict) → w ≡ firstOf later (readChecks s (memory im mp pl nu us) block out) → w ≡ verdict
+    unfolding readChecks
+    then w k = passed-by-lengths s im mp pl nu us (eqb out 512) _ v f e w k
 
-      module _ (e3 : out ≡ 512) (h : block < s .geometry .l) (b3 : Bool) (f3 : b3 ≡ isReadable (s .phase)) where
-        pub phase-refused : not b3 ≡ true → Refuse WrongPhase ≡ verdict
-        unfolding readChecks stateFits tablesFit memory judged firstOf applies
-        phase-refused e =
-            rw (sym f1 ∙ not-false b1 e1, sym f2 ∙ not-false b2 e2, eq-eqb out 512 e3, lt-ltb block (s .geometry .l) h, sym f3 ∙ not-true b3 e) refl
+    pub block-refused : s .geometry .l ≤ block → Refuse BlockNumbers ≡ verdict
+    unfolding readChecks firstOf applies
+    block-refused h = then (Refuse BlockNumbers) (rw (le-ltb block (s .geometry .l) h) refl)
 
-        module _ (e4 : not b3 ≡ false) (b4 : Bool) (f4 : b4 ≡ entryReadable (s .geometry .n) (at mp block)) where
-          pub entry-refused : not b4 ≡ true → Refuse Inconsistent ≡ verdict
-          unfolding readChecks stateFits tablesFit memory judged firstOf applies
-          entry-refused e =
-              rw (
-                sym f1 ∙ not-false b1 e1,
-                sym f2 ∙ not-false b2 e2,
-                eq-eqb out 512 e3,
-                lt-ltb block (s .geometry .l) h,
-                sym f3 ∙ not-false b3 e4,
-                sym f4 ∙ not-true b4 e,
-              )
-              refl
+    module _ (h : block < s .geometry .l) (b3 : Bool) (f3 : b3 ≡ isReadable (s .phase)) where
+      pub phase-refused : not b3 ≡ true → Refuse WrongPhase ≡ verdict
+      unfolding readChecks firstOf applies
+      phase-refused e3 = then (Refuse WrongPhase) (rw (lt-ltb block (s .geometry .l) h, sym f3 ∙ not-true b3 e3) refl)
 
-          pub none-refused : not b4 ≡ false → Pass ≡ verdict
-          unfolding readChecks stateFits tablesFit memory judged firstOf applies
-          none-refused e =
-              rw (
-                sym f1 ∙ not-false b1 e1,
-                sym f2 ∙ not-false b2 e2,
-                eq-eqb out 512 e3,
-                lt-ltb block (s .geometry .l) h,
-                sym f3 ∙ not-false b3 e4,
-                sym f4 ∙ not-false b4 e,
-              )
-              refl
+      module _ (e3 : not b3 ≡ false) (b4 : Bool) (f4 : b4 ≡ entryReadable (s .geometry .n) (at mp block)) where
+        pub entry-refused : not b4 ≡ true → Refuse Inconsistent ≡ verdict
+        unfolding readChecks firstOf applies memory
+        entry-refused e4 =
+            then (Refuse Inconsistent) (rw (lt-ltb block (s .geometry .l) h, sym f3 ∙ not-false b3 e3, sym f4 ∙ not-true b4 e4) refl)
 
-  -- The map has L words.
-  pub map-length : not b1 ≡ false → (b2 : Bool) → TablesTest s mp pl nu us b2 → not b2 ≡ false → length mp ≡ s .geometry .l
-  map-length e1 b2 f2 e2 =
-      let c1 = eqb (length mp) (s .geometry .l) in
-      let c2 = eqb (length pl) (piecesFor (s .geometry .l)) in
-      let c3 = eqb (length nu) (piecesFor (s .geometry .l)) in
-      let c4 = eqb (length us) (usedBytes (s .geometry .n)) in
-      eqb-true (length mp) (s .geometry .l) (and-l c1 c2 (and-l (c1 && c2) c3 (and-l (c1 && c2 && c3) c4 (sym f2 ∙ not-false b2 e2))))
-
-  pub some-sectors : not b1 ≡ false → 1 ≤ s .geometry .n
-  some-sectors e =
-      let f = fits (s .geometry) (and-r (eqb (length im) (512 * s .geometry .n)) (geometryFits (s .geometry)) (sym f1 ∙ not-false b1 e)) in
-      let z = f .least in
-      omega arith
+        pub none-refused : not b4 ≡ false → Pass ≡ verdict
+        unfolding readChecks firstOf applies memory
+        none-refused e4 = then Pass (rw (lt-ltb block (s .geometry .l) h, sym f3 ∙ not-false b3 e3, sym f4 ∙ not-false b4 e4) refl)
 
 -- What a read that meets no refusal relies on.
 pub record Readable (im mp : List ℕ) (block out : ℕ) : Type 0 where

@@ -12,6 +12,7 @@ ghost use Rattle.answer.specs.declared.Verdict.the-variants.{Pass};
 use answer::Answer;
 use answer::Refusal;
 use answer::Verdict;
+use geometry::Geometry;
 use state::Outcome;
 use state::State;
 
@@ -43,26 +44,31 @@ fn read_verdict(
 ) -> Verdict
     ensures { λ r. ⌜ r ≡ judged (readChecks s (memory (now (image .entry)) (now (map .entry)) (now (places .entry)) (now (numbers .entry)) (now (used .entry))) block out) ⌝ }
 {
-    if !checks::state_fits(s, image.len()) {
-        return Verdict::Refuse(Refusal::Size);
+    let lengths = checks::state_verdict(
+        s,
+        image.len(),
+        map.len(),
+        places.len(),
+        numbers.len(),
+        used.len(),
+        out == Geometry::SECTOR,
+    );
+    match lengths {
+        Verdict::Refuse(refusal) => Verdict::Refuse(refusal),
+        Verdict::Pass => {
+            let g = s.geometry;
+            if g.l <= block {
+                return Verdict::Refuse(Refusal::BlockNumbers);
+            }
+            if !s.is_readable() {
+                return Verdict::Refuse(Refusal::WrongPhase);
+            }
+            if !entry_readable(g.n, map[block as usize]) {
+                return Verdict::Refuse(Refusal::Inconsistent);
+            }
+            Verdict::Pass
+        }
     }
-    let g = s.geometry;
-    if !checks::tables_fit(g, map.len(), places.len(), numbers.len(), used.len()) {
-        return Verdict::Refuse(Refusal::BufferLength);
-    }
-    if out != 512 {
-        return Verdict::Refuse(Refusal::BufferLength);
-    }
-    if g.l <= block {
-        return Verdict::Refuse(Refusal::BlockNumbers);
-    }
-    if !s.is_readable() {
-        return Verdict::Refuse(Refusal::WrongPhase);
-    }
-    if !entry_readable(g.n, map[block as usize]) {
-        return Verdict::Refuse(Refusal::Inconsistent);
-    }
-    Verdict::Pass
 }
 
 // The block's bytes, where no refusal applies.

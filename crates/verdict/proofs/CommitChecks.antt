@@ -11,11 +11,11 @@ use borrow.Author.Tests.{eqb-true, lt-ltb, le-ltb, not-true, not-false, ltb-fals
 use Rattle.geometry.specs.declared.Geometry.{Geometry}
 use Rattle.state.specs.declared.State.{State}
 use Rattle.answer.specs.declared.Refusal.{Refusal}
-use Rattle.answer.specs.declared.Refusal.the-variants.{Size, BufferLength, BlockNumbers, WrongPhase, Inconsistent, NoRoom, NumbersUsedUp}
+use Rattle.answer.specs.declared.Refusal.the-variants.{BlockNumbers, WrongPhase, Inconsistent, NoRoom, NumbersUsedUp}
 use Rattle.answer.specs.declared.Verdict.{Verdict}
 use Rattle.answer.specs.declared.Verdict.the-variants.{Pass, Refuse}
 use Rattle.geometry.specs.Geometry.{piecesFor, usedBytes, geometryFits}
-use Rattle.answer.specs.Answer.{given, standing}
+use Rattle.answer.specs.Answer.{lengths, named, standing}
 use Rattle.state.specs.State.{isRunning}
 use Rattle.layout.specs.Bounded.{at, all, same}
 use Rattle.layout.specs.Word.{wordsOf}
@@ -24,44 +24,15 @@ use Rattle.volume.specs.Tables.{bitAt, memory, sectorAt, tablesOf, freeSectors,
 use Rattle.volume.specs.Refusals.{Check, applies, firstOf, judged}
 use Rattle.volume.specs.Placing.{base}
 use Rattle.volume.specs.Format.{tablesFit}
-use Rattle.volume.specs.Calls.{viewOf, stateFits, blocksFit, tablesAgree, commitChecks}
+use Rattle.volume.specs.Calls.{viewOf, stateFits, stateChecks, blocksFit, tablesAgree, commitChecks}
 use Rattle.laws.proofs.Bounded.{bool?, not-of, and-l, and-r, allBelow-at}
 use Rattle.laws.proofs.Names.{sound, piece}
 use Rattle.laws.proofs.Sizes.{fits, state-fits, tables-fit}
-use Rattle.laws.proofs.Judged.{isIn, first-clear, given-refused, given-passed}
+use Rattle.laws.proofs.Judged.{later, part-passed}
 use Rattle.laws.proofs.CommitPassed.{blocks-fit, commit-passed}
 use Rattle.pieces.specs.Arrays.{Live}
 use Rattle.checks.specs.Left.{lent}
-
--- What is handed in, by lengths.
-module _ (s : State) (image map places numbers used head : ℕ) (blocks : List ℕ) (fit : Bool) where
-  abbrev handed : Verdict
-  handed = firstOf given (commitChecks base s (lent image map places numbers used) head blocks fit true)
-
-  module _ (b1 : Bool) (f1 : b1 ≡ (eqb image (512 * s .geometry .n) && geometryFits (s .geometry))) where
-    pub size-refused : not b1 ≡ true → Refuse Size ≡ handed
-    unfolding commitChecks stateFits firstOf applies
-    size-refused e = rw (sym f1 ∙ not-true b1 e) refl
-
-    module _ (e1 : not b1 ≡ false) (b2 : Bool)
-        (f2 : b2 ≡ (eqb map (s .geometry .l) && eqb places (piecesFor (s .geometry .l)) && eqb numbers (piecesFor (s .geometry .l)) && eqb used (usedBytes (s .geometry .n)))) where
-      pub lengths-refused : not b2 ≡ true → Refuse BufferLength ≡ handed
-      unfolding commitChecks stateFits tablesFit firstOf applies
-      lengths-refused e = rw (sym f1 ∙ not-false b1 e1, sym f2 ∙ not-true b2 e) refl
-
-      module _ (e2 : not b2 ≡ false) where
-        pub bytes-refused : not fit ≡ true → Refuse BufferLength ≡ handed
-        unfolding commitChecks stateFits tablesFit firstOf applies
-        bytes-refused e = rw (sym f1 ∙ not-false b1 e1, sym f2 ∙ not-false b2 e2, not-true fit e) refl
-
-        module _ (e3 : not fit ≡ false) (b3 : Bool) (f3 : b3 ≡ blocksFit (s .geometry) head blocks) where
-          pub blocks-refused : not b3 ≡ true → Refuse BlockNumbers ≡ handed
-          unfolding commitChecks stateFits tablesFit firstOf applies
-          blocks-refused e = rw (sym f1 ∙ not-false b1 e1, sym f2 ∙ not-false b2 e2, not-false fit e3, sym f3 ∙ not-true b3 e) refl
-
-          pub handed-passes : not b3 ≡ false → Pass ≡ handed
-          unfolding commitChecks stateFits tablesFit firstOf applies
-          handed-passes e = rw (sym f1 ∙ not-false b1 e1, sym f2 ∙ not-false b2 e2, not-false fit e3, sym f3 ∙ not-false b3 e) refl
+use Rattle.checks.proofs.StateLaws.{refused-by-lengths, passed-by-lengths, sizes-passed, tables-passed}
 
 -- How the volume stands.
 pub bits-enough : (im mp pl nu us : List ℕ) (g : Geometry) → tablesFit (memory im mp pl nu us) g ≡ true → g .n ≤ 8 * length us
@@ -105,46 +76,49 @@ module _ (s : State) (im mp pl nu us : List ℕ) (count : ℕ) where
           unfolding commitChecks firstOf applies
           none-refused e = rw (sym f4 ∙ not-false b4 e4, sym f5 ∙ not-false b5 e5, enough, le-ltb 4294967039 (s .number) e) refl
 
--- Both together.
-module _ (s : State) (im mp pl nu us : List ℕ) (head : ℕ) (blocks : List ℕ) (fit : Bool) (count : ℕ) where
+-- All together: the verdict on the lengths is v.
+module _ (s : State) (im mp pl nu us : List ℕ) (head : ℕ) (blocks : List ℕ) (fit : Bool) (count : ℕ) (v : Verdict)
+    (f : v ≡ firstOf lengths (stateChecks s (lent (length im) (length mp) (length pl) (length nu) (length us)) fit)) where
   abbrev checks : List Check
   checks = commitChecks base s (memory im mp pl nu us) head blocks fit (not (ltb (freeSectors (s .geometry .n) (bitAt us)) (count + piecesFor (s .geometry .l))))
 
-  by-lengths : firstOf given (commitChecks base s (lent (length im) (length mp) (length pl) (length nu) (length us)) head blocks fit true) ≡ firstOf given checks
-  unfolding firstOf applies commitChecks stateFits tablesFit memory
-  by-lengths = refl
+  pub lengths-refused : (r : Refusal) → v ≡ Refuse r → Refuse r ≡ judged checks
+  unfolding commitChecks
+  lengths-refused r e = refused-by-lengths s im mp pl nu us fit _ v f r e
 
-  by-standing : firstOf standing (commitChecks base s (memory im mp pl nu us) 0 [] true (not (ltb (freeSectors (s .geometry .n) (bitAt us)) (count + piecesFor (s .geometry .l)))))
-      ≡ firstOf standing checks
-  unfolding firstOf applies commitChecks
-  by-standing = refl
+  module _ (e : v ≡ Pass) where
+    pub state-passed : stateFits s (memory im mp pl nu us) ≡ true
+    state-passed = sizes-passed s im mp pl nu us fit [] v f e
 
-  module _ (v : Verdict)
-      (f : v ≡ firstOf given (commitChecks base s (lent (length im) (length mp) (length pl) (length nu) (length us)) head blocks fit true)) where
-    pub handed-refused : (r : Refusal) → v ≡ Refuse r → Refuse r ≡ judged checks
-    handed-refused r e = given-refused checks r (sym e ∙ f ∙ by-lengths)
+    pub lengths-passed : tablesFit (memory im mp pl nu us) (s .geometry) ≡ true
+    lengths-passed = tables-passed s im mp pl nu us fit [] v f e
 
-    pub handed-passed : v ≡ Pass → (w : Verdict)
-        → w ≡ firstOf standing (commitChecks base s (memory im mp pl nu us) 0 [] true (not (ltb (freeSectors (s .geometry .n) (bitAt us)) (count + piecesFor (s .geometry .l)))))
-        → w ≡ judged checks
-    handed-passed e w k = given-passed checks w (sym e ∙ f ∙ by-lengths) (k ∙ by-standing)
+    then : (w : Verdict) → w ≡ firstOf later checks → w ≡ judged checks
+    unfolding commitChecks
+    then w k = passed-by-lengths s im mp pl nu us fit _ v f e w k
 
-    clear : v ≡ Pass → (r : Refusal) → isIn r given ≡ true → applies r checks ≡ false
-    clear e r i = first-clear r given checks (sym (sym e ∙ f ∙ by-lengths)) i
+    module _ (b3 : Bool) (f3 : b3 ≡ blocksFit (s .geometry) head blocks) where
+      pub blocks-refused : not b3 ≡ true → Refuse BlockNumbers ≡ judged checks
+      unfolding commitChecks firstOf applies
+      blocks-refused e3 = then (Refuse BlockNumbers) (rw (sym f3 ∙ not-true b3 e3) refl)
 
-    pub handed-sizes : v ≡ Pass → stateFits s (memory im mp pl nu us) ≡ true
-    unfolding commitChecks applies isIn
-    handed-sizes e = not-false (stateFits s (memory im mp pl nu us)) (clear e Size refl)
+      module _ (e3 : not b3 ≡ false) where
+        pub few-blocks : length blocks ≤ 64
+        few-blocks = blocks-fit (s .geometry) head blocks (sym f3 ∙ not-false b3 e3) .most
 
-    pub handed-lengths : v ≡ Pass → tablesFit (memory im mp pl nu us) (s .geometry) ≡ true
-    unfolding commitChecks applies isIn
-    handed-lengths e =
-        and-l (tablesFit (memory im mp pl nu us) (s .geometry)) fit
-        (not-false (tablesFit (memory im mp pl nu us) (s .geometry) && fit) (clear e BufferLength refl))
+        named-pass : Pass ≡ firstOf named checks
+        unfolding commitChecks firstOf applies
+        named-pass = rw (sym f3 ∙ not-false b3 e3) refl
 
-    pub handed-few : v ≡ Pass → length blocks ≤ 64
-    unfolding commitChecks applies isIn
-    handed-few e = blocks-fit (s .geometry) head blocks (not-false (blocksFit (s .geometry) head blocks) (clear e BlockNumbers refl)) .most
+        by-standing : firstOf standing (commitChecks base s (memory im mp pl nu us) 0 [] true (not (ltb (freeSectors (s .geometry .n) (bitAt us)) (count + piecesFor (s .geometry .l)))))
+            ≡ firstOf standing checks
+        unfolding firstOf applies commitChecks
+        by-standing = refl
+
+        pub standing-decides : (w : Verdict)
+            → w ≡ firstOf standing (commitChecks base s (memory im mp pl nu us) 0 [] true (not (ltb (freeSectors (s .geometry .n) (bitAt us)) (count + piecesFor (s .geometry .l)))))
+            → w ≡ judged checks
+        standing-decides w k = then w (part-passed named standing checks w named-pass (k ∙ by-standing))
 
 -- What a commit that no refusal stops relies on.
 pub record Passed (s : State) (im mp pl nu us : List ℕ) (head : ℕ) (blocks : List ℕ) (count : ℕ) : Type 0 where

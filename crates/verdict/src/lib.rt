@@ -7,12 +7,11 @@ ghost use lib.ListN.{length};
 ghost use lib.Dec.{ltb};
 ghost use Rattle.geometry.specs.Geometry.{piecesFor};
 ghost use Rattle.volume.specs.Tables.{bitAt, memory, freeSectors};
-ghost use Rattle.answer.specs.Answer.{given, standing};
+ghost use Rattle.answer.specs.Answer.{standing};
 ghost use Rattle.volume.specs.Refusals.{firstOf, judged};
 ghost use Rattle.volume.specs.Format.{tablesFit};
 ghost use Rattle.volume.specs.Placing.{base};
 ghost use Rattle.volume.specs.Calls.{stateFits, commitChecks};
-ghost use Rattle.checks.specs.Left.{lent};
 use answer::Refusal;
 use answer::Verdict;
 use geometry::Geometry;
@@ -21,37 +20,7 @@ use state::State;
 // A tail with a greater number leaves too few numbers for another commit.
 const GREATEST: u32 = 4_294_967_039;
 
-// The refusals that what a commit is handed can meet, in their order. They go by lengths alone.
-fn given_verdict(
-    s: State,
-    image: usize,
-    map: usize,
-    places: usize,
-    numbers: usize,
-    used: usize,
-    head: u32,
-    blocks: &[u32],
-    fit: bool,
-) -> Verdict
-    ensures { λ r. ⌜ r ≡ firstOf given (commitChecks base s (lent image map places numbers used) head (now (blocks .entry)) fit true) ⌝ }
-{
-    if !checks::state_fits(s, image) {
-        return Verdict::Refuse(Refusal::Size);
-    }
-    let g = s.geometry;
-    if !checks::tables_fit(g, map, places, numbers, used) {
-        return Verdict::Refuse(Refusal::BufferLength);
-    }
-    if !fit {
-        return Verdict::Refuse(Refusal::BufferLength);
-    }
-    if !block_numbers::blocks_fit(g, head, blocks) {
-        return Verdict::Refuse(Refusal::BlockNumbers);
-    }
-    Verdict::Pass
-}
-
-// Those that follow from how the volume stands. A drop needs no sectors of its own: P are always free.
+// The refusals that follow from how the volume stands. A drop needs no sectors of its own: P are always free.
 fn standing_verdict(
     s: State,
     image: &[u8],
@@ -99,19 +68,23 @@ pub fn commit_verdict(
     requires { ⌜ count ≤ length (now blocks) ⌝ }
     ensures { λ r. ⌜ r ≡ judged (commitChecks base s (memory (now (image .entry)) (now (map .entry)) (now (places .entry)) (now (numbers .entry)) (now (used .entry))) head (now (blocks .entry)) fit (not (ltb (freeSectors (s .geometry .n) (bitAt (now (used .entry)))) (count + piecesFor (s .geometry .l))))) ⌝ }
 {
-    let given = given_verdict(
+    let lengths = checks::state_verdict(
         s,
         image.len(),
         map.len(),
         places.len(),
         numbers.len(),
         used.len(),
-        head,
-        blocks,
         fit,
     );
-    match given {
+    match lengths {
         Verdict::Refuse(refusal) => Verdict::Refuse(refusal),
-        Verdict::Pass => standing_verdict(s, image, map, places, numbers, used, count),
+        Verdict::Pass => {
+            let g = s.geometry;
+            if !block_numbers::blocks_fit(g, head, blocks) {
+                return Verdict::Refuse(Refusal::BlockNumbers);
+            }
+            standing_verdict(s, image, map, places, numbers, used, count)
+        }
     }
 }

@@ -1,7 +1,7 @@
 -- Document 01, "Calls": write, drop, read and park. Each has its ordered list of refusals and what it does where none applies.
 use Prim.Native.Nat.{ℕ, suc, _+_, _*_, _-_}
 use mathlib.Core.Bool.{Bool, true, not, _&&_, _||_}
-use mathlib.Core.List.{List, [], _∷_}
+use mathlib.Core.List.{List, [], _∷_, _++_}
 use lib.ListN.{length}
 use lib.Dec.{eqb, ltb}
 use Rattle.state.specs.declared.State.{State}
@@ -47,12 +47,18 @@ tablesAgree s m =
     consistent (s .geometry) (m .tables) (s .tail) (s .number)
     && liveValid (s .geometry .l) (m .tables) (viewOf (s .geometry) (m .image))
 
+-- The refusals that every call on a state begins with: 1 and 2. A call may be lent a buffer of its own, with a length to fit.
+abbrev pub stateChecks : State → Memory → Bool → List Check
+stateChecks s m ownFits =
+    record { applies = not (stateFits s m); refusal = Size }
+    ∷ record { applies = not (tablesFit m (s .geometry) && ownFits); refusal = BufferLength }
+    ∷ []
+
 -- The refusals of a commit. A write's bytes have a length, and a write needs room; a drop passes both.
 unfoldable pub commitChecks : Rules → State → Memory → ℕ → List ℕ → Bool → Bool → List Check
 commitChecks rules s m head blocks bytesFit hasRoom =
-    record { applies = not (stateFits s m); refusal = Size }
-    ∷ record { applies = not (tablesFit m (s .geometry) && bytesFit); refusal = BufferLength }
-    ∷ record { applies = not (blocksFit (s .geometry) head blocks); refusal = BlockNumbers }
+    stateChecks s m bytesFit
+    ++ record { applies = not (blocksFit (s .geometry) head blocks); refusal = BlockNumbers }
     ∷ record { applies = not (isRunning (s .phase)); refusal = WrongPhase }
     ∷ record { applies = not (tablesAgree s m); refusal = Inconsistent }
     ∷ record { applies = not hasRoom; refusal = NoRoom }
@@ -102,9 +108,8 @@ entryReadable n entry = isEmpty entry || within 1 (n - 1) (sectorOf entry)
 
 unfoldable pub readChecks : State → Memory → ℕ → ℕ → List Check
 readChecks s m block outLength =
-    record { applies = not (stateFits s m); refusal = Size }
-    ∷ record { applies = not (tablesFit m (s .geometry) && eqb outLength sectorBytes); refusal = BufferLength }
-    ∷ record { applies = not (ltb block (s .geometry .l)); refusal = BlockNumbers }
+    stateChecks s m (eqb outLength sectorBytes)
+    ++ record { applies = not (ltb block (s .geometry .l)); refusal = BlockNumbers }
     ∷ record { applies = not (isReadable (s .phase)); refusal = WrongPhase }
     ∷ record { applies = not (entryReadable (s .geometry .n) (m .tables .entry block)); refusal = Inconsistent }
     ∷ []
@@ -128,9 +133,8 @@ readOf s m block out = readJudged (judged (readChecks s m block (length out))) s
 
 unfoldable pub parkChecks : State → Memory → List Check
 parkChecks s m =
-    record { applies = not (stateFits s m); refusal = Size }
-    ∷ record { applies = not (tablesFit m (s .geometry)); refusal = BufferLength }
-    ∷ record { applies = not (isRunning (s .phase)); refusal = WrongPhase }
+    stateChecks s m true
+    ++ record { applies = not (isRunning (s .phase)); refusal = WrongPhase }
     ∷ record { applies = not (tablesAgree s m); refusal = Inconsistent }
     ∷ []
 

@@ -12,9 +12,8 @@ use Rattle.commit.proofs.carry_out.Tie as tie
 
 store-requires : tie.Need-store-requires
 store-requires c κs =
-    let start = c .before .before .before .before .before .before .before .before .before .before .before .before .before in
-    let a = start .args in
-    let r = start .pre in
+    let a = c .before .before .before .before .before .before .before .before .before .before .before .before .before .args in
+    let r = c .before .before .before .before .before .before .before .before .before .before .before .before .before .pre in
     let g = r .1 .1 .1 .1 .1 .1 .1 .0 in
     let m = r .1 .1 .1 .1 .1 .1 .1 .1 .0 in
     let all = g .taken-all in
@@ -58,31 +57,11 @@ settle-requires c κs =
     let all = g .taken-all in
     (r .0, (r .1 .1 .0, (r .1 .1 .1 .0, (r .1 .1 .1 .1 .0, (r .1 .1 .1 .1 .1 .0, (r .1 .1 .1 .1 .1 .1 .0, g))))))
 
-sub-tail : tie.Need-sub-tail
-sub-tail c =
+last-of-requires : tie.Need-last-of-requires
+last-of-requires c κs =
     let r = c .before .before .before .before .before .before .before .before .before .before .before .before .before .before .before .before .before .before .before .before .before .before .before .before .before .before .before .before .before .before .before .before .pre in
-    let g = r .1 .1 .1 .1 .1 .1 .1 .0 in
+    let all = r .1 .1 .1 .1 .1 .1 .1 .0 .taken-all in
     let m = r .1 .1 .1 .1 .1 .1 .1 .1 .0 in
-    let all = g .taken-all in
-    let one = r .1 .1 .1 .1 .1 .1 .1 .1 .1 .0 in
-    omega arith
-
-mul-tail : tie.Need-mul-tail
-mul-tail c =
-    let r = c .before .before .before .before .before .before .before .before .before .before .before .before .before .before .before .before .before .before .before .before .before .before .before .before .before .before .before .before .before .before .before .before .pre in
-    let g = r .1 .1 .1 .1 .1 .1 .1 .0 in
-    let m = r .1 .1 .1 .1 .1 .1 .1 .1 .0 in
-    let all = g .taken-all in
-    let fit = c .before .before .before .before .before .before .before .before .before .before .before .before .before .before .before .before .before .before .before .before .before .before .before .before .before .before .before .before .before .before .before .before .good in
-    let one = r .1 .1 .1 .1 .1 .1 .1 .1 .1 .0 in
-    omega arith
-
-shared-slice-read-tail : tie.Need-shared-slice-read-tail
-shared-slice-read-tail c =
-    let r = c .before .before .before .before .before .before .before .before .before .before .before .before .before .before .before .before .before .before .before .before .before .before .before .before .before .before .before .before .before .before .before .before .before .pre in
-    let g = r .1 .1 .1 .1 .1 .1 .1 .0 in
-    let m = r .1 .1 .1 .1 .1 .1 .1 .1 .0 in
-    let all = g .taken-all in
     let one = r .1 .1 .1 .1 .1 .1 .1 .1 .1 .0 in
     omega arith
 
@@ -142,14 +121,13 @@ same-length-7 c = search needs
 returns-2 : tie.Need-returns-2
 returns-2 c =
     let the-accepted = c .before .accepted in
+    let the-last-of = c .before .before .before .last-of in
     let the-power = c .before .before .before .before .before .before .before .before .before .before .before .before .before .before .before .before .before .before .power in
     let the-store = c .before .before .before .before .before .before .before .before .before .before .before .before .before .before .before .before .before .before .before .before .before .before .store in
-    let a = c .before .before .before .before .before .before .before .before .before .before .before .before .before .before .before .before .before
-    .before .before .before .before .before .before .before .before .before .before .before .before .before .before .before .before .before .before
-    .before .args in
-    let r = c .before .before .before .before .before .before .before .before .before .before .before .before .before .before .before .before .before
-    .before .before .before .before .before .before .before .before .before .before .before .before .before .before .before .before .before .before
-    .before .pre in
+    let a = c .before .before .before .before .before .before .before .before .before .before .before .before .before .before .before .before .before .before
+    .before .before .before .before .before .before .before .before .before .before .before .before .before .before .before .before .before .before .args in
+    let r = c .before .before .before .before .before .before .before .before .before .before .before .before .before .before .before .before .before .before
+    .before .before .before .before .before .before .before .before .before .before .before .before .before .before .before .before .before .before .pre in
     let g = r .1 .1 .1 .1 .1 .1 .1 .0 in
     let m = r .1 .1 .1 .1 .1 .1 .1 .1 .0 in
     let all = g .taken-all in
@@ -157,7 +135,7 @@ returns-2 c =
     carried-whole (a .s) (a .allowance) (a .image .now) (a .map .now) (a .places .now) (a .numbers .now) (a .used .now) _ (a .blocks .now)
     (a .bytes .now) (a .news .now) (a .taken .now) (a .branches .now) (a .written .now) (a .count) (a .members) (the-store .kept .1 .0)
     (the-store .ensures .1) _ _ _ _ (the-accepted .result) (c .committed .result) _ (length (a .taken .now)) _ (z .kept .1 .0) (z .kept .1 .1 .0)
-    (z .kept .1 .1 .1 .0) (z .kept .1 .1 .1 .1 .0) refl (let e : length (a .taken .now) ≡ a .count + a .members = omega arith in e)
+    (z .kept .1 .1 .1 .0) (z .kept .1 .1 .1 .1 .0) (the-last-of .ensures) (let e : length (a .taken .now) ≡ a .count + a .members = omega arith in e)
     (r .1 .1 .1 .1 .1 .1 .1 .1 .1 .0) (the-accepted .ensures) (c .committed .ensures) (sym (the-power .given .1) ∙ the-store .ensures .0) (z .ensures)
 
 pub carry-out-spec : {M : Type 1} → statement M
@@ -170,9 +148,7 @@ carry-out-spec =
     cut-requires
     enum-known-power
     settle-requires
-    sub-tail
-    mul-tail
-    shared-slice-read-tail
+    last-of-requires
     add-number
     sub-stores
     accepted-requires

@@ -1,13 +1,11 @@
 -- What the checks and the plan give is what storing and settling ask for.
-use Prim.Native.Nat.{_+_}
 use mathlib.Core.Path.{refl, sym, _∙_, ap}
 use native.Mathlib.Omega.{arith}
-use lib.ListN.{take}
 use lib.Seq.{length-take-le}
 use Rattle.volume.specs.Tables.{memory}
 use Rattle.volume.specs.Store.{Action, performed}
 use Rattle.verdict.proofs.CommitChecks.{passed}
-use Rattle.commit.proofs.CommitPlan.{few-data, some-members, total-few, ts-word, ts-enough, settling, members-counted, commit-action}
+use Rattle.commit.proofs.CommitPlan.{few-blocks, some-members, total-few, ts-word, ts-enough, ts-all, settling, members-counted, commit-action}
 use borrow.Author.Needs.{needs}
 use Rattle.commit.proofs.commit.Statement.{statement}
 use Rattle.commit.proofs.commit.Tie as tie
@@ -25,28 +23,16 @@ slice-aggregate-plan-3 c = search needs
 
 plan-requires : tie.Need-plan-requires
 plan-requires c κs =
-    let start = c .before .before .before .before .before .before .before .before .before .before .before .before .before .before in
-    let the-pre = start .pre in
-    let a = start .args in
-    let p = passed (a .s) (a .image .now) (a .map .now) (a .places .now) (a .numbers .now) (a .used .now) (a .head) (a .blocks .now) (a .count) (the-pre .0) in
-    let few = few-data (a .s) (a .image .now) (a .map .now) (a .places .now) (a .numbers .now) (a .used .now) (a .head) (a .blocks .now) (a .bytes .now) (a .count) p (the-pre .1 .0) in
-    let high = p .high in
-    (p .range, (p .image, (p .places, (p .numbers, (p .used, (p .head-below, (p .few, (omega arith, (p .inside, (p .live, (refl, (refl, refl))))))))))))
+    let the-pre = c .before .before .before .before .before .before .before .before .before .before .before .before .before .before .pre in
+    let p = passed _ _ _ _ _ _ _ _ _ (the-pre .0) in
+    (p .range, (p .image, (p .places, (p .numbers, (p .used, (p .head-below, (p .few, (few-blocks _ _ _ _ _ _ _ _ _ (the-pre .0) (the-pre .1 .0), (p .inside, (p .live, (refl, (refl, refl))))))))))))
 
 add-total : tie.Need-add-total
 add-total c =
     let the-plan = c .before .before .before .plan in
-    let start = c .before .before .before .before .before .before .before .before .before .before .before .before .before .before .before .before .before .before in
-    let the-pre = start .pre in
-    let a = start .args in
-    let p = passed (a .s) (a .image .now) (a .map .now) (a .places .now) (a .numbers .now) (a .used .now) (a .head) (a .blocks .now) (a .count) (the-pre .0) in
-    let tk = the-plan .last .1 .1 .1 .1 .1 .1 .1 .1 .1 .1 .0 in
-    let bs = the-plan .last .1 .1 .1 .1 .1 .1 .1 .1 .1 .0 in
-    let wr = the-plan .last .1 .1 .1 .1 .1 .1 .1 .1 .0 in
-    let g = the-plan .ensures in
-    let m = the-plan .result .members in
-    let room = the-plan .kept .1 .1 .1 .1 .1 .1 .1 .1 .1 .1 .0 in
-    let t = total-few (a .s) (a .image .now) (a .map .now) (a .places .now) (a .numbers .now) (a .used .now) (a .head) (a .blocks .now) (a .bytes .now) (a .count) p (the-pre .1 .0) (the-plan .result .branches) m bs wr tk (take (a .count + m) tk) g refl in
+    let the-pre = c .before .before .before .before .before .before .before .before .before .before .before .before .before .before .before .before .before .before .pre in
+    let a = c .before .before .before .before .before .before .before .before .before .before .before .before .before .before .before .before .before .before .args in
+    let total = total-few (a .s) (a .image .now) (a .map .now) (a .places .now) (a .numbers .now) (a .used .now) (a .head) (a .blocks .now) (a .count) (the-pre .0) (the-pre .1 .0) _ _ _ _ _ _ (the-plan .ensures) refl in
     omega arith
 
 cast-total : tie.Need-cast-total
@@ -55,171 +41,60 @@ cast-total c = search needs
 array-share-prefix-taken : tie.Need-array-share-prefix-taken
 array-share-prefix-taken c =
     let the-plan = c .before .before .before .plan in
-    let start = c .before .before .before .before .before .before .before .before .before .before .before .before .before .before .before .before .before .before in
-    let the-pre = start .pre in
-    let a = start .args in
-    let p = passed (a .s) (a .image .now) (a .map .now) (a .places .now) (a .numbers .now) (a .used .now) (a .head) (a .blocks .now) (a .count) (the-pre .0) in
-    let tk = the-plan .last .1 .1 .1 .1 .1 .1 .1 .1 .1 .1 .0 in
-    let bs = the-plan .last .1 .1 .1 .1 .1 .1 .1 .1 .1 .0 in
-    let wr = the-plan .last .1 .1 .1 .1 .1 .1 .1 .1 .0 in
-    let g = the-plan .ensures in
-    let m = the-plan .result .members in
-    let room = the-plan .kept .1 .1 .1 .1 .1 .1 .1 .1 .1 .1 .0 in
-    let t = total-few (a .s) (a .image .now) (a .map .now) (a .places .now) (a .numbers .now) (a .used .now) (a .head) (a .blocks .now) (a .bytes .now) (a .count) p (the-pre .1 .0) (the-plan .result .branches) m bs wr tk (take (a .count + m) tk) g refl in
+    let the-pre = c .before .before .before .before .before .before .before .before .before .before .before .before .before .before .before .before .before .before .pre in
+    let a = c .before .before .before .before .before .before .before .before .before .before .before .before .before .before .before .before .before .before .args in
+    let total = total-few (a .s) (a .image .now) (a .map .now) (a .places .now) (a .numbers .now) (a .used .now) (a .head) (a .blocks .now) (a .count) (the-pre .0) (the-pre .1 .0) _ _ _ _ _ _ (the-plan .ensures) refl in
     omega arith
 
-slice-aggregate-entries-for : tie.Need-slice-aggregate-entries-for
-slice-aggregate-entries-for c =
+slice-aggregate-sectors : tie.Need-slice-aggregate-sectors
+slice-aggregate-sectors c =
     let the-plan = c .before .before .before .before .plan in
-    let start = c .before .before .before .before .before .before .before .before .before .before .before .before .before .before .before .before .before .before .before in
-    let the-pre = start .pre in
-    let a = start .args in
-    let p = passed (a .s) (a .image .now) (a .map .now) (a .places .now) (a .numbers .now) (a .used .now) (a .head) (a .blocks .now) (a .count) (the-pre .0) in
-    let tk = the-plan .last .1 .1 .1 .1 .1 .1 .1 .1 .1 .1 .0 in
-    let bs = the-plan .last .1 .1 .1 .1 .1 .1 .1 .1 .1 .0 in
-    let wr = the-plan .last .1 .1 .1 .1 .1 .1 .1 .1 .0 in
-    let g = the-plan .ensures in
-    let m = the-plan .result .members in
-    let room = the-plan .kept .1 .1 .1 .1 .1 .1 .1 .1 .1 .1 .0 in
-    let t = total-few (a .s) (a .image .now) (a .map .now) (a .places .now) (a .numbers .now) (a .used .now) (a .head) (a .blocks .now) (a .bytes .now) (a .count) p (the-pre .1 .0) (the-plan .result .branches) m bs wr tk (take (a .count + m) tk) g refl in
-    sym (length-take-le (a .count + m) tk (omega arith))
+    let the-pre = c .before .before .before .before .before .before .before .before .before .before .before .before .before .before .before .before .before .before .before .pre in
+    ts-all _ _ _ _ _ _ _ _ _ (the-pre .0) (the-pre .1 .0) _ _ _ _ _ _ (the-plan .ensures) refl (the-plan .kept .1 .1 .1 .1 .1 .1 .1 .1 .1 .1 .0)
 
-slice-aggregate-entries-for-2 : tie.Need-slice-aggregate-entries-for-2
-slice-aggregate-entries-for-2 c = search needs
+slice-aggregate-entries-for : tie.Need-slice-aggregate-entries-for
+slice-aggregate-entries-for c = search needs
 
 entries-for-requires : tie.Need-entries-for-requires
 entries-for-requires c κs =
     let the-plan = c .before .before .before .before .before .plan in
-    let start = c .before .before .before .before .before .before .before .before .before .before .before .before .before .before .before .before .before .before .before .before in
-    let the-pre = start .pre in
-    let a = start .args in
-    let p = passed (a .s) (a .image .now) (a .map .now) (a .places .now) (a .numbers .now) (a .used .now) (a .head) (a .blocks .now) (a .count) (the-pre .0) in
-    let tk = the-plan .last .1 .1 .1 .1 .1 .1 .1 .1 .1 .1 .0 in
-    let bs = the-plan .last .1 .1 .1 .1 .1 .1 .1 .1 .1 .0 in
-    let wr = the-plan .last .1 .1 .1 .1 .1 .1 .1 .1 .0 in
-    let g = the-plan .ensures in
-    let m = the-plan .result .members in
-    let room = the-plan .kept .1 .1 .1 .1 .1 .1 .1 .1 .1 .1 .0 in
-    let few = few-data (a .s) (a .image .now) (a .map .now) (a .places .now) (a .numbers .now) (a .used .now) (a .head) (a .blocks .now) (a .bytes .now) (a .count) p (the-pre .1 .0) in
-    let high = p .high in (
+    let the-pre = c .before .before .before .before .before .before .before .before .before .before .before .before .before .before .before .before .before .before .before .before .pre in (
       the-pre .1 .1,
       (
-        ts-enough (a .s) (a .image .now) (a .map .now) (a .places
-            .now) (a .numbers .now) (a .used .now) (a .head) (a .blocks .now) (a .bytes
-            .now) (a .count) p (the-pre .1 .0) (the-plan .result .branches) m bs wr tk (take (a .count + m) tk) g refl,
-        (
-          omega arith,
-          ts-word (a .s) (a .image
-              .now) (a .map .now) (a .places .now) (a .numbers .now) (a .used .now) (a
-              .head) (a .blocks .now) (a .bytes .now) (a .count) p (the-pre .1 .0) (the-plan .result .branches) m bs wr tk (take (a .count + m) tk) g refl,
-        ),
+        ts-enough _ _ _ _ _ _ _ _ _ (the-pre .0) (the-pre .1 .0) _ _ _ _ _ _ (the-plan .ensures) refl,
+        (few-blocks _ _ _ _ _ _ _ _ _ (the-pre .0) (the-pre .1 .0), ts-word _ _ _ _ _ _ _ _ _ (the-pre .0) (the-pre .1 .0) _ _ _ _ _ _ (the-plan .ensures) refl),
       ),
     )
 
 slice-aggregate-carry-out : tie.Need-slice-aggregate-carry-out
 slice-aggregate-carry-out c = search needs
 
-array-share-prefix-taken-2 : tie.Need-array-share-prefix-taken-2
-array-share-prefix-taken-2 c =
-    let the-plan = c .before .before .before .before .before .before .before .before .before .before .before .before .before .plan in
-    let start = c .before .before .before .before .before .before .before .before .before .before .before .before .before .before .before .before .before .before .before .before .before .before .before .before .before .before .before .before in
-    let the-pre = start .pre in
-    let a = start .args in
-    let p = passed (a .s) (a .image .now) (a .map .now) (a .places .now) (a .numbers .now) (a .used .now) (a .head) (a .blocks .now) (a .count) (the-pre .0) in
-    let tk = the-plan .last .1 .1 .1 .1 .1 .1 .1 .1 .1 .1 .0 in
-    let bs = the-plan .last .1 .1 .1 .1 .1 .1 .1 .1 .1 .0 in
-    let wr = the-plan .last .1 .1 .1 .1 .1 .1 .1 .1 .0 in
-    let g = the-plan .ensures in
-    let m = the-plan .result .members in
-    let room = the-plan .kept .1 .1 .1 .1 .1 .1 .1 .1 .1 .1 .0 in
-    let t = total-few (a .s) (a .image .now) (a .map .now) (a .places .now) (a .numbers .now) (a .used .now) (a .head) (a .blocks .now) (a .bytes .now) (a .count) p (the-pre .1 .0) (the-plan .result .branches) m bs wr tk (take (a .count + m) tk) g refl in
-    omega arith
+array-share-prefix-branches : tie.Need-array-share-prefix-branches
+array-share-prefix-branches c = search needs
 
 slice-aggregate-carry-out-2 : tie.Need-slice-aggregate-carry-out-2
 slice-aggregate-carry-out-2 c =
     let the-plan = c .before .before .before .before .before .before .before .before .before .before .before .before .before .before .plan in
-    let start = c .before .before .before .before .before .before .before .before .before .before .before .before .before .before .before .before .before .before .before .before .before .before .before .before .before .before .before .before .before in
-    let the-pre = start .pre in
-    let a = start .args in
-    let p = passed (a .s) (a .image .now) (a .map .now) (a .places .now) (a .numbers .now) (a .used .now) (a .head) (a .blocks .now) (a .count) (the-pre .0) in
-    let tk = the-plan .last .1 .1 .1 .1 .1 .1 .1 .1 .1 .1 .0 in
-    let bs = the-plan .last .1 .1 .1 .1 .1 .1 .1 .1 .1 .0 in
-    let wr = the-plan .last .1 .1 .1 .1 .1 .1 .1 .1 .0 in
-    let g = the-plan .ensures in
-    let m = the-plan .result .members in
-    let room = the-plan .kept .1 .1 .1 .1 .1 .1 .1 .1 .1 .1 .0 in
-    let t = total-few (a .s) (a .image .now) (a .map .now) (a .places .now) (a .numbers .now) (a .used .now) (a .head) (a .blocks .now) (a .bytes .now) (a .count) p (the-pre .1 .0) (the-plan .result .branches) m bs wr tk (take (a .count + m) tk) g refl in
-    sym (length-take-le (a .count + m) tk (omega arith))
-
-array-share-prefix-branches : tie.Need-array-share-prefix-branches
-array-share-prefix-branches c = search needs
-
-slice-aggregate-carry-out-3 : tie.Need-slice-aggregate-carry-out-3
-slice-aggregate-carry-out-3 c =
-    let the-plan = c .before .before .before .before .before .before .before .before .before .before .before .before .before .before .before .plan in
     let bs = the-plan .last .1 .1 .1 .1 .1 .1 .1 .1 .1 .0 in
     sym (length-take-le (the-plan .result .branches) bs (omega arith))
 
-slice-aggregate-carry-out-4 : tie.Need-slice-aggregate-carry-out-4
-slice-aggregate-carry-out-4 c = search needs
+slice-aggregate-carry-out-3 : tie.Need-slice-aggregate-carry-out-3
+slice-aggregate-carry-out-3 c = search needs
 
 carry-out-requires : tie.Need-carry-out-requires
 carry-out-requires c κs =
-    let the-entries-for = c .before .before .before .before .before .before .before .before .before .before .entries-for in
-    let the-plan = c .before .before .before .before .before .before .before .before .before .before .before .before .before .before .before .before .plan in
-    let start = c .before .before .before .before .before .before .before .before .before .before .before .before .before .before .before .before .before .before .before .before .before .before .before .before .before .before .before .before .before .before .before in
-    let the-pre = start .pre in
-    let a = start .args in
-    let p = passed (a .s) (a .image .now) (a .map .now) (a .places .now) (a .numbers .now) (a .used .now) (a .head) (a .blocks .now) (a .count) (the-pre .0) in
-    let tk = the-plan .last .1 .1 .1 .1 .1 .1 .1 .1 .1 .1 .0 in
+    let the-entries-for = c .before .before .before .before .before .before .before .before .before .entries-for in
+    let the-plan = c .before .before .before .before .before .before .before .before .before .before .before .before .before .before .before .plan in
+    let the-pre = c .before .before .before .before .before .before .before .before .before .before .before .before .before .before .before .before .before .before .before .before .before .before .before .before .before .before .before .before .before .before .pre in
+    let p = passed _ _ _ _ _ _ _ _ _ (the-pre .0) in
     let bs = the-plan .last .1 .1 .1 .1 .1 .1 .1 .1 .1 .0 in
-    let wr = the-plan .last .1 .1 .1 .1 .1 .1 .1 .1 .0 in
-    let g = the-plan .ensures in
-    let m = the-plan .result .members in
-    let room = the-plan .kept .1 .1 .1 .1 .1 .1 .1 .1 .1 .1 .0 in
-    let few = g .few in
+    let few = the-plan .ensures .few in
     let size = the-plan .kept .1 .1 .1 .1 .1 .1 .1 .1 .1 .0 in
-    let cut = length-take-le (the-plan .result .branches) bs (omega arith) in (
-      p .range,
-      (
-        p .image,
-        (
-          p .map,
-          (
-            p .places,
-            (
-              p .numbers,
-              (
-                p .used,
-                (
-                  p .sound-tables,
-                  (
-                    settling (a .s) (a .image .now) (a .map .now) (a .places .now) (a .numbers
-                        .now) (a .used .now) (a .head) (a .blocks .now) (a .bytes .now) (a .count)
-                        p (the-pre .1 .0) (the-plan .result .branches) m bs wr tk (take (a .count
-                        + m) tk) g refl (the-entries-for .last .1 .1 .1 .0) (the-entries-for .ensures)
-                        (the-plan .kept .1 .1 .1 .1 .1 .1 .1 .1 .0),
-                    (
-                      members-counted (a .s) (a
-                          .image .now) (a .map .now) (a .places .now) (a .numbers .now) (a .used .now)
-                          (a .head) (a .blocks .now) (a .bytes .now) (a .count) p (the-pre .1 .0) (the-plan .result .branches) m bs wr tk (take (a .count + m) tk) g refl
-                          (the-entries-for .last .1 .1 .1 .0) (the-entries-for .ensures),
-                      (
-                        some-members
-                            (a .s) (a .image .now) (a .map .now) (a .places .now) (a .numbers .now)
-                            (a .used .now) (a .head) (a .blocks .now) (a .bytes .now) (a .count) p (the-pre
-                            .1 .0) (the-plan .result .branches) m bs wr tk (take (a .count + m) tk) g refl,
-                        (omega arith, the-pre .1 .1),
-                      ),
-                    ),
-                  ),
-                ),
-              ),
-            ),
-          ),
-        ),
-      ),
-    )
+    let cut = length-take-le (the-plan .result .branches) bs (omega arith) in
+    let whole = settling _ _ _ _ _ _ _ _ _ (the-pre .0) (the-pre .1 .0) _ _ _ _ _ _ (the-plan .ensures) refl _ _ (the-entries-for .ensures) (the-plan .kept .1 .1 .1 .1 .1 .1 .1 .1 .0) in
+    let counted = members-counted _ _ _ _ _ _ _ _ _ (the-pre .0) (the-pre .1 .0) _ _ _ _ _ _ (the-plan .ensures) refl _ _ (the-entries-for .ensures) in
+    let some = some-members _ _ _ _ _ _ _ _ _ (the-pre .0) (the-pre .1 .0) _ _ _ _ _ _ (the-plan .ensures) refl in
+    (p .range, (p .image, (p .map, (p .places, (p .numbers, (p .used, (p .sound-tables, (whole, (counted, (some, (omega arith, the-pre .1 .1)))))))))))
 
 same-length : tie.Need-same-length
 same-length c = search needs
@@ -239,26 +114,17 @@ same-length-5 c = search needs
 returns : tie.Need-returns
 returns c =
     let the-carry-out = c .before .before .before .before .before .before .before .before .before .before .carry-out in
-    let the-entries-for = c .before .before .before .before .before .before .before .before .before .before .before .before .before .before .before .before .before .before .before .before .before .entries-for in
-    let the-plan = c .before .before .before .before .before .before .before .before .before .before .before .before .before .before .before .before .before .before .before .before .before .before .before .before .before .before .before .plan in
-    let the-pre = c .before .before .before .before .before .before .before .before .before .before .before .before .before .before .before .before
-    .before .before .before .before .before .before .before .before .before .before .before .before .before .before .before .before .before .before
-    .before .before .before .before .before .before .before .before .pre in
-    let a = c .before .before .before .before .before .before .before .before .before .before .before .before .before .before .before .before .before
-    .before .before .before .before .before .before .before .before .before .before .before .before .before .before .before .before .before .before
-    .before .before .before .before .before .before .before .args in
-    let p = passed (a .s) (a .image .now) (a .map .now) (a .places .now) (a .numbers .now) (a .used .now) (a .head) (a .blocks .now) (a .count) (the-pre .0) in
-    let tk = the-plan .last .1 .1 .1 .1 .1 .1 .1 .1 .1 .1 .0 in
-    let bs = the-plan .last .1 .1 .1 .1 .1 .1 .1 .1 .1 .0 in
-    let wr = the-plan .last .1 .1 .1 .1 .1 .1 .1 .1 .0 in
-    let g = the-plan .ensures in
-    let m = the-plan .result .members in
-    let room = the-plan .kept .1 .1 .1 .1 .1 .1 .1 .1 .1 .1 .0 in
-    the-carry-out .ensures ∙ ap (λ (x : Action). performed (a .allowance) x (memory (a .image .now) (a .map
-    .now) (a .places .now) (a .numbers .now) (a .used .now))) (commit-action (a .s) (a .image .now) (a .map .now) (a .places .now) (a
-    .numbers .now) (a .used .now) (a .head) (a .blocks .now) (a .bytes .now)
-    (a .count) p (the-pre .1 .0) (the-plan .result .branches) m bs wr tk (take
-    (a .count + m) tk) g refl (the-entries-for .last .1 .1 .1 .0) (the-entries-for .ensures))
+    let the-entries-for = c .before .before .before .before .before .before .before .before .before .before .before .before .before .before .before .before .before .before .before .before .entries-for in
+    let the-plan = c .before .before .before .before .before .before .before .before .before .before .before .before .before .before .before .before .before .before .before .before .before .before .before .before .before .before .plan in
+    let the-pre = c .before .before .before .before .before .before .before .before .before .before .before .before .before .before .before .before .before
+    .before .before .before .before .before .before .before .before .before .before .before .before .before .before .before .before .before .before .before
+    .before .before .before .before .before .pre in
+    let a = c .before .before .before .before .before .before .before .before .before .before .before .before .before .before .before .before .before .before
+    .before .before .before .before .before .before .before .before .before .before .before .before .before .before .before .before .before .before .before
+    .before .before .before .before .args in
+    the-carry-out .ensures
+    ∙ ap (λ (x : Action). performed (a .allowance) x (memory (a .image .now) (a .map .now) (a .places .now) (a .numbers .now) (a .used .now)))
+    (commit-action _ _ _ _ _ _ _ _ _ (the-pre .0) (the-pre .1 .0) _ _ _ _ _ _ (the-plan .ensures) refl _ _ (the-entries-for .ensures))
 
 pub commit-spec : {M : Type 1} → statement M
 commit-spec =
@@ -271,15 +137,13 @@ commit-spec =
     add-total
     cast-total
     array-share-prefix-taken
+    slice-aggregate-sectors
     slice-aggregate-entries-for
-    slice-aggregate-entries-for-2
     entries-for-requires
     slice-aggregate-carry-out
-    array-share-prefix-taken-2
-    slice-aggregate-carry-out-2
     array-share-prefix-branches
+    slice-aggregate-carry-out-2
     slice-aggregate-carry-out-3
-    slice-aggregate-carry-out-4
     carry-out-requires
     same-length
     same-length-2

@@ -109,9 +109,8 @@ distinct-below-distinct-below-requires : (t : ℕ) → distinct-below-lts.Need-d
 distinct-below-distinct-below-requires t c κs =
     let the-part = c .before .before .before .part in
     let the-if2 = c .before .before .before .before .before .if2 in
-    let start = c .before .before .before .before .before .before .before .before in
-    let the-pre = start .pre in
-    let a = start .args in let d = the-if2 .left in
+    let the-pre = c .before .before .before .before .before .before .before .before .pre in
+    let a = c .before .before .before .before .before .before .before .before .args in let d = the-if2 .left in
     let h = the-pre .1 .0 in let e = the-pre .0 in (
       omega arith,
       (
@@ -227,15 +226,13 @@ distinct-below-distinct-below-requires-2 t c κs =
     let the-distinct-below = c .before .before .before .before .distinct-below in
     let the-part = c .before .before .before .before .before .before .before .before .part in
     let the-if2 = c .before .before .before .before .before .before .before .before .before .before .if2 in
-    let start = c .before .before .before .before .before .before .before .before .before .before .before .before .before in
-    let the-pre = start .pre in
-    let a = start .args in let d = the-if2 .left in let h = the-pre .1 .0 in let e = the-pre .0 in (
+    let the-pre = c .before .before .before .before .before .before .before .before .before .before .before .before .before .pre in
+    let a = c .before .before .before .before .before .before .before .before .before .before .before .before .before .args in let d = the-if2 .left in let h = the-pre .1 .0 in let e = the-pre .0 in (
       omega arith,
       (
         omega arith,
-        back-calls (a .xs .now) (a .bit) (the-part .last .0) (the-part
-            .result) (the-part .ensures) (the-if2 .left) (the-pre .1
-            .1) (the-distinct-below .last .0) (the-distinct-below .kept .0),
+        back-calls (a .xs .now) (a .bit) (the-part .last .0) (the-part .result) (the-part .ensures) (the-if2 .left) (the-pre .1 .1) (the-distinct-below .last .0)
+            (the-distinct-below .kept .0),
       ),
     )
 

@@ -26,9 +26,8 @@ copy-piece-requires c κs =
 loop-holds : tie.Need-loop-holds Inv-loop μ-loop
 loop-holds c =
     let the-copy-piece = c .before .before .copy-piece in
-    let start = c .before .before .before .before .before .before .before .before in
-    let the-pre = start .pre in
-    let a = start .args in
+    let the-pre = c .before .before .before .before .before .before .before .before .pre in
+    let a = c .before .before .before .before .before .before .before .before .args in
     (omega arith, the-copy-piece .kept .1 .1 .0 ∙ the-pre .1 .1 .1 .0, changes-none (a .l) (a .p) (a .map .now) (a .blocks .now) (a .news .now) _ (the-pre .0) (the-copy-piece .ensures))
 
 mul-change-entry : tie.Need-mul-change-entry Inv-loop μ-loop

@@ -46,9 +46,8 @@ mul-entries c = search needs
 slice-write-entries : tie.Need-slice-write-entries Inv-loop μ-loop
 slice-write-entries c =
     let the-loop-test = c .before .before .before .loop-test in
-    let start = c .before .before .before .before .before .before .before .before in
-    let the-pre = start .pre in
-    let a = start .args in
+    let the-pre = c .before .before .before .before .before .before .before .before .pre in
+    let a = c .before .before .before .before .before .before .before .before .args in
     let l = c .before .before .before .before .loop in
     let e = filled-length (λ i. entryFor (sectorAt (a .bytes .now) i) (at (a .places .now) i)) (a .entries .now) (l .i) (l .entries) (l .inv .1) in
     let h = the-pre .1 .1 .0 in

@@ -34,9 +34,8 @@ returns : tie.Need-returns
 returns c =
     let the-store-map = c .before .before .store-map in
     let the-if1 = c .before .before .before .before .before .before .if1 in
-    let start = c .before .before .before .before .before .before .before .before in
-    let the-pre = start .pre in
-    let a = start .args in
+    let the-pre = c .before .before .before .before .before .before .before .before .pre in
+    let a = c .before .before .before .before .before .before .before .before .args in
     the-store-map .ensures
     ∙ ap (updated (sectorAt (a .image .now)) (a .p + 1)) (piece-made (a .l) (a .p) (a .pieces) [] (the-pre .0) (no-branch (a .p) (the-if1 .taken)))
 
@@ -59,9 +58,8 @@ returns-2 : tie.Need-returns-2
 returns-2 c =
     let the-store-map2 = c .before .before .store-map2 in
     let the-if1 = c .before .before .before .before .before .before .if1 in
-    let start = c .before .before .before .before .before .before .before .before in
-    let the-pre = start .pre in
-    let a = start .args in
+    let the-pre = c .before .before .before .before .before .before .before .before .pre in
+    let a = c .before .before .before .before .before .before .before .before .args in
     the-store-map2 .ensures
     ∙ ap (updated (sectorAt (a .image .now)) (a .p + 1)) (piece-made (a .l) (a .p) (a .pieces) (a .p ∷ []) (the-pre .0) (one-branch (a .p) (the-if1 .left)))
 

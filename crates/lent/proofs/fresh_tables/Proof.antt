@@ -53,9 +53,8 @@ returns c =
     let the-count-up2 = c .before .before .before .before .before .before .before .before .before .before .count-up2 in
     let the-count-up = c .before .before .before .before .before .before .before .before .before .before .before .before .before .before .count-up in
     let the-zero-words = c .before .before .before .before .before .before .before .before .before .before .before .before .before .before .before .before .before .before .zero-words in
-    let start = c .before .before .before .before .before .before .before .before .before .before .before .before .before .before .before .before .before .before .before .before .before .before .before .before in
-    let a = start .args in
-    let p = start .pre in
+    let a = c .before .before .before .before .before .before .before .before .before .before .before .before .before .before .before .before .before .before .before .before .before .before .before .before .args in
+    let p = c .before .before .before .before .before .before .before .before .before .before .before .before .before .before .before .before .before .before .before .before .before .before .before .before .pre in
     fresh-tables (a .l) _ _ _ _ (length (a .map .now)) (a .pieces) (p .0) (the-zero-words .ensures) (the-count-up .ensures ∙ ap (λ (x : ℕ). listFrom suc 0 x) (p .1 .1 .0)) (the-count-up2 .ensures ∙ ap (λ (x : ℕ). listFrom suc 0 x) (p .1 .1 .1 .0)) (the-mark-first .ensures)
 
 pub fresh-tables-spec : {M : Type 1} → statement M

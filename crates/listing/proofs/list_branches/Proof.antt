@@ -90,9 +90,8 @@ sector-requires c κs =
 branch-count-requires : tie.Need-branch-count-requires Inv-branch μ-branch Inv-newest μ-newest
 branch-count-requires c κs =
     let the-newest-older = c .before .before .before .before .before .before .before .before .newest-older in
-    let start = c .before .before .before .before .before .before .before .before .before .before .before .before .before .before .before .before .before in
-    let the-pre = start .pre in
-    let a = start .args in
+    let the-pre = c .before .before .before .before .before .before .before .before .before .before .before .before .before .before .before .before .before .pre in
+    let a = c .before .before .before .before .before .before .before .before .before .before .before .before .before .before .before .before .before .args in
     let v = the-pre .1 .1 .1 .1 .1 .1 in
     whole-sector (a .g) (a .image .now) (c .sector .result .now) (at (a .places .now) (the-newest-older .result)) (the-pre .0) (v .high (the-newest-older .result) (the-newest-older .ensures .1)) (c .sector .ensures) (v .signed (the-newest-older .result) (the-newest-older .ensures .1))
 
@@ -130,15 +129,12 @@ newest-again c =
       p .kept .0 ∙ l .inv .1,
       one-more (l .count) (p .result) 25 (eqb (at (l .reached) q) 1) (p .ensures .0) (omega arith),
       the-branch .inv .1,
-      λ g live. listing-more g (sectorAt (a .image .now)) (a .places .now) (a .numbers .now) (a .touched .now) (a .number)
-          (take (l .count) (l .branches)) _ (l .steps) (l .bound) (the-older-key .result) q (at (a .places .now) q) (flagged (l .reached))
-          (flagged (the-branch .reached)) _ (l .inv .4 g live) (the-newest-test .taken) (the-newest-older .ensures .0) (the-older-key .ensures)
-          (the-if2 .left) refl refl (p .ensures .1)
-          (reached-all g (sectorAt (a .image .now) (at (a .places .now) q)) (the-sector
-          .result .now) (flagged (l .reached)) (flagged (the-branch .reached))
-          (a .places .now) (a .numbers .now) (the-older-key .result) (the-branch
-          .i) (the-branch-count .result) (the-sector .ensures) (live .signed q (the-newest-older
-          .ensures .1)) (the-branch-count .ensures) (c .branch-test .taken) (the-branch .inv .2)),
+      λ g live. listing-more g (sectorAt (a .image .now)) (a .places .now) (a .numbers .now) (a .touched .now) (a .number) (take (l .count) (l .branches)) _ (l .steps)
+          (l .bound) (the-older-key .result) q (at (a .places .now) q) (flagged (l .reached)) (flagged (the-branch .reached)) _ (l .inv .4 g live) (the-newest-test .taken)
+          (the-newest-older .ensures .0) (the-older-key .ensures) (the-if2 .left) refl refl (p .ensures .1)
+          (reached-all g (sectorAt (a .image .now) (at (a .places .now) q)) (the-sector .result .now) (flagged (l .reached)) (flagged (the-branch .reached)) (a .places .now)
+          (a .numbers .now) (the-older-key .result) (the-branch .i) (the-branch-count .result) (the-sector .ensures) (live .signed q (the-newest-older .ensures .1))
+          (the-branch-count .ensures) (c .branch-test .taken) (the-branch .inv .2)),
     )
 
 branch-at-requires : tie.Need-branch-at-requires Inv-branch μ-branch Inv-newest μ-newest
@@ -146,18 +142,16 @@ branch-at-requires c κs =
     let the-branch-count = c .before .before .branch-count in
     let the-sector = c .before .before .before .sector in
     let the-newest-older = c .before .before .before .before .before .before .before .before .before .before .before .newest-older in
-    let start = c .before .before .before .before .before .before .before .before .before .before .before .before .before .before .before .before .before .before .before .before in
-    let the-pre = start .pre in
-    let a = start .args in
+    let the-pre = c .before .before .before .before .before .before .before .before .before .before .before .before .before .before .before .before .before .before .before .before .pre in
+    let a = c .before .before .before .before .before .before .before .before .before .before .before .before .before .before .before .before .before .before .before .before .args in
     let v = the-pre .1 .1 .1 .1 .1 .1 in
     let few = count-few (a .g) (a .image .now) (the-sector .result .now) (at (a .places .now) (the-newest-older .result)) (the-pre .0)
     (v .high (the-newest-older .result) (the-newest-older .ensures .1)) (the-sector .ensures)
     (v .signed (the-newest-older .result) (the-newest-older .ensures .1)) (the-branch-count .result) (the-branch-count .ensures) in
     let i = c .before .branch .inv .0 in
     let d = c .branch-test .left in (
-      whole-sector (a .g) (a .image .now) (the-sector .result .now) (at (a .places
-          .now) (the-newest-older .result)) (the-pre .0) (v .high (the-newest-older
-          .result) (the-newest-older .ensures .1)) (the-sector .ensures) (v .signed (the-newest-older .result) (the-newest-older .ensures .1)),
+      whole-sector (a .g) (a .image .now) (the-sector .result .now) (at (a .places .now) (the-newest-older .result)) (the-pre .0)
+          (v .high (the-newest-older .result) (the-newest-older .ensures .1)) (the-sector .ensures) (v .signed (the-newest-older .result) (the-newest-older .ensures .1)),
       omega arith,
     )
 
@@ -170,9 +164,8 @@ sector-requires-2 c κs =
     let the-branch-count = c .before .before .before .branch-count in
     let the-sector = c .before .before .before .before .sector in
     let the-newest-older = c .before .before .before .before .before .before .before .before .before .before .before .before .newest-older in
-    let start = c .before .before .before .before .before .before .before .before .before .before .before .before .before .before .before .before .before .before .before .before .before in
-    let the-pre = start .pre in
-    let a = start .args in
+    let the-pre = c .before .before .before .before .before .before .before .before .before .before .before .before .before .before .before .before .before .before .before .before .before .pre in
+    let a = c .before .before .before .before .before .before .before .before .before .before .before .before .before .before .before .before .before .before .before .before .before .args in
     let v = the-pre .1 .1 .1 .1 .1 .1 in
     branch-sector (a .g) (a .image .now) (the-sector .result .now) (at (a .places .now) (the-newest-older .result)) (the-pre .0)
     (v .high (the-newest-older .result) (the-newest-older .ensures .1)) (the-sector .ensures)
@@ -186,16 +179,13 @@ piece-of-requires c κs =
     let the-branch-count = c .before .before .before .before .branch-count in
     let the-sector = c .before .before .before .before .before .sector in
     let the-newest-older = c .before .before .before .before .before .before .before .before .before .before .before .before .before .newest-older in
-    let start = c .before .before .before .before .before .before .before .before .before .before .before .before .before .before .before .before .before .before .before .before .before .before in
-    let the-pre = start .pre in
-    let a = start .args in
+    let the-pre = c .before .before .before .before .before .before .before .before .before .before .before .before .before .before .before .before .before .before .before .before .before .before .pre in
+    let a = c .before .before .before .before .before .before .before .before .before .before .before .before .before .before .before .before .before .before .before .before .before .before .args in
     let v = the-pre .1 .1 .1 .1 .1 .1 in
     ap length (c .sector2 .ensures) ∙ sector-length (a .image .now) (the-branch-at .result)
-    (branch-sector (a .g) (a .image .now) (the-sector .result .now) (at (a .places
-    .now) (the-newest-older .result)) (the-pre .0) (v .high (the-newest-older
-    .result) (the-newest-older .ensures .1)) (the-sector .ensures) (v .signed
-    (the-newest-older .result) (the-newest-older .ensures .1)) (the-branch-count
-    .result) (the-branch .i) (the-branch-at .result) (the-branch-count .ensures) (omega arith) (the-branch-at .ensures) .1)
+    (branch-sector (a .g) (a .image .now) (the-sector .result .now) (at (a .places .now) (the-newest-older .result)) (the-pre .0)
+    (v .high (the-newest-older .result) (the-newest-older .ensures .1)) (the-sector .ensures) (v .signed (the-newest-older .result) (the-newest-older .ensures .1))
+    (the-branch-count .result) (the-branch .i) (the-branch-at .result) (the-branch-count .ensures) (omega arith) (the-branch-at .ensures) .1)
 
 slice-aggregate-reach : tie.Need-slice-aggregate-reach Inv-branch μ-branch Inv-newest μ-newest
 slice-aggregate-reach c = search needs
@@ -209,22 +199,19 @@ reach-requires c κs =
     let the-branch-count = c .before .before .before .before .before .before .branch-count in
     let the-sector = c .before .before .before .before .before .before .before .sector in
     let the-newest-older = c .before .before .before .before .before .before .before .before .before .before .before .before .before .before .before .newest-older in
-    let start = c .before .before .before .before .before .before .before .before .before .before .before .before .before .before .before .before .before .before .before .before .before .before .before .before in
-    let the-pre = start .pre in
-    let a = start .args in
+    let the-pre = c .before .before .before .before .before .before .before .before .before .before .before .before .before .before .before .before .before .before .before .before .before .before .before .before .pre in
+    let a = c .before .before .before .before .before .before .before .before .before .before .before .before .before .before .before .before .before .before .before .before .before .before .before .before .args in
     let v = the-pre .1 .1 .1 .1 .1 .1 in
     let e = the-pre .1 .0 in (
       e,
       (
         omega arith,
-        only-there (a .g) (sectorAt (a .image .now)) (a .places .now) (the-branch-at .result) (the-piece-of .result) (subst (Live
-            (a .g) (sectorAt (a .image .now)) (at (a .places .now))) (sym e) v) (branch-sector
-            (a .g) (a .image .now) (the-sector .result .now) (at (a .places .now) (the-newest-older
-            .result)) (the-pre .0) (v .high (the-newest-older .result) (the-newest-older
-            .ensures .1)) (the-sector .ensures) (v .signed (the-newest-older .result)
-            (the-newest-older .ensures .1)) (the-branch-count .result) (the-branch .i)
-            (the-branch-at .result) (the-branch-count .ensures) (omega arith) (the-branch-at
-            .ensures) .0) (the-piece-of .ensures ∙ ap (λ (x : List ℕ). at (wordsOf x) 4) (the-sector2 .ensures)),
+        only-there (a .g) (sectorAt (a .image .now)) (a .places .now) (the-branch-at .result) (the-piece-of .result)
+            (subst (Live (a .g) (sectorAt (a .image .now)) (at (a .places .now))) (sym e) v)
+            (branch-sector (a .g) (a .image .now) (the-sector .result .now) (at (a .places .now) (the-newest-older .result)) (the-pre .0)
+            (v .high (the-newest-older .result) (the-newest-older .ensures .1)) (the-sector .ensures) (v .signed (the-newest-older .result) (the-newest-older .ensures .1))
+            (the-branch-count .result) (the-branch .i) (the-branch-at .result) (the-branch-count .ensures) (omega arith) (the-branch-at .ensures) .0)
+            (the-piece-of .ensures ∙ ap (λ (x : List ℕ). at (wordsOf x) 4) (the-sector2 .ensures)),
       ),
     )
 
@@ -244,9 +231,8 @@ branch-again c =
     let the-older-key = c .before .before .before .before .before .before .before .before .before .before .before .before .before .before .before .before .older-key in
     let the-newest-older = c .before .before .before .before .before .before .before .before .before .before .before .before .before .before .before .before .before .newest-older in
     let the-newest = c .before .before .before .before .before .before .before .before .before .before .before .before .before .before .before .before .before .before .before .before .newest in
-    let start = c .before .before .before .before .before .before .before .before .before .before .before .before .before .before .before .before .before .before .before .before .before .before .before .before .before .before in
-    let the-pre = start .pre in
-    let a = start .args in
+    let the-pre = c .before .before .before .before .before .before .before .before .before .before .before .before .before .before .before .before .before .before .before .before .before .before .before .before .before .before .pre in
+    let a = c .before .before .before .before .before .before .before .before .before .before .before .before .before .before .before .before .before .before .before .before .before .before .before .before .before .before .args in
     let v = the-pre .1 .1 .1 .1 .1 .1 in
     let b = c .before .before .before .before .before .before .before .branch in
     let i = b .inv .0 in
@@ -254,9 +240,9 @@ branch-again c =
     let few = count-few (a .g) (a .image .now) (the-sector .result .now) (at (a .places .now) (the-newest-older .result)) (the-pre .0)
     (v .high (the-newest-older .result) (the-newest-older .ensures .1)) (the-sector .ensures)
     (v .signed (the-newest-older .result) (the-newest-older .ensures .1)) (the-branch-count .result) (the-branch-count .ensures) in
-    let room = branch-room (the-sector .result .now) (whole-sector (a .g) (a .image .now) (the-sector .result .now) (at (a .places
-    .now) (the-newest-older .result)) (the-pre .0) (v .high (the-newest-older
-    .result) (the-newest-older .ensures .1)) (the-sector .ensures) (v .signed (the-newest-older .result) (the-newest-older .ensures .1))) in (
+    let room = branch-room (the-sector .result .now)
+    (whole-sector (a .g) (a .image .now) (the-sector .result .now) (at (a .places .now) (the-newest-older .result)) (the-pre .0)
+    (v .high (the-newest-older .result) (the-newest-older .ensures .1)) (the-sector .ensures) (v .signed (the-newest-older .result) (the-newest-older .ensures .1))) in (
       omega arith,
       the-reach .kept .0 ∙ b .inv .1,
       reached-more (flagged (the-newest .reached)) (a .places .now) (a .numbers .now) (branchWords (wordsOf (the-sector .result .now))) (the-older-key .result) (b .i) (the-branch-at .result) (omega arith) (the-branch-at .ensures) (flagged (b .reached)) _ (b .inv .2) (the-reach .ensures),
@@ -283,16 +269,15 @@ same-length-2 c =
 
 returns-2 : tie.Need-returns-2 Inv-branch μ-branch Inv-newest μ-newest
 returns-2 c =
-    let start = c .before .before .before .before .before .before .before .before in
-    let the-pre = start .pre in
-    let a = start .args in
+    let the-pre = c .before .before .before .before .before .before .before .before .pre in
+    let a = c .before .before .before .before .before .before .before .before .args in
     let l = c .before .before .newest in
     let t = c .if1 .taken in (
-      ap (λ (x : ℕ). take x (l .branches)) t ∙ listing-full (a .g) (sectorAt (a .image .now)) (a .places .now) (a .numbers .now) (a .touched .now) (a
-          .number) (l .branches) (l .steps) (l .bound) (flagged (l .reached)) (l .inv
-          .1) (subst (λ (x : ℕ). Listing (a .g) (sectorAt (a .image .now)) (a .places
-          .now) (a .numbers .now) (a .touched .now) (a .number) (take x (l .branches))
-          (l .steps) (l .bound) (flagged (l .reached))) t (l .inv .4 (a .g) (the-pre .1 .1 .1 .1 .1 .1))),
+      ap (λ (x : ℕ). take x (l .branches)) t ∙ listing-full (a .g) (sectorAt (a .image .now)) (a .places .now) (a .numbers .now) (a .touched .now) (a .number)
+          (l .branches) (l .steps) (l .bound) (flagged (l .reached)) (l .inv .1)
+          (subst
+          (λ (x : ℕ). Listing (a .g) (sectorAt (a .image .now)) (a .places .now) (a .numbers .now) (a .touched .now) (a .number) (take x (l .branches)) (l .steps) (l .bound) (flagged (l .reached)))
+          t (l .inv .4 (a .g) (the-pre .1 .1 .1 .1 .1 .1))),
       l .inv .2,
     )
 
@@ -306,13 +291,12 @@ returns-3 : tie.Need-returns-3 Inv-branch μ-branch Inv-newest μ-newest
 returns-3 c =
     let the-older-key = c .before .older-key in
     let the-newest-older = c .before .before .newest-older in
-    let start = c .before .before .before .before .before .before .before .before .before .before .before in
-    let the-pre = start .pre in
-    let a = start .args in
+    let the-pre = c .before .before .before .before .before .before .before .before .before .before .before .pre in
+    let a = c .before .before .before .before .before .before .before .before .before .before .before .args in
     let l = c .before .before .before .before .before .newest in (
-      listing-no-more (a .g) (sectorAt (a .image .now)) (a .places .now) (a .numbers
-          .now) (a .touched .now) (a .number) (l .branches) (l .count) (l .steps) (l .bound) (flagged (l .reached)) (the-newest-older .result) (the-older-key .result) (l .inv .2) (l .inv .1) (l .inv .4 (a .g) (the-pre .1
-          .1 .1 .1 .1 .1)) (the-newest-older .ensures .0) (the-older-key .ensures) (c .if2 .taken),
+      listing-no-more (a .g) (sectorAt (a .image .now)) (a .places .now) (a .numbers .now) (a .touched .now) (a .number) (l .branches) (l .count) (l .steps) (l .bound)
+          (flagged (l .reached)) (the-newest-older .result) (the-older-key .result) (l .inv .2) (l .inv .1) (l .inv .4 (a .g) (the-pre .1 .1 .1 .1 .1 .1))
+          (the-newest-older .ensures .0) (the-older-key .ensures) (c .if2 .taken),
       l .inv .2,
     )
 

@@ -54,9 +54,8 @@ returns-4 c =
     let the-piece-of = c .before .before .before .before .piece-of in
     let the-if1 = c .before .before .before .before .before .if1 in
     let the-is-valid = c .before .before .before .before .before .before .is-valid in
-    let start = c .before .before .before .before .before .before .before .before .before in
-    let the-pre = start .pre in
-    let a = start .args in
+    let the-pre = c .before .before .before .before .before .before .before .before .before .pre in
+    let a = c .before .before .before .before .before .before .before .before .before .args in
     let l = the-pre .1 .1 .0 in
     says-entries (a .g) (a .p) (a .number) (a .s .now) (pieceEntries (a .g .l) (at (a .map .now)) (a .p))
     (the-is-valid .result) (the-is-valid .ensures) (the-if1 .left)

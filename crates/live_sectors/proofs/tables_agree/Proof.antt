@@ -30,9 +30,8 @@ returns c =
 live-valid-requires : tie.Need-live-valid-requires
 live-valid-requires c κs =
     let the-is-consistent = c .before .is-consistent in
-    let start = c .before .before .before .before .before .before .before .before in
-    let the-pre = start .pre in
-    let a = start .args in
+    let the-pre = c .before .before .before .before .before .before .before .before .pre in
+    let a = c .before .before .before .before .before .before .before .before .args in
     let f = the-pre .0 in
     let t = the-pre .1 in
     let g = geometry-fits (a .s) (a .image .now) (a .map .now) (a .places .now) (a .numbers .now) (a .used .now) f in
@@ -49,11 +48,9 @@ live-valid-requires c κs =
             (
               places-long (a .s) (a .image .now) (a .map .now) (a .places .now) (a .numbers .now) (a .used .now) t,
               (
-                numbers-long (a .s) (a .image .now) (a .map .now) (a .places .now) (a .numbers
-                    .now) (a .used .now) t,
-                places-below (a .s) (a .image .now) (a .map .now)
-                    (a .places .now) (a .numbers .now) (a .used .now) (the-is-consistent
-                    .result) (the-is-consistent .ensures) (c .if1 .left) least,
+                numbers-long (a .s) (a .image .now) (a .map .now) (a .places .now) (a .numbers .now) (a .used .now) t,
+                places-below (a .s) (a .image .now) (a .map .now) (a .places .now) (a .numbers .now) (a .used .now) (the-is-consistent .result)
+                    (the-is-consistent .ensures) (c .if1 .left) least,
               ),
             ),
           ),

@@ -14,8 +14,7 @@ word-at-requires c κs = search needs
 
 returns : tie.Need-returns
 returns c =
-    let start = c .before .before in
-    c .word-at .ensures ∙ sym (branch-word (wordsOf (start .args .s .now)) (start .args .i) (start .pre .1))
+    c .word-at .ensures ∙ sym (branch-word (wordsOf (c .before .before .args .s .now)) (c .before .before .args .i) (c .before .before .pre .1))
 
 pub branch-at-spec : {M : Type 1} → statement M
 branch-at-spec = tie.close (tie.spec add-word-at word-at-requires returns)

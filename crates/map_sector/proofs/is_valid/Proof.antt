@@ -68,10 +68,10 @@ returns-4 c =
     let at-start = at-starts-with .before .before .before in
     let a = at-start .args in
     let s = a .s .now in
-    sym (valid-branches (a .g) s (wordsOf s) (sym (at-starts-with .starts-with .ensures)
-    ∙ not-false _ (at-if1 .if1 .left)) (ap isZero (sym (at-word-sum .word-sum
-    .ensures)) ∙ eq-eqb _ 0 (at-if2 .if2 .left)) (sym (at-header-fits .header-fits
-    .ensures) ∙ not-false _ (at-if3 .if3 .left)) (sym (at-branches-fit .branches-fit .ensures) ∙ not-true _ (c .if4 .taken)))
+    sym
+    (valid-branches (a .g) s (wordsOf s) (sym (at-starts-with .starts-with .ensures) ∙ not-false _ (at-if1 .if1 .left))
+    (ap isZero (sym (at-word-sum .word-sum .ensures)) ∙ eq-eqb _ 0 (at-if2 .if2 .left)) (sym (at-header-fits .header-fits .ensures) ∙ not-false _ (at-if3 .if3 .left))
+    (sym (at-branches-fit .branches-fit .ensures) ∙ not-true _ (c .if4 .taken)))
 
 entries-fit-requires : tie.Need-entries-fit-requires
 entries-fit-requires c κs =
@@ -93,10 +93,10 @@ returns-5 c =
     let at-start = at-starts-with .before .before .before in
     let a = at-start .args in
     let s = a .s .now in
-    c .entries-fit .ensures ∙ sym (valid-entries (a .g) s (wordsOf s) (sym (at-starts-with .starts-with .ensures)
-    ∙ not-false _ (at-if1 .if1 .left)) (ap isZero (sym (at-word-sum .word-sum
-    .ensures)) ∙ eq-eqb _ 0 (at-if2 .if2 .left)) (sym (at-header-fits .header-fits
-    .ensures) ∙ not-false _ (at-if3 .if3 .left)) (sym (at-branches-fit .branches-fit .ensures) ∙ not-false _ (at-if4 .if4 .left)))
+    c .entries-fit .ensures ∙ sym
+    (valid-entries (a .g) s (wordsOf s) (sym (at-starts-with .starts-with .ensures) ∙ not-false _ (at-if1 .if1 .left))
+    (ap isZero (sym (at-word-sum .word-sum .ensures)) ∙ eq-eqb _ 0 (at-if2 .if2 .left)) (sym (at-header-fits .header-fits .ensures) ∙ not-false _ (at-if3 .if3 .left))
+    (sym (at-branches-fit .branches-fit .ensures) ∙ not-false _ (at-if4 .if4 .left)))
 
 pub is-valid-spec : {M : Type 1} → statement M
 is-valid-spec =

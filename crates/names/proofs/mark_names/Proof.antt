@@ -22,9 +22,8 @@ set-bit-requires c κs = omega arith
 
 mark-places-requires : tie.Need-mark-places-requires Inv-entries μ-entries
 mark-places-requires c κs =
-    let start = c .before .before .before .before .before .before .before .before in
-    let a = start .args in
-    let p = start .pre in
+    let a = c .before .before .before .before .before .before .before .before .args in
+    let p = c .before .before .before .before .before .before .before .before .pre in
     let b = c .before .before .before .set-bit in
     let e = b .kept .0 in
     let h = p .1 .0 in

@@ -44,9 +44,8 @@ mul-if3 c =
 
 shared-slice-read-if3 : tie.Need-shared-slice-read-if3
 shared-slice-read-if3 c =
-    let start = c .before .before .before .before .before .before .before .before in
-    let a = start .args in
-    let p = start .pre in
+    let a = c .before .before .before .before .before .before .before .before .args in
+    let p = c .before .before .before .before .before .before .before .before .pre in
     let h = best-below (at (a .numbers .now)) (length (a .numbers .now)) (p .0) in
     let e = c .before .newest .ensures in
     let s = p .1 in
@@ -66,9 +65,8 @@ returns-3 c =
 mul-result : tie.Need-mul-result
 mul-result c =
     let the-newest = c .before .before .newest in
-    let start = c .before .before .before .before .before .before .before .before .before in
-    let a = start .args in
-    let p = start .pre in
+    let a = c .before .before .before .before .before .before .before .before .before .args in
+    let p = c .before .before .before .before .before .before .before .before .before .pre in
     let h = best-below (at (a .numbers .now)) (length (a .numbers .now)) (p .0) in
     let e = the-newest .ensures in
     let s = p .1 in
@@ -77,9 +75,8 @@ mul-result c =
 shared-slice-read-result : tie.Need-shared-slice-read-result
 shared-slice-read-result c =
     let the-newest = c .before .before .before .newest in
-    let start = c .before .before .before .before .before .before .before .before .before .before in
-    let a = start .args in
-    let p = start .pre in
+    let a = c .before .before .before .before .before .before .before .before .before .before .args in
+    let p = c .before .before .before .before .before .before .before .before .before .before .pre in
     let h = best-below (at (a .numbers .now)) (length (a .numbers .now)) (p .0) in
     let e = the-newest .ensures in
     let s = p .1 in

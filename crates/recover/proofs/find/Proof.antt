@@ -32,21 +32,17 @@ enum-told c = search needs
 by-scan-requires : tie.Need-by-scan-requires
 by-scan-requires c κs =
     let the-walk = c .before .before .before .before .before .before .before .before .before .before .before .before .before .before .before .walk in
-    let start = c .before .before .before .before .before .before .before .before .before .before .before .before .before .before .before .before .before .before .before .before .before .before .before .before .before .before .before in
-    let the-pre = start .pre in
-    let a = start .args in
+    let the-pre = c .before .before .before .before .before .before .before .before .before .before .before .before .before .before .before .before .before .before .before .before .before .before .before .before .before .before .before .pre in
+    let a = c .before .before .before .before .before .before .before .before .before .before .before .before .before .before .before .before .before .before .before .before .before .before .before .before .before .before .before .args in
     let the-volume = c .before .before .before .before .before .before .before .before .before .before .before .before .before .before .before .before .before .before .before .before .before .volume in
     let s = volume-passed (a .image .now) (a .map .now) (a .places .now) (a .numbers .now) (a .used .now) (a .settings) (the-volume .result) (the-volume .ensures) the-pre in (
-      volume-range (a .image .now) (a .map .now) (a .places .now) (a .numbers
-          .now) (a .used .now) (a .settings) (the-volume .result) (the-volume .ensures)
-          the-pre,
+      volume-range (a .image .now) (a .map .now) (a .places .now) (a .numbers .now) (a .used .now) (a .settings) (the-volume .result) (the-volume .ensures) the-pre,
       (
         s .image,
         (
           the-walk .kept .1 .1 .0 ∙ s .map,
           (
-            the-walk .kept .1
-                .1 .1 .0 ∙ s .places,
+            the-walk .kept .1 .1 .1 .0 ∙ s .places,
             (the-walk .kept .1 .1 .1 .1 .0 ∙ s .numbers, the-walk .kept .1 .1 .1 .1 .1 .0 ∙ s .used),
           ),
         ),

@@ -51,8 +51,8 @@ returns-2 c =
     let the-size-verdict = c .before .before .before .before .before .before .before .before .before .before .before .before .before .before .before .before .before .before .size-verdict in
     let a = c .before .before .before .before .before .before .before .before .before .before .before .before .before .before .before .before .before .before .before .before .before .before .before .before .args in
     recover-passed (a .s) (a .image .now) (a .map .now) (a .places .now) (a .numbers .now) (a .used .now) (a .settings) (a .allowance) _
-    (sym (the-enum-told .given .1) ∙ the-size-verdict .ensures ∙ by-lengths (a .image .now) (a .map .now) (a .places .now) (a .numbers .now) (a .used
-    .now) (a .settings)) (the-find .ensures)
+    (sym (the-enum-told .given .1) ∙ the-size-verdict .ensures ∙ by-lengths (a .image .now) (a .map .now) (a .places .now) (a .numbers .now) (a .used .now) (a .settings))
+    (the-find .ensures)
 
 pub recover-spec : {M : Type 1} → statement M
 recover-spec =

@@ -1,11 +1,8 @@
 -- What the scan found is the finding of the definition.
-use mathlib.Core.Path.{_≡_, refl, _∙_, subst}
+use mathlib.Core.Path.{refl}
 use native.Mathlib.Omega.{arith}
-use Rattle.volume.specs.Tables.{bitAt, sectorAt, tablesOf}
-use Rattle.volume.specs.Recover.{imageView, scanFinding}
+use Rattle.volume.specs.Tables.{bitAt}
 use Rattle.laws.proofs.Sizes.{fits}
-use Rattle.scan.specs.declared.Found.{Found}
-use Rattle.scan.specs.Scanned.{scanFound, scanAbove}
 use Rattle.recover_by_scan.proofs.ScanLaws.{scan-found, scan-missing}
 use borrow.Author.Needs.{needs}
 use Rattle.recover_by_scan.proofs.by_scan.Statement.{statement}
@@ -18,9 +15,8 @@ slice-aggregate-scan c = search needs
 
 scan-requires : tie.Need-scan-requires
 scan-requires c κs =
-    let start = c .before .before .before .before .before .before .before .before .before .before .before in
-    let a = start .args in
-    let r = start .pre in
+    let a = c .before .before .before .before .before .before .before .before .before .before .before .args in
+    let r = c .before .before .before .before .before .before .before .before .before .before .before .pre in
     let most = fits (a .g) (r .0) .sectors in
     (r .0, (r .1 .0, (r .1 .1 .0, (r .1 .1 .1 .0, (r .1 .1 .1 .1 .0, (r .1 .1 .1 .1 .1, (omega arith, refl)))))))
 
@@ -41,9 +37,8 @@ slice-aggregate-after-scan c = search needs
 
 after-scan-requires : tie.Need-after-scan-requires
 after-scan-requires c κs =
-    let start = c .before .before .before .before .before .before .before .before .before .before .before .before .before .before .before .before .before .before .before .before .before .before .before .before .before .before .before .before .before .before in
-    let a = start .args in
-    let r = start .pre in
+    let a = c .before .before .before .before .before .before .before .before .before .before .before .before .before .before .before .before .before .before .before .before .before .before .before .before .before .before .before .before .before .before .args in
+    let r = c .before .before .before .before .before .before .before .before .before .before .before .before .before .before .before .before .before .before .before .before .before .before .before .before .before .before .before .before .before .before .pre in
     let least = fits (a .g) (r .0) .least in
     let most = fits (a .g) (r .0) .sectors in
     (omega arith, (r .1 .0, omega arith))
@@ -65,20 +60,13 @@ same-length-5 c = search needs
 
 returns : tie.Need-returns
 returns c =
+    let z = c .before .before .before .before .before .before .before .before .before .zero-tables in
     let the-found = c .before .before .before .before .before .before .before .before .before .before .before .before .before .before .before .found in
     let the-scan = c .before .before .before .before .before .before .before .before .before .before .before .before .before .before .before .before .before .before .before .before .before .before .before .before .before .before .scan in
-    let a = c .before .before .before .before .before .before .before .before .before .before .before .before .before .before .before .before .before
-    .before .before .before .before .before .before .before .before .before .before .before .before .before .before .before .before .before .before
-    .before .before .before .args in
-    let z = c .before .before .before .before .before .before .before .before .before .zero-tables in
-    scan-missing (a .g) (a .allowance) (a .image .now) (a .map .now) (a .places .now) (a .numbers .now) (a .used .now) _ _ _ _
-    (z .kept .0 ∙ the-scan .kept .1 .1 .0) (z .kept .1 .0 ∙ the-scan .kept .1 .1 .1 .0) (z .kept .1 .1 .0 ∙ the-scan .kept .1 .1 .1 .1 .0)
-    (z .kept .1 .1 .1 .0 ∙ the-scan .kept .1 .1 .1 .1 .1 .0) _ (tablesOf (the-scan .last .1 .1 .0) (the-scan .last .1 .1 .1 .0) (the-scan
-    .last .1 .1 .1 .1 .0) (the-scan .last .1 .1 .1 .1 .1 .0)) (c .lost .result) (c .lost .ensures)
-    (subst (λ (x : Found). scanFound x (a .g .n) (imageView (a .g) (sectorAt (a .image .now))) (sectorAt (a .image .now) 0) (tablesOf (the-scan .last
-    .1 .1 .0) (the-scan .last .1 .1 .1 .0) (the-scan .last .1 .1 .1 .1 .0) (the-scan
-    .last .1 .1 .1 .1 .1 .0)) ≡ scanFinding (a .g) (imageView (a .g) (sectorAt
-    (a .image .now))) (sectorAt (a .image .now) 0)) (the-found .given .1) (the-scan .ensures .0)) (z .ensures)
+    scan-missing _ _ _ _ _ _ _ (the-scan .last .1 .1 .0) (the-scan .last .1 .1 .1 .0) (the-scan .last .1 .1 .1 .1 .0) (the-scan .last .1 .1 .1 .1 .1 .0)
+    (the-scan .kept .1 .1 .0) (the-scan .kept .1 .1 .1 .0) (the-scan .kept .1 .1 .1 .1 .0) (the-scan .kept .1 .1 .1 .1 .1 .0)
+    (the-scan .result) (the-scan .ensures .0) _ _ _ _ (z .kept .0) (z .kept .1 .0) (z .kept .1 .1 .0) (z .kept .1 .1 .1 .0)
+    _ (the-found .given .1) (c .lost .result) (c .lost .ensures) (z .ensures)
 
 same-length-6 : tie.Need-same-length-6
 same-length-6 c = search needs
@@ -100,18 +88,9 @@ returns-2 c =
     let the-after-scan = c .before .before .before .before .before .before .before .before .before .before .after-scan in
     let the-found2 = c .before .before .before .before .before .before .before .before .before .before .before .before .before .before .before .before .before .before .found2 in
     let the-scan = c .before .before .before .before .before .before .before .before .before .before .before .before .before .before .before .before .before .before .before .before .before .before .before .before .before .before .before .before .before .scan in
-    let a = c .before .before .before .before .before .before .before .before .before .before .before .before .before .before .before .before .before
-    .before .before .before .before .before .before .before .before .before .before .before .before .before .before .before .before .before .before
-    .before .before .before .before .before .before .args in
-    scan-found (a .g) (a .allowance) (a .image .now) (a .map .now) (a .places .now) (a .numbers .now) (a .used .now) (the-scan .last .1 .1 .0)
-    (the-scan .last .1 .1 .1 .0) (the-scan .last .1 .1 .1 .1 .0) (the-scan .last .1 .1 .1 .1 .1 .0) (the-scan .kept .1 .1 .0)
-    (the-scan .kept .1 .1 .1 .0) (the-scan .kept .1 .1 .1 .1 .0) (the-scan .kept .1 .1 .1 .1 .1 .0) _ _ _
-    (bitAt (the-scan .last .1 .1 .1 .1 .1 .1 .0))
-    (subst (λ (x : Found). scanFound x (a .g .n) (imageView (a .g) (sectorAt (a .image .now))) (sectorAt (a .image .now) 0) (tablesOf (the-scan .last
-    .1 .1 .0) (the-scan .last .1 .1 .1 .0) (the-scan .last .1 .1 .1 .1 .0) (the-scan
-    .last .1 .1 .1 .1 .1 .0)) ≡ scanFinding (a .g) (imageView (a .g) (sectorAt
-    (a .image .now))) (sectorAt (a .image .now) 0)) (the-found2 .given .1) (the-scan .ensures .0))
-    (subst (λ (x : Found). scanAbove x (imageView (a .g) (sectorAt (a .image .now))) (bitAt (the-scan .last .1 .1 .1 .1 .1 .1 .0))) (the-found2 .given .1) (the-scan .ensures .1)) (the-after-scan .ensures)
+    scan-found _ _ _ _ _ _ _ (the-scan .last .1 .1 .0) (the-scan .last .1 .1 .1 .0) (the-scan .last .1 .1 .1 .1 .0) (the-scan .last .1 .1 .1 .1 .1 .0)
+    (the-scan .kept .1 .1 .0) (the-scan .kept .1 .1 .1 .0) (the-scan .kept .1 .1 .1 .1 .0) (the-scan .kept .1 .1 .1 .1 .1 .0)
+    (the-scan .result) (the-scan .ensures .0) _ _ _ (bitAt (the-scan .last .1 .1 .1 .1 .1 .1 .0)) (the-scan .ensures .1) (the-found2 .given .1) (the-after-scan .ensures)
 
 pub by-scan-spec : {M : Type 1} → statement M
 by-scan-spec =

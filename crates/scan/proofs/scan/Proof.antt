@@ -24,9 +24,8 @@ slice-aggregate-scan-signed c = search needs
 scan-signed-requires : tie.Need-scan-signed-requires
 scan-signed-requires c κs =
     let the-mark-signed = c .before .before .before .before .before .before .before .mark-signed in
-    let start = c .before .before .before .before .before .before .before .before .before .before .before .before .before .before .before in
-    let a = start .args in
-    let p = start .pre in
+    let a = c .before .before .before .before .before .before .before .before .before .before .before .before .before .before .before .args in
+    let p = c .before .before .before .before .before .before .before .before .before .before .before .before .before .before .before .pre in
     let m = sectors-most (a .g) (p .0) in
     let k = the-mark-signed .kept .1 .1 .0 in
     let q = p .1 .1 in

@@ -23,9 +23,8 @@ find-live-requires : tie.Need-find-live-requires
 find-live-requires c κs =
     let the-zero-words2 = c .before .before .before .before .zero-words2 in
     let the-zero-words = c .before .before .before .before .before .before .before .before .zero-words in
-    let start = c .before .before .before .before .before .before .before .before .before .before .before .before .before .before .before in
-    let a = start .args in
-    let p = start .pre in
+    let a = c .before .before .before .before .before .before .before .before .before .before .before .before .before .before .before .args in
+    let p = c .before .before .before .before .before .before .before .before .before .before .before .before .before .before .before .pre in
     let k1 = the-zero-words .kept .0 in
     let p1 = p .1 .1 .1 .1 .1 .0 in
     let p2 = p .1 .1 .1 .1 .1 .1 in

@@ -15,9 +15,8 @@ newest-closing-requires c κs = let a = c .before .before .before .before .befor
 
 closing-at-requires : tie.Need-closing-at-requires
 closing-at-requires c κs =
-    let start = c .before .before .before .before .before .before .before .before in
-    let a = start .args in
-    let p = start .pre in
+    let a = c .before .before .before .before .before .before .before .before .args in
+    let p = c .before .before .before .before .before .before .before .before .pre in
     let s = sectors-some (a .g) (p .0) in
     let i = p .1 .0 in
     let m = p .1 .1 .0 in

@@ -30,10 +30,8 @@ pieces-holds c =
       refl,
       omega arith,
       omega arith,
-      live-none (flagged (a .written .now)) (λ q. at (a .taken .now) (a .count + countBelow (flagged
-          (a .written .now)) q)) (at (a .places .now)),
-      live-none (flagged (a .written
-          .now)) (λ q. suc (a .number + countBelow (flagged (a .written .now)) q)) (at (a .numbers .now)),
+      live-none (flagged (a .written .now)) (λ q. at (a .taken .now) (a .count + countBelow (flagged (a .written .now)) q)) (at (a .places .now)),
+      live-none (flagged (a .written .now)) (λ q. suc (a .number + countBelow (flagged (a .written .now)) q)) (at (a .numbers .now)),
     )
 
 shared-slice-read-if1 : tie.Need-shared-slice-read-if1 Inv-pieces μ-pieces
@@ -162,8 +160,8 @@ pieces-again-2 c =
       omega arith,
       live-put (flagged (a .written .now)) v1 (at (a .places .now)) (l .p) (at (l .places)) _ f (l .inv .5) (at-set (l .places) (l .p) (at (a .taken .now) (l .k)) t ∙ ap (λ (y : ℕ). updated (at (l .places)) (l .p) (at (a .taken .now) y)) k),
       live-put (flagged (a .written .now)) v2 (at (a .numbers .now)) (l .p) (at (l .numbers)) _ f (l .inv .6)
-          (at-set (l .numbers) (l .p) (l .next + 1) (omega arith) ∙ ap (updated (at
-          (l .numbers)) (l .p)) (let y : l .next + 1 ≡ suc (a .number + countBelow (flagged (a .written .now)) (l .p)) = omega arith in y)),
+          (at-set (l .numbers) (l .p) (l .next + 1) (omega arith) ∙ ap (updated (at (l .numbers)) (l .p))
+          (let y : l .next + 1 ≡ suc (a .number + countBelow (flagged (a .written .now)) (l .p)) = omega arith in y)),
     )
 
 same-length : tie.Need-same-length Inv-pieces μ-pieces

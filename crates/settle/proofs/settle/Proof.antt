@@ -20,9 +20,8 @@ use Rattle.settle.proofs.use_places.Reads as use-places-reads
 
 free-blocks-requires : tie.Need-free-blocks-requires
 free-blocks-requires c κs =
-    let start = c .before .before .before .before .before .before .before .before .before .before in
-    let a = start .args in
-    let r = start .pre in
+    let a = c .before .before .before .before .before .before .before .before .before .before .args in
+    let r = c .before .before .before .before .before .before .before .before .before .before .pre in
     let fit = fits (a .s .geometry) (r .0) in
     let least = fit .least in
     let some : 1 ≤ a .s .geometry .n = omega arith in
@@ -34,9 +33,8 @@ free-blocks-requires c κs =
 free-places-requires : tie.Need-free-places-requires
 free-places-requires c κs =
     let the-free-blocks = c .before .before .before .before .free-blocks in
-    let start = c .before .before .before .before .before .before .before .before .before .before .before .before .before .before .before in
-    let a = start .args in
-    let r = start .pre in
+    let a = c .before .before .before .before .before .before .before .before .before .before .before .before .before .before .before .args in
+    let r = c .before .before .before .before .before .before .before .before .before .before .before .before .before .before .before .pre in
     let fit = fits (a .s .geometry) (r .0) in
     let least = fit .least in
     let some : 1 ≤ a .s .geometry .n = omega arith in
@@ -50,9 +48,8 @@ use-places-requires : tie.Need-use-places-requires
 use-places-requires c κs =
     let the-free-places = c .before .before .before .free-places in
     let the-free-blocks = c .before .before .before .before .before .before .before .before .free-blocks in
-    let start = c .before .before .before .before .before .before .before .before .before .before .before .before .before .before .before .before .before .before .before in
-    let a = start .args in
-    let r = start .pre in
+    let a = c .before .before .before .before .before .before .before .before .before .before .before .before .before .before .before .before .before .before .before .args in
+    let r = c .before .before .before .before .before .before .before .before .before .before .before .before .before .before .before .before .before .before .before .pre in
     let fit = fits (a .s .geometry) (r .0) in
     let least = fit .least in
     let some : 1 ≤ a .s .geometry .n = omega arith in
@@ -62,9 +59,8 @@ use-places-requires c κs =
 
 change-map-requires : tie.Need-change-map-requires
 change-map-requires c κs =
-    let start = c .before .before .before .before .before .before .before .before .before .before .before .before .before .before .before .before .before .before .before .before .before .before .before in
-    let a = start .args in
-    let r = start .pre in
+    let a = c .before .before .before .before .before .before .before .before .before .before .before .before .before .before .before .before .before .before .before .before .before .before .before .args in
+    let r = c .before .before .before .before .before .before .before .before .before .before .before .before .before .before .before .before .before .before .before .before .before .before .before .pre in
     let fit = fits (a .s .geometry) (r .0) in
     let least = fit .least in
     let some : 1 ≤ a .s .geometry .n = omega arith in
@@ -74,9 +70,8 @@ change-map-requires c κs =
 
 change-live-requires : tie.Need-change-live-requires
 change-live-requires c κs =
-    let start = c .before .before .before .before .before .before .before .before .before .before .before .before .before .before .before .before .before .before .before .before .before .before .before .before .before .before .before .before in
-    let a = start .args in
-    let r = start .pre in
+    let a = c .before .before .before .before .before .before .before .before .before .before .before .before .before .before .before .before .before .before .before .before .before .before .before .before .before .before .before .before .args in
+    let r = c .before .before .before .before .before .before .before .before .before .before .before .before .before .before .before .before .before .before .before .before .before .before .before .before .before .before .before .before .pre in
     let fit = fits (a .s .geometry) (r .0) in
     let least = fit .least in
     let some : 1 ≤ a .s .geometry .n = omega arith in
@@ -118,19 +113,18 @@ returns c =
     let the-use-places = c .before .before .before .before .before .before .before .before .before .before .before .before .before .use-places in
     let the-free-places = c .before .before .before .before .before .before .before .before .before .before .before .before .before .before .before .before .before .free-places in
     let the-free-blocks = c .before .before .before .before .before .before .before .before .before .before .before .before .before .before .before .before .before .before .before .before .before .before .free-blocks in
-    let start = c .before .before .before .before .before .before .before .before .before .before .before .before .before .before .before .before .before .before .before .before .before .before .before .before .before .before .before .before .before .before .before .before .before in
-    let a = start .args in
-    let r = start .pre in
+    let a = c .before .before .before .before .before .before .before .before .before .before .before .before .before .before .before .before .before .before .before .before .before .before .before .before .before .before .before .before .before .before .before .before .before .args in
+    let r = c .before .before .before .before .before .before .before .before .before .before .before .before .before .before .before .before .before .before .before .before .before .before .before .before .before .before .before .before .before .before .before .before .before .pre in
     let fit = fits (a .s .geometry) (r .0) in
     let least = fit .least in
     let some : 1 ≤ a .s .geometry .n = omega arith in
     let g = r .1 .1 .1 .1 .1 .1 in
     let snd = sound (a .s .geometry) (tablesOf (a .map .now) (a .places .now) (a .numbers .now) (a .used .now)) (a .s .tail) (a .s .number) (r .1 .1 .1 .1 .1 .0) in
     let len = r .1 .1 .0 in
-    settled-tables (a .s) (a .map .now) (a .places .now) (a .numbers .now) (a .used .now) (a .blocks .now) (a .news .now) (a .taken .now) (a .written .now) (a .count) _ _ _ _ (the-change-map .ensures) (the-change-live .ensures .0) (the-change-live .ensures .1)
-    (used-after (a .s .geometry) (a .s .tail) (a .s .number) (a .map .now) (a .places .now) (a .numbers .now) (a .used .now) (a .blocks .now) (a .news
-    .now) (a .taken .now) (a .written .now) (a .count) some (r .1 .1 .1 .1 .0)
-    snd g _ _ _ (the-free-blocks .ensures) len (the-free-places .ensures) (the-use-places .ensures))
+    settled-tables (a .s) (a .map .now) (a .places .now) (a .numbers .now) (a .used .now) (a .blocks .now) (a .news .now) (a .taken .now) (a .written .now) (a .count) _ _
+    _ _ (the-change-map .ensures) (the-change-live .ensures .0) (the-change-live .ensures .1)
+    (used-after (a .s .geometry) (a .s .tail) (a .s .number) (a .map .now) (a .places .now) (a .numbers .now) (a .used .now) (a .blocks .now) (a .news .now)
+    (a .taken .now) (a .written .now) (a .count) some (r .1 .1 .1 .1 .0) snd g _ _ _ (the-free-blocks .ensures) len (the-free-places .ensures) (the-use-places .ensures))
 
 pub settle-spec : {M : Type 1} → statement M
 settle-spec =

@@ -31,9 +31,8 @@ slice-aggregate-bits-agree c = search needs
 bits-agree-requires : tie.Need-bits-agree-requires
 bits-agree-requires c κs =
     let the-mark-names = c .before .before .before .mark-names in
-    let start = c .before .before .before .before .before .before .before .before .before in
-    let a = start .args in
-    let p = start .pre in
+    let a = c .before .before .before .before .before .before .before .before .before .args in
+    let p = c .before .before .before .before .before .before .before .before .before .pre in
     let most = sectors-most (a .g) (p .0) in
     let e = p .1 .1 .1 .1 in
     let k = the-mark-names .kept .0 in
@@ -44,9 +43,8 @@ returns-2 c =
     let the-bits-agree = c .before .bits-agree in
     let the-if1 = c .before .before .before .if1 in
     let the-mark-names = c .before .before .before .before .before .mark-names in
-    let start = c .before .before .before .before .before .before .before .before .before .before .before in
-    let a = start .args in
-    let p = start .pre in
+    let a = c .before .before .before .before .before .before .before .before .before .before .before .args in
+    let p = c .before .before .before .before .before .before .before .before .before .before .before .pre in
     bits-fail (a .g) (a .map .now) (a .places .now) (a .numbers .now) (a .used .now) (a .tail) (a .number)
     _ (the-mark-names .result) (the-mark-names .ensures) (the-if1 .left)
     (the-bits-agree .result) (length (a .used .now)) (p .1 .1 .1 .1) (the-bits-agree .ensures) (c .if2 .taken)
@@ -65,9 +63,8 @@ returns-3 c =
     let the-bits-agree = c .before .before .before .before .bits-agree in
     let the-if1 = c .before .before .before .before .before .before .if1 in
     let the-mark-names = c .before .before .before .before .before .before .before .before .mark-names in
-    let start = c .before .before .before .before .before .before .before .before .before .before .before .before .before .before in
-    let a = start .args in
-    let p = start .pre in
+    let a = c .before .before .before .before .before .before .before .before .before .before .before .before .before .before .args in
+    let p = c .before .before .before .before .before .before .before .before .before .before .before .before .before .before .pre in
     room-fails (a .g) (a .map .now) (a .places .now) (a .numbers .now) (a .used .now) (a .tail) (a .number)
     _ (the-mark-names .result) (the-mark-names .ensures) (the-if1 .left)
     (the-bits-agree .result) (length (a .used .now)) (p .1 .1 .1 .1) (the-bits-agree .ensures) (the-if2 .left)
@@ -75,9 +72,8 @@ returns-3 c =
 
 numbers-agree-requires : tie.Need-numbers-agree-requires
 numbers-agree-requires c κs =
-    let start = c .before .before .before .before .before .before .before .before .before .before .before .before .before .before in
-    let a = start .args in
-    let p = start .pre in
+    let a = c .before .before .before .before .before .before .before .before .before .before .before .before .before .before .args in
+    let p = c .before .before .before .before .before .before .before .before .before .before .before .before .before .before .pre in
     let some = blocks-some (a .g) (p .0) in
     let e = p .1 .1 .1 .0 in
     (omega arith, p .1 .1 .0 ∙ sym e)
@@ -90,9 +86,8 @@ returns-4 c =
     let the-bits-agree = c .before .before .before .before .before .bits-agree in
     let the-if1 = c .before .before .before .before .before .before .before .if1 in
     let the-mark-names = c .before .before .before .before .before .before .before .before .before .mark-names in
-    let start = c .before .before .before .before .before .before .before .before .before .before .before .before .before .before .before in
-    let a = start .args in
-    let p = start .pre in
+    let a = c .before .before .before .before .before .before .before .before .before .before .before .before .before .before .before .args in
+    let p = c .before .before .before .before .before .before .before .before .before .before .before .before .before .before .before .pre in
     numbers-decide (a .g) (a .map .now) (a .places .now) (a .numbers .now) (a .used .now) (a .tail) (a .number)
     _ (the-mark-names .result) (the-mark-names .ensures) (the-if1 .left)
     (the-bits-agree .result) (length (a .used .now)) (p .1 .1 .1 .1) (the-bits-agree .ensures) (the-if2 .left)

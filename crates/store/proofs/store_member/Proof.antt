@@ -33,9 +33,8 @@ shared-slice-read-k c = search needs
 
 cast-k : tie.Need-cast-k
 cast-k c =
-    let start = c .before .before .before .before .before .before .before .before .before .before .before in
-    let the-pre = start .pre in
-    let a = start .args in
+    let the-pre = c .before .before .before .before .before .before .before .before .before .before .before .pre in
+    let a = c .before .before .before .before .before .before .before .before .before .before .before .args in
     let e = the-pre .1 .1 .1 .1 .1 .0 in
     let h = the-pre .1 .1 .1 .1 .1 .1 .1 .1 .0 in
     let k = the-pre .1 .1 .1 .1 .0 (a .count + a .j) (omega arith) in
@@ -48,9 +47,8 @@ slice-aggregate-store-map c = search needs
 store-map-requires : tie.Need-store-map-requires
 store-map-requires c κs =
     let the-changed-piece = c .before .before .before .before .before .changed-piece in
-    let start = c .before .before .before .before .before .before .before .before .before .before .before .before .before .before in
-    let the-pre = start .pre in
-    let a = start .args in
+    let the-pre = c .before .before .before .before .before .before .before .before .before .before .before .before .before .before .pre in
+    let a = c .before .before .before .before .before .before .before .before .before .before .before .before .before .before .args in
     let e = the-pre .1 .1 .1 .1 .1 .0 in
     let h = the-pre .1 .1 .1 .1 .1 .1 .1 .1 .0 in
     let k = the-pre .1 .1 .1 .1 .0 (a .count + a .j) (omega arith) in
@@ -103,9 +101,8 @@ slice-aggregate-store-map-3 c = search needs
 store-map-requires-2 : tie.Need-store-map-requires-2
 store-map-requires-2 c κs =
     let the-changed-piece = c .before .before .before .before .before .before .before .changed-piece in
-    let start = c .before .before .before .before .before .before .before .before .before .before .before .before .before .before .before .before in
-    let the-pre = start .pre in
-    let a = start .args in
+    let the-pre = c .before .before .before .before .before .before .before .before .before .before .before .before .before .before .before .before .pre in
+    let a = c .before .before .before .before .before .before .before .before .before .before .before .before .before .before .before .before .args in
     let e = the-pre .1 .1 .1 .1 .1 .0 in
     let h = the-pre .1 .1 .1 .1 .1 .1 .1 .1 .0 in
     let k = the-pre .1 .1 .1 .1 .0 (a .count + a .j) (omega arith) in

@@ -53,10 +53,10 @@ pieces-again c =
       omega arith,
       l .inv .1,
       rank-skips (a .written .now) (l .p) (l .j) (c .if1 .taken) (l .inv .2),
-      rw add-one (storing-skips (flagged (a .written .now)) (stores (a .s) (a .map .now)
-          (a .blocks .now) (a .news .now) (a .taken .now) (a .branches .now) (a .written
-          .now) (a .count) (a .members)) (sectorAt (a .image .now)) (a .allowance)
-          (l .p) (l .left) (sectorAt (l .image)) (not-flagged (a .written .now) (l .p) (c .if1 .taken)) (l .inv .3)),
+      rw add-one
+          (storing-skips (flagged (a .written .now))
+          (stores (a .s) (a .map .now) (a .blocks .now) (a .news .now) (a .taken .now) (a .branches .now) (a .written .now) (a .count) (a .members))
+          (sectorAt (a .image .now)) (a .allowance) (l .p) (l .left) (sectorAt (l .image)) (not-flagged (a .written .now) (l .p) (c .if1 .taken)) (l .inv .3)),
     )
 
 same-length : tie.Need-same-length Inv-pieces μ-pieces
@@ -76,10 +76,9 @@ returns c =
 store-member-requires : tie.Need-store-member-requires Inv-pieces μ-pieces
 store-member-requires c κs =
     let the-if1 = c .before .before .if1 in
-    let start = c .before .before .before .before .before .before .before .before .before .before .before .before .before .before in
-    let a = start .args in
+    let a = c .before .before .before .before .before .before .before .before .before .before .before .before .before .before .args in
     let l = c .before .before .before .before .before .pieces in
-    let r = start .pre in
+    let r = c .before .before .before .before .before .before .before .before .before .before .before .before .before .before .pre in
     let b = count-before (flagged (a .written .now)) (l .p) (piecesFor (a .s .geometry .l)) (omega arith) (is-flagged (a .written .now) (l .p) (the-if1 .left)) in
     let m = r .1 .counted in
     let j = l .inv .2 in
@@ -112,11 +111,11 @@ pieces-again-2 c =
       the-store-member .kept .1 .0 ∙ l .inv .1,
       rank-grows (a .written .now) (l .p) (l .j) (the-if1 .left) (l .inv .2),
       rw add-one
-          (storing-stores (flagged (a .written .now)) (stores (a .s) (a .map .now)
-          (a .blocks .now) (a .news .now) (a .taken .now) (a .branches .now) (a .written
-          .now) (a .count) (a .members)) (sectorAt (a .image .now)) (a .allowance)
-          (l .p) (l .left) (sectorAt (l .image)) _ (is-flagged (a .written .now) (l .p) (the-if1 .left))
-          (positive (l .left) (the-if2 .left)) (l .inv .3) (member-stored (a .s) (a .map .now) (a .blocks .now) (a .news .now) (a .taken .now) (a .branches .now) (a .written .now) (a .count) (a .members) (l .p) (l .j) (sectorAt (l .image)) _ (l .inv .2) (the-store-member .ensures))),
+          (storing-stores (flagged (a .written .now))
+          (stores (a .s) (a .map .now) (a .blocks .now) (a .news .now) (a .taken .now) (a .branches .now) (a .written .now) (a .count) (a .members))
+          (sectorAt (a .image .now)) (a .allowance) (l .p) (l .left) (sectorAt (l .image)) _ (is-flagged (a .written .now) (l .p) (the-if1 .left))
+          (positive (l .left) (the-if2 .left)) (l .inv .3)
+          (member-stored (a .s) (a .map .now) (a .blocks .now) (a .news .now) (a .taken .now) (a .branches .now) (a .written .now) (a .count) (a .members) (l .p) (l .j) (sectorAt (l .image)) _ (l .inv .2) (the-store-member .ensures))),
     )
 
 same-length-2 : tie.Need-same-length-2 Inv-pieces μ-pieces

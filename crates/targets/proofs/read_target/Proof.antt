@@ -52,14 +52,13 @@ offer-requires c κs =
     let the-sector = c .before .before .before .before .sector in
     let the-if1 = c .before .before .before .before .before .if1 in
     let the-is-signed = c .before .before .before .before .before .before .before .before .before .before .is-signed in
-    let start = c .before .before .before .before .before .before .before .before .before .before .before .before .before .before .before .before .before .before .before in
-    let a = start .args in
-    let p = start .pre in
+    let a = c .before .before .before .before .before .before .before .before .before .before .before .before .before .before .before .before .before .before .before .args in
+    let p = c .before .before .before .before .before .before .before .before .before .before .before .before .before .before .before .before .before .before .before .pre in
     let w = p .1 .1 .1 .1 in
-    let b = piece-inside (a .g) (sectorAt (a .image .now)) (a .holder) (a .waiting .now) (a .numbers .now) (a .taken .now) (p .1 .1 .1 .1) (a .target)
-    (p .1 .0) (signed-here (a .g) (sectorAt (a .image .now)) (a .target) (the-is-signed
-    .result) true (p .1 .1 .0) (the-is-signed .ensures .0) (not-false (the-is-signed .result) (the-if1 .left))) _ (the-sector .ensures)
-    (the-number-of .result) (c .piece-of .result) (the-number-of .ensures) (c .piece-of .ensures) in
+    let b = piece-inside (a .g) (sectorAt (a .image .now)) (a .holder) (a .waiting .now) (a .numbers .now) (a .taken .now) (p .1 .1 .1 .1) (a .target) (p .1 .0)
+    (signed-here (a .g) (sectorAt (a .image .now)) (a .target) (the-is-signed .result) true (p .1 .1 .0) (the-is-signed .ensures .0)
+    (not-false (the-is-signed .result) (the-if1 .left))) _ (the-sector .ensures) (the-number-of .result) (c .piece-of .result) (the-number-of .ensures)
+    (c .piece-of .ensures) in
     let wl = w .waitingLong in
     let nl = w .numbersLong in
     let tl = w .takenLong in
@@ -86,9 +85,9 @@ returns-2 c =
     let the-if1 = c .before .before .before .before .before .before .before .before .before .before .if1 in
     let the-is-signed = c .before .before .before .before .before .before .before .before .before .before .before .before .before .before .before .is-signed in
     let p = c .before .before .before .before .before .before .before .before .before .before .before .before .before .before .before .before .before .before .before .before .before .before .before .before .pre in
-    let r = target-offered _ _ _ _ _ _ (p .1 .1 .1 .1) _ (p .1 .0) (signed-here _ _ _ (the-is-signed .result) true (p .1 .1 .0) (the-is-signed
-    .ensures .0) (not-false (the-is-signed .result) (the-if1 .left))) _ (the-sector .ensures) (the-number-of .result) (the-piece-of .result)
-    (the-number-of .ensures) (the-piece-of .ensures) _ _ (the-offer .ensures .0) (the-offer .ensures .1) in
+    let r = target-offered _ _ _ _ _ _ (p .1 .1 .1 .1) _ (p .1 .0)
+    (signed-here _ _ _ (the-is-signed .result) true (p .1 .1 .0) (the-is-signed .ensures .0) (not-false (the-is-signed .result) (the-if1 .left))) _ (the-sector .ensures)
+    (the-number-of .result) (the-piece-of .result) (the-number-of .ensures) (the-piece-of .ensures) _ _ (the-offer .ensures .0) (the-offer .ensures .1) in
     (r .0, the-is-signed .ensures .1, r .1)
 
 pub read-target-spec : {M : Type 1} → statement M

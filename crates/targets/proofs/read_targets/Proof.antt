@@ -48,9 +48,8 @@ cast-count c = search needs
 
 loop-holds : tie.Need-loop-holds Inv-loop μ-loop
 loop-holds c =
-    let start = c .before .before .before .before .before .before .before .before .before in
-    let a = start .args in
-    let p = start .pre in
+    let a = c .before .before .before .before .before .before .before .before .before .args in
+    let p = c .before .before .before .before .before .before .before .before .before .pre in
     let i = p .0 in
     let h = inside (a .g) (sectorAt (a .image .now)) (a .k) (p .1 .0) in (
       omega arith,
@@ -105,9 +104,8 @@ loop-again c =
     let the-branch-count = c .before .before .before .before .before .before .before .before .before .before .before .before .before .before .before .before .branch-count in
     let the-number-of = c .before .before .before .before .before .before .before .before .before .before .before .before .before .before .before .before .before .number-of in
     let the-sector = c .before .before .before .before .before .before .before .before .before .before .before .before .before .before .before .before .before .before .sector in
-    let start = c .before .before .before .before .before .before .before .before .before .before .before .before .before .before .before .before .before .before .before .before .before .before .before .before .before in
-    let a = start .args in
-    let p = start .pre in
+    let a = c .before .before .before .before .before .before .before .before .before .before .before .before .before .before .before .before .before .before .before .before .before .before .before .before .before .args in
+    let p = c .before .before .before .before .before .before .before .before .before .before .before .before .before .before .before .before .before .before .before .before .before .before .before .before .before .pre in
     let i = p .0 in
     let h = inside (a .g) (sectorAt (a .image .now)) (a .k) (p .1 .0) in
     let l = c .before .before .before .before .before .before .before .before .before .before .before .before .before .before .before .loop in
@@ -147,17 +145,16 @@ returns : tie.Need-returns Inv-loop μ-loop
 returns c =
     let the-branch-count = c .before .before .branch-count in
     let the-sector = c .before .before .before .before .sector in
-    let start = c .before .before .before .before .before .before .before .before .before .before .before in
-    let a = start .args in
-    let p = start .pre in
+    let a = c .before .before .before .before .before .before .before .before .before .before .before .args in
+    let p = c .before .before .before .before .before .before .before .before .before .before .before .pre in
     let i = p .0 in
     let h = inside (a .g) (sectorAt (a .image .now)) (a .k) (p .1 .0) in
     let l = c .before .loop in
     let t = c .loop-test .left in
     let len = count-is (a .g) (sectorAt (a .image .now)) (a .k) (p .1 .0) (sector-length (a .image .now) (a .k) (omega arith)) _ (the-sector .ensures) (the-branch-count .result) (the-branch-count .ensures) in (
-      reading-ends (imageView (a .g) (sectorAt (a .image .now))) (numberIn (imageView
-          (a .g) (sectorAt (a .image .now)) (a .k))) (branchesIn (imageView (a .g) (sectorAt (a .image .now)) (a .k))) (walkOf (a .waiting .now) (a .taken
-          .now)) (walkOf (l .waiting) (a .taken .now)) (l .i) (omega arith) (l .inv .5),
+      reading-ends (imageView (a .g) (sectorAt (a .image .now))) (numberIn (imageView (a .g) (sectorAt (a .image .now)) (a .k)))
+          (branchesIn (imageView (a .g) (sectorAt (a .image .now)) (a .k))) (walkOf (a .waiting .now) (a .taken .now)) (walkOf (l .waiting) (a .taken .now)) (l .i)
+          (omega arith) (l .inv .5),
       l .inv .3,
       l .inv .4,
     )

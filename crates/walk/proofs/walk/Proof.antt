@@ -52,9 +52,8 @@ returns c =
 count-branches-requires : tie.Need-count-branches-requires
 count-branches-requires c κs =
     let the-walk-tables = c .before .before .before .before .before .before .before .before .before .before .walk-tables in
-    let start = c .before .before .before .before .before .before .before .before .before .before .before .before .before .before .before .before .before .before .before .before .before .before .before .before in
-    let the-pre = start .pre in
-    let a = start .args in
+    let the-pre = c .before .before .before .before .before .before .before .before .before .before .before .before .before .before .before .before .before .before .before .before .before .before .before .before .pre in
+    let a = c .before .before .before .before .before .before .before .before .before .before .before .before .before .before .before .before .before .before .before .before .before .before .before .before .args in
     let left = the-walk-tables .ensures .1 (not-false (the-walk-tables .result) (c .before .if1 .left)) in
     let i = the-pre .1 .0 in
     let k = left .long in

@@ -29,18 +29,16 @@ returns : tie.Need-returns
 returns c =
     let the-all-taken = c .before .all-taken in
     let the-walk-from = c .before .before .before .before .before .walk-from in
-    let start = c .before .before .before .before .before .before .before .before .before .before .before .before .before .before .before .before in
-    let a = start .args in
-    let p = start .pre in
+    let a = c .before .before .before .before .before .before .before .before .before .before .before .before .before .before .before .before .args in
+    let p = c .before .before .before .before .before .before .before .before .before .before .before .before .before .before .before .before .pre in
     let s = sectors-some (a .g) (p .0) in
     let pos : 0 < a .g .n = omega arith in walk-fails (a .g) (sectorAt (a .image .now)) (a .tail) (a .number) pos _ (the-walk-from .ensures) (the-all-taken .result) (the-all-taken .ensures) (c .if1 .taken) _ _ _
 
 walk-fill-requires : tie.Need-walk-fill-requires
 walk-fill-requires c κs =
     let the-walk-from = c .before .before .before .before .before .before .before .before .walk-from in
-    let start = c .before .before .before .before .before .before .before .before .before .before .before .before .before .before .before .before .before .before .before in
-    let a = start .args in
-    let p = start .pre in
+    let a = c .before .before .before .before .before .before .before .before .before .before .before .before .before .before .before .before .before .before .before .args in
+    let p = c .before .before .before .before .before .before .before .before .before .before .before .before .before .before .before .before .before .before .before .pre in
     let s = sectors-some (a .g) (p .0) in
     let pos : 0 < a .g .n = omega arith in
     let k = places-long (a .g) (sectorAt (a .image .now)) (a .tail) (a .number) pos _ (the-walk-from .ensures) in
@@ -55,9 +53,8 @@ log-agrees-requires : tie.Need-log-agrees-requires
 log-agrees-requires c κs =
     let the-walk-fill = c .before .before .before .before .before .before .before .before .walk-fill in
     let the-walk-from = c .before .before .before .before .before .before .before .before .before .before .before .before .before .before .before .before .before .walk-from in
-    let start = c .before .before .before .before .before .before .before .before .before .before .before .before .before .before .before .before .before .before .before .before .before .before .before .before .before .before .before .before in
-    let a = start .args in
-    let p = start .pre in
+    let a = c .before .before .before .before .before .before .before .before .before .before .before .before .before .before .before .before .before .before .before .before .before .before .before .before .before .before .before .before .args in
+    let p = c .before .before .before .before .before .before .before .before .before .before .before .before .before .before .before .before .before .before .before .before .before .before .before .before .before .before .before .before .pre in
     let s = sectors-some (a .g) (p .0) in
     let pos : 0 < a .g .n = omega arith in
     let k = the-walk-fill .kept .1 .1 in
@@ -82,9 +79,8 @@ returns-2 c =
     let the-if1 = c .before .before .before .before .before .before .before .before .before .before .before .before .before .before .before .if1 in
     let the-all-taken = c .before .before .before .before .before .before .before .before .before .before .before .before .before .before .before .before .all-taken in
     let the-walk-from = c .before .before .before .before .before .before .before .before .before .before .before .before .before .before .before .before .before .before .before .before .walk-from in
-    let start = c .before .before .before .before .before .before .before .before .before .before .before .before .before .before .before .before .before .before .before .before .before .before .before .before .before .before .before .before .before .before .before in
-    let a = start .args in
-    let p = start .pre in
+    let a = c .before .before .before .before .before .before .before .before .before .before .before .before .before .before .before .before .before .before .before .before .before .before .before .before .before .before .before .before .before .before .before .args in
+    let p = c .before .before .before .before .before .before .before .before .before .before .before .before .before .before .before .before .before .before .before .before .before .before .before .before .before .before .before .before .before .before .before .pre in
     let s = sectors-some (a .g) (p .0) in
     let pos : 0 < a .g .n = omega arith in
     walk-decides (a .g) (sectorAt (a .image .now)) (a .tail) (a .number) pos _ (the-walk-from .ensures) (the-all-taken .result) (the-all-taken .ensures) (the-if1 .left) _ _ _ _ (p .1 .1 .1 .1 .0) (p .1 .1 .1 .1 .1 .1 .0) (the-walk-fill .ensures .0) (the-walk-fill .ensures .1)

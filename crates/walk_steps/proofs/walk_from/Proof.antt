@@ -56,9 +56,8 @@ slice-aggregate-walk-waiting-4 c =
 walk-waiting-requires : tie.Need-walk-waiting-requires
 walk-waiting-requires c κs =
     let the-pieces-for = c .before .before .before .before .before .pieces-for in
-    let start = c .before .before .before .before .before .before .before .before in
-    let the-pre = start .pre in
-    let a = start .args in
+    let the-pre = c .before .before .before .before .before .before .before .before .pre in
+    let a = c .before .before .before .before .before .before .before .before .args in
     let m = blocks-most (a .g) (the-pre .0) in
     let q = the-pieces-for .ensures in
     let z = zeros-part (the-pieces-for .result) 256 (omega arith) ∙ ap (λ (x : ℕ). replicate {A = ℕ} x 0) q in

@@ -35,9 +35,8 @@ mul-waiting c = search needs
 
 slice-write-waiting : tie.Need-slice-write-waiting
 slice-write-waiting c =
-    let start = c .before .before .before .before .before .before .before .before in
-    let a = start .args in
-    let p = start .pre in
+    let a = c .before .before .before .before .before .before .before .before .args in
+    let p = c .before .before .before .before .before .before .before .before .pre in
     let i = p .0 in
     let h = inside (a .g) (sectorAt (a .image .now)) (a .tail) (p .1 .1 .0) in
     let b = signed-piece (a .g) (sectorAt (a .image .now)) (a .tail) (p .1 .1 .0) in
@@ -57,9 +56,8 @@ mul-numbers c = search needs
 slice-write-numbers : tie.Need-slice-write-numbers
 slice-write-numbers c =
     let the-sector = c .before .before .sector in
-    let start = c .before .before .before .before .before .before .before .before .before in
-    let a = start .args in
-    let p = start .pre in
+    let a = c .before .before .before .before .before .before .before .before .before .args in
+    let p = c .before .before .before .before .before .before .before .before .before .pre in
     let i = p .0 in
     let h = inside (a .g) (sectorAt (a .image .now)) (a .tail) (p .1 .1 .0) in
     let b = signed-piece (a .g) (sectorAt (a .image .now)) (a .tail) (p .1 .1 .0) in

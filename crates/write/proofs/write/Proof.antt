@@ -36,16 +36,12 @@ commit-requires c κs =
     let the-commit-verdict = c .before .before .before .before .before .before .before .commit-verdict in
     let the-bytes-fit = c .before .before .before .before .before .before .before .before .before .before .before .before .before .bytes-fit in
     let a = c .before .before .before .before .before .before .before .before .before .before .before .before .before .before .before .before .before .before .before .before .before .args in (
-      write-passed (a .s) (a .image .now) (a .map .now) (a .places .now) (a .numbers
-          .now) (a .used .now) (a .head) (a .blocks .now) (a .allowance) (a .bytes
-          .now) (the-bytes-fit .result) (the-bytes-fit .ensures) (sym (the-enum-told
-          .given .1) ∙ the-commit-verdict .ensures),
+      write-passed (a .s) (a .image .now) (a .map .now) (a .places .now) (a .numbers .now) (a .used .now) (a .head) (a .blocks .now) (a .allowance) (a .bytes .now)
+          (the-bytes-fit .result) (the-bytes-fit .ensures) (sym (the-enum-told .given .1) ∙ the-commit-verdict .ensures),
       (
         inr refl,
-        write-length (a .s)
-            (a .image .now) (a .map .now) (a .places .now) (a .numbers .now) (a .used
-            .now) (a .head) (a .blocks .now) (a .allowance) (a .bytes .now) (the-bytes-fit
-            .result) (the-bytes-fit .ensures) (sym (the-enum-told .given .1) ∙ the-commit-verdict .ensures),
+        write-length (a .s) (a .image .now) (a .map .now) (a .places .now) (a .numbers .now) (a .used .now) (a .head) (a .blocks .now) (a .allowance) (a .bytes .now)
+            (the-bytes-fit .result) (the-bytes-fit .ensures) (sym (the-enum-told .given .1) ∙ the-commit-verdict .ensures),
       ),
     )
 

@@ -36,10 +36,8 @@ returns c =
     let the-drop = c .before .before .before .before .before .before .before .before .before .before .before .drop in
     let the-state-of = c .before .before .before .before .before .before .before .before .before .before .before .before .before .before .before .before .before .state-of in
     let a = c .before .before .before .before .before .before .before .before .before .before .before .before .before .before .before .before .before .before .before .before .before .before .before .before .args in
-    call-in-numbers (a .c) _ (the-drop .result) _
-    (c .result-of .result) (the-state-of .ensures) (c .result-of .ensures)
-    (λ (s : State). dropOf s (memory (a .image .now) (a .map .now) (a .places
-    .now) (a .numbers .now) (a .used .now)) (a .head) (a .blocks .now) (a .allowance))
+    call-in-numbers (a .c) _ (the-drop .result) _ (c .result-of .result) (the-state-of .ensures) (c .result-of .ensures)
+    (λ (s : State). dropOf s (memory (a .image .now) (a .map .now) (a .places .now) (a .numbers .now) (a .used .now)) (a .head) (a .blocks .now) (a .allowance))
     (the-drop .ensures)
 
 pub vlog-drop-spec : {M : Type 1} → statement M

@@ -36,10 +36,8 @@ returns c =
     let the-format = c .before .before .before .before .before .before .before .before .before .before .before .format in
     let the-state-of = c .before .before .before .before .before .before .before .before .before .before .before .before .before .before .before .before .before .state-of in
     let a = c .before .before .before .before .before .before .before .before .before .before .before .before .before .before .before .before .before .before .before .before .before .before .before .args in
-    call-in-numbers (a .c) _ (the-format .result) _
-    (c .result-of .result) (the-state-of .ensures) (c .result-of .ensures)
-    (λ (s : State). formatOf s (memory (a .image .now) (a .map .now) (a .places
-    .now) (a .numbers .now) (a .used .now)) (record { l = a .l }) (a .allowance))
+    call-in-numbers (a .c) _ (the-format .result) _ (c .result-of .result) (the-state-of .ensures) (c .result-of .ensures)
+    (λ (s : State). formatOf s (memory (a .image .now) (a .map .now) (a .places .now) (a .numbers .now) (a .used .now)) (record { l = a .l }) (a .allowance))
     (the-format .ensures)
 
 pub vlog-format-spec : {M : Type 1} → statement M

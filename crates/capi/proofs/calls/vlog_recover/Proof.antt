@@ -36,10 +36,8 @@ returns c =
     let the-recover = c .before .before .before .before .before .before .before .before .before .before .before .recover in
     let the-state-of = c .before .before .before .before .before .before .before .before .before .before .before .before .before .before .before .before .before .state-of in
     let a = c .before .before .before .before .before .before .before .before .before .before .before .before .before .before .before .before .before .before .before .before .before .before .before .args in
-    call-in-numbers (a .c) _ (the-recover .result) _
-    (c .result-of .result) (the-state-of .ensures) (c .result-of .ensures)
-    (λ (s : State). recoverOf s (memory (a .image .now) (a .map .now) (a .places
-    .now) (a .numbers .now) (a .used .now)) (record { l = a .l }) (a .allowance))
+    call-in-numbers (a .c) _ (the-recover .result) _ (c .result-of .result) (the-state-of .ensures) (c .result-of .ensures)
+    (λ (s : State). recoverOf s (memory (a .image .now) (a .map .now) (a .places .now) (a .numbers .now) (a .used .now)) (record { l = a .l }) (a .allowance))
     (the-recover .ensures)
 
 pub vlog-recover-spec : {M : Type 1} → statement M

@@ -36,11 +36,9 @@ returns c =
     let the-write = c .before .before .before .before .before .before .before .before .before .before .before .write in
     let the-state-of = c .before .before .before .before .before .before .before .before .before .before .before .before .before .before .before .before .before .state-of in
     let a = c .before .before .before .before .before .before .before .before .before .before .before .before .before .before .before .before .before .before .before .before .before .before .before .before .before .args in
-    call-in-numbers (a .c) _ (the-write .result) _
-    (c .result-of .result) (the-state-of .ensures) (c .result-of .ensures)
-    (λ (s : State). writeOf s (memory (a .image .now) (a .map .now) (a .places
-    .now) (a .numbers .now) (a .used .now)) (a .head) (a .blocks .now) (a .bytes .now) (a .allowance))
-    (the-write .ensures)
+    call-in-numbers (a .c) _ (the-write .result) _ (c .result-of .result) (the-state-of .ensures) (c .result-of .ensures)
+    (λ (s : State). writeOf s (memory (a .image .now) (a .map .now) (a .places .now) (a .numbers .now) (a .used .now)) (a .head) (a .blocks .now) (a .bytes .now)
+    (a .allowance)) (the-write .ensures)
 
 pub vlog-write-spec : {M : Type 1} → statement M
 vlog-write-spec =

@@ -15,9 +15,8 @@ zero-bytes-requires c κs = search needs
 mark-names-requires : tie.Need-mark-names-requires
 mark-names-requires c κs =
     let the-zero-bytes = c .before .before .before .zero-bytes in
-    let start = c .before .before .before .before .before .before .before .before .before in
-    let a = start .args in
-    let p = start .pre in
+    let a = c .before .before .before .before .before .before .before .before .before .args in
+    let p = c .before .before .before .before .before .before .before .before .before .pre in
     let some = sectors-some (a .g) (p .0) in
     let e = p .1 .1 .1 .1 in
     let k = the-zero-bytes .kept .0 in
@@ -46,16 +45,14 @@ returns-2 c =
     let the-count-free = c .before .before .count-free in
     let the-if1 = c .before .before .before .before .if1 in
     let the-mark-names = c .before .before .before .before .before .before .before .mark-names in
-    let a = c .before .before .before .before .before .before .before .before .before .before .before .before .before .before .before .before .before
-    .args in room-fails (a .g) (a .map .now) (a .places .now) (a .numbers .now) (a .tail) (a .number) _ (the-mark-names .result)
-    (the-mark-names .ensures) (the-if1 .left) (the-count-free .result) (the-pieces-for .result) (the-count-free .ensures)
-    (the-pieces-for .ensures) (c .if2 .taken)
+    let a = c .before .before .before .before .before .before .before .before .before .before .before .before .before .before .before .before .before .args in
+    room-fails (a .g) (a .map .now) (a .places .now) (a .numbers .now) (a .tail) (a .number) _ (the-mark-names .result) (the-mark-names .ensures) (the-if1 .left)
+    (the-count-free .result) (the-pieces-for .result) (the-count-free .ensures) (the-pieces-for .ensures) (c .if2 .taken)
 
 numbers-agree-requires : tie.Need-numbers-agree-requires
 numbers-agree-requires c κs =
-    let start = c .before .before .before .before .before .before .before .before .before .before .before .before .before .before .before .before .before in
-    let a = start .args in
-    let p = start .pre in
+    let a = c .before .before .before .before .before .before .before .before .before .before .before .before .before .before .before .before .before .args in
+    let p = c .before .before .before .before .before .before .before .before .before .before .before .before .before .before .before .before .before .pre in
     let some = blocks-some (a .g) (p .0) in
     let e = p .1 .1 .1 .0 in
     (omega arith, p .1 .1 .0 ∙ sym e)
@@ -69,9 +66,8 @@ returns-3 c =
     let the-count-free = c .before .before .before .count-free in
     let the-if1 = c .before .before .before .before .before .if1 in
     let the-mark-names = c .before .before .before .before .before .before .before .before .mark-names in
-    let start = c .before .before .before .before .before .before .before .before .before .before .before .before .before .before .before .before .before .before in
-    let the-pre = start .pre in
-    let a = start .args in
+    let the-pre = c .before .before .before .before .before .before .before .before .before .before .before .before .before .before .before .before .before .before .pre in
+    let a = c .before .before .before .before .before .before .before .before .before .before .before .before .before .before .before .before .before .before .args in
     numbers-decide (a .g) (a .map .now) (a .places .now) (a .numbers .now) (a .tail) (a .number) _ (the-mark-names .result) (the-mark-names .ensures) (the-if1 .left) (the-count-free .result) (the-pieces-for .result) (the-count-free .ensures) (the-pieces-for .ensures) (c .before .if2 .left)
     (c .numbers-agree .result) (length (a .numbers .now)) (the-pre .1 .1 .1 .0) (c .numbers-agree .ensures)
 

@@ -54,10 +54,11 @@ loop-again c =
     let a = c .before .before .before .before .before .before .args in
     let l = c .before .before .loop in
     let e = filled-length (λ b. at (entryWords (wordsOf (sectorAt (a .image .now) (at (a .places .now) (pieceOf b))))) (indexOf b)) (a .map .now) (l .b) (l .map) (l .inv) in
-    subst (λ (x : ℕ). Filled (λ b. at (entryWords (wordsOf (sectorAt (a .image .now)
-    (at (a .places .now) (pieceOf b))))) (indexOf b)) (a .map .now) (l .b + 1) (set (l .map) (l .b) x)) (sym (c .entry-in .ensures))
-    (filled-more (λ b. at (entryWords (wordsOf (sectorAt (a .image .now) (at
-    (a .places .now) (pieceOf b))))) (indexOf b)) (a .map .now) (l .b) (l .map) (omega arith) (l .inv))
+    subst
+    (λ (x : ℕ). Filled (λ b. at (entryWords (wordsOf (sectorAt (a .image .now) (at (a .places .now) (pieceOf b))))) (indexOf b)) (a .map .now) (l .b + 1)
+    (set (l .map) (l .b) x)) (sym (c .entry-in .ensures))
+    (filled-more (λ b. at (entryWords (wordsOf (sectorAt (a .image .now) (at (a .places .now) (pieceOf b))))) (indexOf b)) (a .map .now) (l .b) (l .map) (omega arith)
+    (l .inv))
 
 same-length : tie.Need-same-length Inv-loop μ-loop
 same-length c = let a = c .before .before .before .before .before .args in let l = c .before .loop in filled-length (λ b. at (entryWords (wordsOf (sectorAt (a .image .now) (at (a .places .now) (pieceOf b))))) (indexOf b)) (a .map .now) (l .b) (l .map) (l .inv)
