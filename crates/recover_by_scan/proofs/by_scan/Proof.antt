@@ -1,5 +1,5 @@
 -- What the scan found is the finding of the definition.
-use mathlib.Core.Path.{refl}
+use mathlib.Core.Path.{refl, _∙_}
 use native.Mathlib.Omega.{arith}
 use Rattle.volume.specs.Tables.{bitAt}
 use Rattle.laws.proofs.Sizes.{fits}
@@ -72,7 +72,10 @@ same-length-6 : tie.Need-same-length-6
 same-length-6 c = search needs
 
 same-length-7 : tie.Need-same-length-7
-same-length-7 c = search needs
+same-length-7 c =
+    let the-after-scan = c .before .before .before .before .before .before .before .before .before .before .after-scan in
+    let the-scan = c .before .before .before .before .before .before .before .before .before .before .before .before .before .before .before .before .before .before .before .before .before .before .before .before .before .before .before .before .before .scan in
+    the-after-scan .kept .1 .0 ∙ the-scan .kept .1 .1 .0
 
 same-length-8 : tie.Need-same-length-8
 same-length-8 c = search needs
