@@ -1,6 +1,7 @@
 // Blocks as they are stored, and map entries. A block that begins with the map mark is stored flipped: with its first byte
 // complemented, and bit 31 of its entry set.
 ghost use mathlib.Core.Path.{_≡_};
+ghost use mathlib.Core.Bool.{_&&_};
 ghost use Prim.Native.Nat.{_<_, _^_};
 ghost use lib.ListN.{length};
 ghost use Rattle.geometry.specs.Geometry.{sectorBytes};
@@ -65,7 +66,7 @@ pub fn store_block(dst: &mut [u8], block: &[u8])
     requires { ⌜ length (now block) ≡ sectorBytes ⌝ }
     ensures { λ _. ⌜ now (dst .exit) ≡ stored (now (block .entry)) ⌝ }
 {
-    marks::copy_over(dst, block);
+    marks::copy_sector(dst, block);
     if needs_flip(block) {
         complement(dst);
     }
@@ -82,22 +83,31 @@ pub fn restore_block(out: &mut [u8], entry: u32, bytes: &[u8])
         marks::copy_over(out, &zeros);
         return;
     }
-    marks::copy_over(out, bytes);
+    marks::copy_sector(out, bytes);
     if is_flipped(entry) {
         complement(out);
     }
 }
 
-// Whether every byte is zero.
+// Whether all was zero so far, and b is.
+fn still_zero(good: bool, b: u8) -> bool
+    ensures { λ r. ⌜ r ≡ (good && isZero b) ⌝ }
+{
+    if b != 0 {
+        return false;
+    }
+    good
+}
+
+// Whether every byte is zero. All are looked at, so that the compiler compares several at a time.
 pub fn is_blank(s: &[u8]) -> bool
     ensures { λ r. ⌜ r ≡ all isZero (now (s .entry)) ⌝ }
 {
+    let mut good = true;
     let mut i = 0;
     while i < s.len() {
-        if s[i] != 0 {
-            return false;
-        }
+        good = still_zero(good, s[i]);
         i += 1;
     }
-    true
+    good
 }

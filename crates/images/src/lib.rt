@@ -27,7 +27,7 @@ pub fn store_sector(image: &mut [u8], k: usize, bytes: &[u8])
 {
     let first = Geometry::SECTOR * k;
     let end = first + Geometry::SECTOR;
-    marks::copy_over(&mut image[first..end], bytes);
+    marks::copy_sector(&mut image[first..end], bytes);
 }
 
 // Stores a blank sector.

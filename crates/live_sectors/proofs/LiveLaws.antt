@@ -2,9 +2,10 @@
 use Prim.Native.Nat.{ℕ, _+_, _*_, _≤_, _<_}
 use mathlib.Core.Path.{_≡_, refl, sym, _∙_, ap, subst}
 use mathlib.Core.Logic.{⊎-elim}
-use mathlib.Core.Bool.{Bool, true, false, cond, not, _&&_}
+use mathlib.Core.Bool.{Bool, true, false, cond, not, _&&_, true≢false}
 use mathlib.Core.List.{List, []}
 use mathlib.Core.Option.{Option, none, some}
+use native.Mathlib.Numerals.{add-one}
 use native.Mathlib.Omega.{arith}
 use lib.ListN.{length, length-drop}
 use lib.Seq.{ext-getD}
@@ -19,7 +20,7 @@ use Rattle.layout.specs.MapSector.{MapSector, entryWords, fields, valid, decode
 use Rattle.volume.specs.Tables.{Memory, sectorAt, memory, tablesOf, consistent, pieceEntries, saysPiece, liveValid}
 use Rattle.volume.specs.Format.{tablesFit}
 use Rattle.volume.specs.Calls.{viewOf, stateFits, tablesAgree}
-use Rattle.laws.proofs.Bounded.{bool?, and-l, and-r, not-of, cond-true, cond-false, length-listFrom, listFrom-at, past-end}
+use Rattle.laws.proofs.Bounded.{bool?, and-l, and-r, not-of, cond-true, cond-false, length-listFrom, listFrom-at, past-end, allBelow-at, allBelow-is}
 use Rattle.laws.proofs.Names.{piece, sound}
 use Rattle.laws.proofs.Words.{length-wordsOf}
 use Rattle.laws.proofs.Lists.{same-is, same-not}
@@ -52,15 +53,50 @@ module _ (bs map : List ℕ) (p : ℕ) (long : length bs ≡ 512) where
   own-long : length Own ≡ 96
   own-long = let e = length-wordsOf bs in simp length-drop (omega arith)
 
-  pub entries-differ : (i : ℕ) → i < 96 → (a b : ℕ) → a ≡ at Own i → b ≡ at map (96 * p + i) → (a ≡ b → ⊥) → false ≡ same Own Entries
-  entries-differ i h a b e f d =
-      sym (same-not Own Entries (λ z. d (e ∙ ap (λ (xs : List ℕ). at xs i) z ∙ piece-at i h ∙ sym f)))
+  -- Own entry i, and the map's.
+  abbrev pub Equal : ℕ → ℕ → Bool
+  Equal first i = eqb (at Own i) (at map (first + i))
 
-  pub entries-same : ((j : ℕ) → j < 96 → at Own j ≡ at map (96 * p + j)) → true ≡ same Own Entries
+  entries-same : allBelow (Equal (96 * p)) 96 ≡ true → true ≡ same Own Entries
   entries-same f =
       let e : Own ≡ Entries = ext-getD 0 Own Entries (own-long ∙ sym piece-long)
-      (λ i k. let k′ : i < 96 = (let o = own-long in omega arith) in f i k′ ∙ sym (piece-at i k′)) in
+      (λ i k.
+      let k′ : i < 96 = (let o = own-long in omega arith) in
+      eqb-true (at Own i) (at map (96 * p + i)) (allBelow-at (Equal (96 * p)) 96 f i k′) ∙ sym (piece-at i k′)) in
       sym (subst (λ (xs : List ℕ). same Own xs ≡ true) e (same-is Own))
+
+  entries-differ : allBelow (Equal (96 * p)) 96 ≡ false → false ≡ same Own Entries
+  entries-differ f =
+      sym (same-not Own Entries (λ z.
+      true≢false (sym (allBelow-is (Equal (96 * p)) 96
+      (λ i h. eq-eqb (at Own i) (at map (96 * p + i)) (ap (λ (xs : List ℕ). at xs i) z ∙ piece-at i h))) ∙ f)))
+
+  pub entries-decided : (first : ℕ) → first ≡ 96 * p → (r : Bool) → r ≡ allBelow (Equal first) 96 → r ≡ same Own Entries
+  entries-decided first e r f =
+      let g : r ≡ allBelow (Equal (96 * p)) 96 = f ∙ ap (λ (k : ℕ). allBelow (Equal k) 96) e in
+      g ∙ ⊎-elim (λ (z : allBelow (Equal (96 * p)) 96 ≡ true). z ∙ entries-same z) (λ (z : allBelow (Equal (96 * p)) 96 ≡ false). z ∙ entries-differ z)
+      (bool? (allBelow (Equal (96 * p)) 96))
+
+-- A test of every i below a bound, gathered.
+pub gathered-none : (test : ℕ → Bool) → true ≡ allBelow test 0
+unfolding allBelow
+gathered-none test = refl
+
+pub gathered-more : (test : ℕ → Bool) (i : ℕ) (good good′ b : Bool) → good ≡ allBelow test i → b ≡ test i → good′ ≡ (good && b) → good′ ≡ allBelow test (i + 1)
+unfolding allBelow
+gathered-more test i good good′ b e f g = rw (add-one, ← e, ← f) g
+
+pub gathered-all : (test : ℕ → Bool) (i n : ℕ) (good : Bool) → i ≡ n → good ≡ allBelow test i → good ≡ allBelow test n
+gathered-all test i n good e f = f ∙ ap (allBelow test) e
+
+-- Two numbers, the same or not.
+pub same-not-so : (good : Bool) (a b : ℕ) → (a ≡ b → ⊥) → false ≡ (good && eqb a b)
+same-not-so true a b d = sym (ne-eqb a b d)
+same-not-so false a b d = refl
+
+pub same-so : (good : Bool) (a b : ℕ) → a ≡ b → good ≡ (good && eqb a b)
+same-so true a b e = sym (eq-eqb a b e)
+same-so false a b e = refl
 
 -- Three tests, in their order.
 module _ (a b c : Bool) where

@@ -1,11 +1,12 @@
 // The live map sectors against the tables: refusal 5 of write, drop and park.
 ghost use mathlib.Core.Path.{_≡_};
-ghost use mathlib.Core.Bool.{true};
+ghost use mathlib.Core.Bool.{true, _&&_};
 ghost use mathlib.Core.List.{[]};
-ghost use Prim.Native.Nat.{ℕ, _*_, _≤_, _<_};
+ghost use Prim.Native.Nat.{ℕ, _+_, _*_, _≤_, _<_};
 ghost use lib.ListN.{length};
+ghost use lib.Dec.{eqb};
 ghost use Rattle.geometry.specs.Geometry.{sectorBytes, piecesFor};
-ghost use Rattle.layout.specs.Bounded.{at, same};
+ghost use Rattle.layout.specs.Bounded.{at, allBelow, same};
 ghost use Rattle.layout.specs.Word.{wordsOf};
 ghost use Rattle.layout.specs.MapSector.{entryWords, decoded};
 ghost use Rattle.volume.specs.Tables.{sectorAt, memory, tablesOf, pieceEntries, saysPiece, liveValid};
@@ -14,21 +15,62 @@ ghost use Rattle.volume.specs.Calls.{viewOf, stateFits, tablesAgree};
 use geometry::Geometry;
 use state::State;
 
-// Whether the sector's 96 entries are those of piece p in the map; those past the map's end are zero.
+// Whether all was the same so far, and a and b are.
+fn still_same(good: bool, a: u32, b: u32) -> bool
+    ensures { λ r. ⌜ r ≡ (good && eqb a b) ⌝ }
+{
+    if a != b {
+        return false;
+    }
+    good
+}
+
+// Whether the sector's 96 entries are those of the map from `first` on. All are looked at, so that the compiler compares several at
+// a time.
+fn whole_matches(s: &[u8], map: &[u32], first: usize) -> bool
+    requires { ⌜ length (now s) ≡ sectorBytes ⌝ }
+    requires { ⌜ first + 96 ≤ length (now map) ⌝ }
+    ensures { λ r. ⌜ r ≡ allBelow (λ i. eqb (at (entryWords (wordsOf (now (s .entry)))) i) (at (now (map .entry)) (first + i))) 96 ⌝ }
+{
+    let mut good = true;
+    let mut i = 0;
+    while i < 96 {
+        good = still_same(good, map_sector::entry_at(s, i), map[first + i]);
+        i += 1;
+    }
+    good
+}
+
+// The same of the last piece, where the map may end before it: past its end the entries are zero.
+fn last_matches(s: &[u8], map: &[u32], first: usize) -> bool
+    requires { ⌜ length (now s) ≡ sectorBytes ⌝ }
+    requires { ⌜ first < 24576 ⌝ }
+    ensures { λ r. ⌜ r ≡ allBelow (λ i. eqb (at (entryWords (wordsOf (now (s .entry)))) i) (at (now (map .entry)) (first + i))) 96 ⌝ }
+{
+    let mut good = true;
+    let mut i = 0;
+    while i < 96 {
+        good = still_same(
+            good,
+            map_sector::entry_at(s, i),
+            blocks::entry_of(map, first + i),
+        );
+        i += 1;
+    }
+    good
+}
+
+// Whether the sector's entries are those of piece p in the map.
 fn entries_match(s: &[u8], map: &[u32], p: u32) -> bool
     requires { ⌜ length (now s) ≡ sectorBytes ⌝ }
     requires { ⌜ p < 256 ⌝ }
     ensures { λ r. ⌜ r ≡ same (entryWords (wordsOf (now (s .entry)))) (pieceEntries (length (now (map .entry))) (at (now (map .entry))) p) ⌝ }
 {
     let first = (Geometry::ENTRIES * p) as usize;
-    let mut i = 0;
-    while i < 96 {
-        if map_sector::entry_at(s, i) != blocks::entry_of(map, first + i) {
-            return false;
-        }
-        i += 1;
+    if first + 96 <= map.len() {
+        return whole_matches(s, map, first);
     }
-    true
+    last_matches(s, map, first)
 }
 
 // Whether the sector is signed with this piece and number, and these entries.

@@ -1,6 +1,6 @@
 -- Map sectors: the test of one, part by part.
 use Prim.Native.Nat.{ℕ, zero, suc, _+_, _*_, _-_, _≤_, _<_}
-use mathlib.Core.Bool.{Bool, true, false, _&&_}
+use mathlib.Core.Bool.{Bool, true, false, not, _&&_}
 use mathlib.Core.Path.{_≡_, refl, sym, ap, _∙_}
 use mathlib.Core.List.{List, [], _∷_}
 use native.Mathlib.Omega.{arith}
@@ -8,7 +8,7 @@ use native.Mathlib.Nat.{zero-add, suc-add}
 use lib.ListN.{length, take, drop, drop-of-length-le, length-drop}
 use lib.Seq.{slice, take-all, take-take, take-nil, drop-drop, getD-take, getD-drop}
 use lib.Dec.{eqb, leb, ltb}
-use borrow.Author.Tests.{ltb-true, leb-true}
+use borrow.Author.Tests.{ltb-true, leb-true, not-true, not-false}
 use Rattle.geometry.specs.declared.Geometry.{Geometry}
 use Rattle.geometry.specs.Geometry.{within, piecesFor, entriesPerPiece, branchRoom}
 use Rattle.layout.specs.Bounded.{at, all, isZero}
@@ -86,30 +86,59 @@ module _ (d : ℕ) (ws : List ℕ) (long : length ws ≡ 128) where
   pub entries-past : all isZero (drop d (entryWords ws)) ≡ all isZero (slice (32 + d) 128 ws)
   entries-past = ap (all isZero) (drop-drop d 32 ws ∙ ap (drop (32 + d)) (sym (take-all 128 ws (omega arith))))
 
+-- The test of a whole sector, in the code's order: the sum comes last.
 module _ (g : Geometry) (bs ws : List ℕ) where
-  pub valid-unmarked : startsWith mapMark bs ≡ false → valid g bs ws ≡ false
-  unfolding valid
-  valid-unmarked t = rw t
+  abbrev whole : Bool
+  whole =
+      startsWith mapMark bs && headerFits (g .l) ws && branchesFit (g .n) (at ws 6) (branchWords ws)
+      && all isZero (drop (g .l - entriesPerPiece * at ws 4) (entryWords ws))
+      && isZero (wordSum ws)
 
-  pub valid-unbalanced : startsWith mapMark bs ≡ true → isZero (wordSum ws) ≡ false → valid g bs ws ≡ false
-  unfolding valid
-  valid-unbalanced t z = rw (t, z)
+  sum-last : (m z a b c d e f r t : Bool) → (m && z && a && b && c && d && e && f && r && t) ≡ (m && (a && b && c && d && e && f) && r && t && z)
+  sum-last false z a b c d e f r t = refl
+  sum-last true true a b c d e f r t = ends (a && b && c && d && e && f && r && t)
+    where
+      ends : (x : Bool) → x ≡ (x && true)
+      ends true = refl
+      ends false = refl
+  sum-last true false a b c d e f r t = never ((a && b && c && d && e && f) && r && t)
+    where
+      never : (x : Bool) → false ≡ (x && false)
+      never true = refl
+      never false = refl
 
-  -- With the mark and the sum, the header, the branches and the entries are left.
-  pub valid-parts : startsWith mapMark bs ≡ true → isZero (wordSum ws) ≡ true
-      → valid g bs ws
-      ≡ (headerFits (g .l) ws && branchesFit (g .n) (at ws 6) (branchWords ws) && all isZero (drop (g .l - entriesPerPiece * at ws 4) (entryWords ws)))
+  valid-parts : whole ≡ valid g bs ws
   unfolding valid headerFits fieldsFit
-  valid-parts t z = rw (t, z)
+  valid-parts =
+      sym (sum-last (startsWith mapMark bs) (isZero (wordSum ws)) (leb 1 (at ws 2)) (isZero (at ws 3)) (ltb (at ws 4) (piecesFor (g .l))) (leb (at ws 5) 1)
+      (leb (at ws 6) branchRoom) (eqb (at ws 7) (g .l)) (branchesFit (g .n) (at ws 6) (branchWords ws))
+      (all isZero (drop (g .l - entriesPerPiece * at ws 4) (entryWords ws))))
 
-  pub valid-header : startsWith mapMark bs ≡ true → isZero (wordSum ws) ≡ true → headerFits (g .l) ws ≡ false → valid g bs ws ≡ false
-  valid-header t z h = valid-parts t z ∙ rw h
+  module _ (b1 : Bool) (f1 : b1 ≡ startsWith mapMark bs) where
+    pub valid-unmarked : not b1 ≡ true → false ≡ valid g bs ws
+    valid-unmarked e = rw (sym f1 ∙ not-true b1 e) refl ∙ valid-parts
 
-  pub valid-branches : startsWith mapMark bs ≡ true → isZero (wordSum ws) ≡ true → headerFits (g .l) ws ≡ true
-      → branchesFit (g .n) (at ws 6) (branchWords ws) ≡ false → valid g bs ws ≡ false
-  valid-branches t z h b = valid-parts t z ∙ rw (h, b)
+    module _ (e1 : not b1 ≡ false) (b2 : Bool) (f2 : b2 ≡ headerFits (g .l) ws) where
+      pub valid-header : not b2 ≡ true → false ≡ valid g bs ws
+      valid-header e = rw (sym f1 ∙ not-false b1 e1, sym f2 ∙ not-true b2 e) refl ∙ valid-parts
 
-  pub valid-entries : startsWith mapMark bs ≡ true → isZero (wordSum ws) ≡ true → headerFits (g .l) ws ≡ true
-      → branchesFit (g .n) (at ws 6) (branchWords ws) ≡ true
-      → valid g bs ws ≡ all isZero (drop (g .l - entriesPerPiece * at ws 4) (entryWords ws))
-  valid-entries t z h b = valid-parts t z ∙ rw (h, b)
+      module _ (e2 : not b2 ≡ false) where
+        pub piece-below : at ws 4 < piecesFor (g .l)
+        piece-below = header-piece (g .l) ws (sym f2 ∙ not-false b2 e2)
+
+        pub few-branches : at ws 6 ≤ branchRoom
+        few-branches = header-count (g .l) ws (sym f2 ∙ not-false b2 e2)
+
+        module _ (b3 : Bool) (f3 : b3 ≡ branchesFit (g .n) (at ws 6) (branchWords ws)) where
+          pub valid-branches : not b3 ≡ true → false ≡ valid g bs ws
+          valid-branches e = rw (sym f1 ∙ not-false b1 e1, sym f2 ∙ not-false b2 e2, sym f3 ∙ not-true b3 e) refl ∙ valid-parts
+
+          module _ (e3 : not b3 ≡ false) (b4 : Bool) (f4 : b4 ≡ all isZero (drop (g .l - entriesPerPiece * at ws 4) (entryWords ws))) where
+            pub valid-entries : not b4 ≡ true → false ≡ valid g bs ws
+            valid-entries e = rw (sym f1 ∙ not-false b1 e1, sym f2 ∙ not-false b2 e2, sym f3 ∙ not-false b3 e3, sym f4 ∙ not-true b4 e) refl ∙ valid-parts
+
+            pub valid-sum : not b4 ≡ false → (sum : ℕ) → sum ≡ wordSum ws → eqb sum 0 ≡ valid g bs ws
+            valid-sum e4 sum k =
+                let zero? : eqb sum 0 ≡ whole =
+                rw (k, sym f1 ∙ not-false b1 e1, sym f2 ∙ not-false b2 e2, sym f3 ∙ not-false b3 e3, sym f4 ∙ not-false b4 e4) refl in
+                zero? ∙ valid-parts

@@ -132,7 +132,7 @@ fn entries_fit(s: &[u8], l: u32) -> bool
     words::words_zero(s, 32 + held as usize, 128)
 }
 
-// Whether s is a map sector of a volume of n sectors and l blocks. Most sectors are decided by their first bytes.
+// Whether s is a map sector of a volume of n sectors and l blocks. Most sectors are decided by their first bytes; the sum comes last.
 pub fn is_valid(s: &[u8], g: Geometry) -> bool
     requires { ⌜ length (now s) ≡ sectorBytes ⌝ }
     requires { ⌜ 1 ≤ g .n ⌝ }
@@ -141,14 +141,14 @@ pub fn is_valid(s: &[u8], g: Geometry) -> bool
     if !marks::starts_with(s, &marks::MAP_MARK) {
         return false;
     }
-    if sums::word_sum(s) != 0 {
-        return false;
-    }
     if !header_fits(s, g.l) {
         return false;
     }
     if !branches_fit(s, g.n) {
         return false;
     }
-    entries_fit(s, g.l)
+    if !entries_fit(s, g.l) {
+        return false;
+    }
+    sums::word_sum(s) == 0
 }

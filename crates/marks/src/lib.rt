@@ -1,28 +1,32 @@
 // The marks of map sectors and park records: four bytes at a sector's start.
 ghost use mathlib.Core.Path.{_≡_};
+ghost use mathlib.Core.Bool.{_&&_};
 ghost use Prim.Native.Nat.{_≤_};
 ghost use lib.ListN.{length};
 ghost use lib.Seq.{sets};
+ghost use lib.Dec.{eqb};
+ghost use Rattle.geometry.specs.Geometry.{sectorBytes};
 ghost use Rattle.layout.specs.Word.{startsWith};
 
 pub const MAP_MARK: [u8; 4] = *b"VLM1";
 
 pub const PARK_MARK: [u8; 4] = *b"VLP1";
 
+// Whether four bytes are the same as four others, compared as one word.
+fn same_four(a: u8, b: u8, c: u8, d: u8, e: u8, f: u8, g: u8, h: u8) -> bool
+    ensures { λ r. ⌜ r ≡ (eqb a e && eqb b f && eqb c g && eqb d h) ⌝ }
+{
+    words::word_of(a, b, c, d) == words::word_of(e, f, g, h)
+}
+
 pub fn starts_with(s: &[u8], mark: &[u8]) -> bool
+    requires { ⌜ length (now mark) ≡ 4 ⌝ }
     ensures { λ r. ⌜ r ≡ startsWith (now (mark .entry)) (now (s .entry)) ⌝ }
 {
-    if s.len() < mark.len() {
+    if s.len() < 4 {
         return false;
     }
-    let mut i = 0;
-    while i < mark.len() {
-        if s[i] != mark[i] {
-            return false;
-        }
-        i += 1;
-    }
-    true
+    same_four(s[0], s[1], s[2], s[3], mark[0], mark[1], mark[2], mark[3])
 }
 
 // Stores src over all of dst.
@@ -35,6 +39,18 @@ pub fn copy_over(dst: &mut [u8], src: &[u8])
         dst[i] = src[i];
         i += 1;
     }
+}
+
+// Stores the sector src over the sector dst. By way of a local one, so that the compiler makes it one move of 512 bytes: of the two that
+// are lent it does not know that they are apart.
+pub fn copy_sector(dst: &mut [u8], src: &[u8])
+    requires { ⌜ length (now dst) ≡ sectorBytes ⌝ }
+    requires { ⌜ length (now src) ≡ sectorBytes ⌝ }
+    ensures { λ _. ⌜ now (dst .exit) ≡ now (src .entry) ⌝ }
+{
+    let mut held = [0u8; 512];
+    copy_over(&mut held, src);
+    copy_over(dst, &held);
 }
 
 // Stores a mark at a sector's start.

@@ -1,5 +1,6 @@
 // Words of 32 bits, little-endian: word k of a run of bytes starts at byte 4k.
 ghost use mathlib.Core.Path.{_≡_};
+ghost use mathlib.Core.Bool.{_&&_};
 ghost use Prim.Native.Nat.{_+_, _*_, _≤_};
 ghost use lib.ListN.{length, replicate};
 ghost use lib.Seq.{sets, slice};
@@ -58,23 +59,31 @@ pub fn put_zeros(s: &mut [u8], k: usize, n: usize)
     }
 }
 
-// Whether words `from` to `end` - 1 all lie in low to high.
+// Whether all was well so far, and w lies in low to high.
+fn still_within(good: bool, w: u32, low: u32, high: u32) -> bool
+    ensures { λ r. ⌜ r ≡ (good && within low high w) ⌝ }
+{
+    if w < low {
+        return false;
+    }
+    if high < w {
+        return false;
+    }
+    good
+}
+
+// Whether words `from` to `end` - 1 all lie in low to high. All are looked at, so that the compiler compares several at a time.
 pub fn words_within(s: &[u8], from: usize, end: usize, low: u32, high: u32) -> bool
     requires { ⌜ (from ≤ end) × (4 * end ≤ length (now s)) ⌝ }
     ensures { λ r. ⌜ r ≡ all (within low high) (slice from end (wordsOf (now (s .entry)))) ⌝ }
 {
+    let mut good = true;
     let mut k = from;
     while k < end {
-        let w = word_at(s, k);
-        if w < low {
-            return false;
-        }
-        if high < w {
-            return false;
-        }
+        good = still_within(good, word_at(s, k), low, high);
         k += 1;
     }
-    true
+    good
 }
 
 // Whether words `from` to `end` - 1 are all zero.

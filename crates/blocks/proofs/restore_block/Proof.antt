@@ -17,14 +17,11 @@ same-length c = search needs
 
 returns : tie.Need-returns
 returns c =
-    let at-copy-over = c .before .before in
-    let at-if1 = at-copy-over .before .before .before in
-    let at-start = at-if1 .before .before .before in
-    let a = at-start .args in
-    at-copy-over .copy-over .ensures ∙ sym (restored-empty (a .entry) (a .bytes .now) (at-if1 .if1 .taken))
+    let a = c .before .before .before .before .before .before .before .before .args in
+    c .before .before .copy-over .ensures ∙ sym (restored-empty (a .entry) (a .bytes .now) (c .before .before .before .before .before .if1 .taken))
 
-copy-over-requires-2 : tie.Need-copy-over-requires-2
-copy-over-requires-2 c κs = search needs
+copy-sector-requires : tie.Need-copy-sector-requires
+copy-sector-requires c κs = search needs
 
 is-flipped-requires : tie.Need-is-flipped-requires
 is-flipped-requires c κs = search needs
@@ -37,29 +34,19 @@ same-length-2 c = search needs
 
 returns-2 : tie.Need-returns-2
 returns-2 c =
-    let at-complement = c .before .before in
-    let at-if2 = at-complement .before .before in
-    let at-is-flipped = at-if2 .before in
-    let at-copy-over2 = at-is-flipped .before .before .before in
-    let at-if1 = at-copy-over2 .before .before in
-    let at-start = at-if1 .before .before .before in
-    let a = at-start .args in
-    at-complement .complement .ensures
-    ∙ ap complemented (at-copy-over2 .copy-over2 .ensures)
-    ∙ sym (restored-flipped (a .entry) (a .bytes .now) (at-if1 .if1 .left) (sym (at-is-flipped .is-flipped .ensures) ∙ at-if2 .if2 .taken))
+    let a = c .before .before .before .before .before .before .before .before .before .before .before .before .before .args in
+    c .before .before .complement .ensures
+    ∙ ap complemented (c .before .before .before .before .before .before .before .before .copy-sector .ensures)
+    ∙ sym (restored-flipped (a .entry) (a .bytes .now) (c .before .before .before .before .before .before .before .before .before .before .if1 .left) (sym (c .before .before .before .before .before .is-flipped .ensures) ∙ c .before .before .before .before .if2 .taken))
 
 same-length-3 : tie.Need-same-length-3
 same-length-3 c = search needs
 
 returns-3 : tie.Need-returns-3
 returns-3 c =
-    let at-is-flipped = c .before in
-    let at-copy-over2 = at-is-flipped .before .before .before in
-    let at-if1 = at-copy-over2 .before .before in
-    let at-start = at-if1 .before .before .before in
-    let a = at-start .args in
-    at-copy-over2 .copy-over2 .ensures
-    ∙ sym (restored-plain (a .entry) (a .bytes .now) (at-if1 .if1 .left) (sym (at-is-flipped .is-flipped .ensures) ∙ c .if2 .left))
+    let a = c .before .before .before .before .before .before .before .before .before .args in
+    c .before .before .before .before .copy-sector .ensures
+    ∙ sym (restored-plain (a .entry) (a .bytes .now) (c .before .before .before .before .before .before .if1 .left) (sym (c .before .is-flipped .ensures) ∙ c .if2 .left))
 
 pub restore-block-spec : {M : Type 1} → statement M
 restore-block-spec =
@@ -69,7 +56,7 @@ restore-block-spec =
     copy-over-requires
     same-length
     returns
-    copy-over-requires-2
+    copy-sector-requires
     is-flipped-requires
     complement-requires
     same-length-2

@@ -30,12 +30,10 @@ same-length c = search needs
 
 returns : tie.Need-returns
 returns c =
-    let at-store-block = c .before .before in
-    let at-start = at-store-block .before .before .before .before in
-    let a = at-start .args in
-    let made = at-store-block .store-block in
+    let a = c .before .before .before .before .before .before .args in
+    let made = c .before .before .store-block in
     let size : 512 * a .k + 512 - 512 * a .k ≡ 512 = omega arith in
-    sector-lent (a .image .now) (a .k) _ (made .last .0) _ (at-start .pre .0) size (made .kept .0) (made .ensures)
+    sector-lent (a .image .now) (a .k) _ (made .last .0) _ (c .before .before .before .before .before .before .pre .0) size (made .kept .0) (made .ensures)
 
 pub store-data-spec : {M : Type 1} → statement M
 store-data-spec =

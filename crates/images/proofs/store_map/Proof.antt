@@ -31,10 +31,8 @@ same-length c = search needs
 
 returns : tie.Need-returns
 returns c =
-    let at-put-map = c .before .before in
-    let at-start = at-put-map .before .before .before .before .before in
-    let a = at-start .args in
-    let made = at-put-map .put-map in
+    let a = c .before .before .before .before .before .before .before .args in
+    let made = c .before .before .put-map in
     let written = encoded (a .l) (record {
       number = a .number;
       piece = a .piece;
@@ -43,7 +41,7 @@ returns c =
       entries = a .entries .now;
     }) in
     let size : 512 * a .k + 512 - 512 * a .k ≡ 512 = omega arith in
-    sector-lent (a .image .now) (a .k) _ (made .last .0) written (at-start .pre .0) size (made .kept .0) (made .ensures)
+    sector-lent (a .image .now) (a .k) _ (made .last .0) written (c .before .before .before .before .before .before .before .pre .0) size (made .kept .0) (made .ensures)
 
 pub store-map-spec : {M : Type 1} → statement M
 store-map-spec =

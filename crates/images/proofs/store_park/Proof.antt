@@ -24,12 +24,10 @@ same-length c = search needs
 
 returns : tie.Need-returns
 returns c =
-    let at-put-park = c .before .before in
-    let at-start = at-put-park .before .before .before in
-    let a = at-start .args in
-    let made = at-put-park .put-park in
+    let a = c .before .before .before .before .before .args in
+    let made = c .before .before .put-park in
     let size : 512 - 0 ≡ 512 = omega arith in
-    sector-lent (a .image .now) 0 _ (made .last .0) _ (at-start .pre) size (made .kept .0) (made .ensures)
+    sector-lent (a .image .now) 0 _ (made .last .0) _ (c .before .before .before .before .before .pre) size (made .kept .0) (made .ensures)
 
 pub store-park-spec : {M : Type 1} → statement M
 store-park-spec =

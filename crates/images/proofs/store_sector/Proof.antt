@@ -13,29 +13,27 @@ mul-first c = search needs
 add-end : tie.Need-add-end
 add-end c = search needs
 
-sub-copy-over : tie.Need-sub-copy-over
-sub-copy-over c = search needs
+sub-copy-sector : tie.Need-sub-copy-sector
+sub-copy-sector c = search needs
 
-part-copy-over-start : tie.Need-part-copy-over-start
-part-copy-over-start c = search needs
+part-copy-sector-start : tie.Need-part-copy-sector-start
+part-copy-sector-start c = search needs
 
-part-copy-over-end : tie.Need-part-copy-over-end
-part-copy-over-end c = search needs
+part-copy-sector-end : tie.Need-part-copy-sector-end
+part-copy-sector-end c = search needs
 
-copy-over-requires : tie.Need-copy-over-requires
-copy-over-requires c κs = search needs
+copy-sector-requires : tie.Need-copy-sector-requires
+copy-sector-requires c κs = search needs
 
 same-length : tie.Need-same-length
 same-length c = search needs
 
 returns : tie.Need-returns
 returns c =
-    let at-copy-over = c .before .before in
-    let at-start = at-copy-over .before .before .before .before in
-    let a = at-start .args in
-    let made = at-copy-over .copy-over in
+    let a = c .before .before .before .before .before .before .args in
+    let made = c .before .before .copy-sector in
     let size : 512 * a .k + 512 - 512 * a .k ≡ 512 = omega arith in
-    sector-lent (a .image .now) (a .k) _ (made .last .0) _ (at-start .pre .0) size (made .kept .0) (made .ensures)
+    sector-lent (a .image .now) (a .k) _ (made .last .0) _ (c .before .before .before .before .before .before .pre .0) size (made .kept .0) (made .ensures)
 
 pub store-sector-spec : {M : Type 1} → statement M
 store-sector-spec =
@@ -43,9 +41,9 @@ store-sector-spec =
     (tie.spec
     mul-first
     add-end
-    sub-copy-over
-    part-copy-over-start
-    part-copy-over-end
-    copy-over-requires
+    sub-copy-sector
+    part-copy-sector-start
+    part-copy-sector-end
+    copy-sector-requires
     same-length
     returns)

@@ -27,30 +27,25 @@ words-within-requires c κs = search needs
 
 returns : tie.Need-returns
 returns c =
-    let at-words-within = c .before in
-    let at-word-at = at-words-within .before in
-    let at-start = at-word-at .before .before in
-    let a = at-start .args in
+    let the-word-at = c .before .before .word-at in
+    let a = c .before .before .before .before .args in
     let ws = wordsOf (a .s .now) in
-    let count = at-word-at .word-at .result in
+    let count = the-word-at .result in
     let room : count ≤ 24 = omega arith in
-    sym (ap (λ (m : ℕ). branchesFit (a .n) m (branchWords ws)) (sym (at-word-at .word-at .ensures)) ∙ branches-bad (a .n) count ws room _ (at-words-within .words-within .ensures) (not-true _ (c .if1 .taken)))
+    sym (ap (λ (m : ℕ). branchesFit (a .n) m (branchWords ws)) (sym (the-word-at .ensures)) ∙ branches-bad (a .n) count ws room _ (c .before .words-within .ensures) (not-true _ (c .if1 .taken)))
 
 words-zero-requires : tie.Need-words-zero-requires
 words-zero-requires c κs = search needs
 
 returns-2 : tie.Need-returns-2
 returns-2 c =
-    let at-if1 = c .before in
-    let at-words-within = at-if1 .before in
-    let at-word-at = at-words-within .before in
-    let at-start = at-word-at .before .before in
-    let a = at-start .args in
+    let the-word-at = c .before .before .before .word-at in
+    let a = c .before .before .before .before .before .args in
     let ws = wordsOf (a .s .now) in
-    let count = at-word-at .word-at .result in
+    let count = the-word-at .result in
     let room : count ≤ 24 = omega arith in
     c .words-zero .ensures
-    ∙ sym (ap (λ (m : ℕ). branchesFit (a .n) m (branchWords ws)) (sym (at-word-at .word-at .ensures)) ∙ branches-left (a .n) count ws room _ (at-words-within .words-within .ensures) (not-false _ (at-if1 .if1 .left)))
+    ∙ sym (ap (λ (m : ℕ). branchesFit (a .n) m (branchWords ws)) (sym (the-word-at .ensures)) ∙ branches-left (a .n) count ws room _ (c .before .before .words-within .ensures) (not-false _ (c .before .if1 .left)))
 
 pub branches-fit-spec : {M : Type 1} → statement M
 branches-fit-spec =

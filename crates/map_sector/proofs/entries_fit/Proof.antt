@@ -41,13 +41,12 @@ words-zero-requires c κs = search needs
 
 returns-2 : tie.Need-returns-2
 returns-2 c =
-    let at-word-at = c .before .before in
-    let at-start = at-word-at .before .before in
-    let a = at-start .args in
+    let the-word-at = c .before .before .word-at in
+    let a = c .before .before .before .before .args in
     let ws = wordsOf (a .s .now) in
     let long : length ws ≡ 128 = omega (arith, length-wordsOf (a .s .now)) in
     c .words-zero .ensures
-    ∙ sym (ap (λ (p : ℕ). all isZero (drop (a .l - entriesPerPiece * p) (entryWords ws))) (sym (at-word-at .word-at .ensures)) ∙ entries-past (a .l - entriesPerPiece * at-word-at .word-at .result) ws long)
+    ∙ sym (ap (λ (p : ℕ). all isZero (drop (a .l - entriesPerPiece * p) (entryWords ws))) (sym (the-word-at .ensures)) ∙ entries-past (a .l - entriesPerPiece * the-word-at .result) ws long)
 
 pub entries-fit-spec : {M : Type 1} → statement M
 entries-fit-spec =

@@ -28,21 +28,14 @@ fields-fit-requires c κs = search needs
 
 returns : tie.Need-returns
 returns c =
-    let at-word-at6 = c .before in
-    let at-word-at5 = at-word-at6 .before in
-    let at-word-at4 = at-word-at5 .before in
-    let at-word-at3 = at-word-at4 .before in
-    let at-word-at2 = at-word-at3 .before in
-    let at-word-at = at-word-at2 .before in
-    let at-start = at-word-at .before .before in
-    let a = at-start .args in
+    let a = c .before .before .before .before .before .before .before .before .args in
     header-words (a .l) (wordsOf (a .s .now)) _ _ _ _ _ _ _ (c .fields-fit .ensures)
-    (at-word-at .word-at .ensures)
-    (at-word-at2 .word-at2 .ensures)
-    (at-word-at3 .word-at3 .ensures)
-    (at-word-at4 .word-at4 .ensures)
-    (at-word-at5 .word-at5 .ensures)
-    (at-word-at6 .word-at6 .ensures)
+    (c .before .before .before .before .before .before .word-at .ensures)
+    (c .before .before .before .before .before .word-at2 .ensures)
+    (c .before .before .before .before .word-at3 .ensures)
+    (c .before .before .before .word-at4 .ensures)
+    (c .before .before .word-at5 .ensures)
+    (c .before .word-at6 .ensures)
 
 pub header-fits-spec : {M : Type 1} → statement M
 header-fits-spec =

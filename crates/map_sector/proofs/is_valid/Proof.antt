@@ -1,10 +1,7 @@
--- The mark, the sum, the header, the branches and the entries decide in turn.
-use mathlib.Core.Path.{sym, ap, _∙_}
-use borrow.Author.Tests.{eq-eqb, ne-eqb, not-true, not-false}
+-- The mark, the header, the branches, the entries and the sum decide in turn.
 use borrow.Author.Needs.{needs}
-use Rattle.layout.specs.Bounded.{isZero}
 use Rattle.layout.specs.Word.{wordsOf}
-use Rattle.map_sector.proofs.Maps.{header-piece, header-count, valid-unmarked, valid-unbalanced, valid-header, valid-branches, valid-entries}
+use Rattle.map_sector.proofs.Maps.{valid-unmarked, valid-header, valid-branches, valid-entries, valid-sum, piece-below, few-branches}
 use Rattle.map_sector.proofs.is_valid.Statement.{statement}
 use Rattle.map_sector.proofs.is_valid.Tie as tie
 
@@ -16,87 +13,75 @@ starts-with-requires c κs = search needs
 
 returns : tie.Need-returns
 returns c =
-    let at-starts-with = c .before in
-    let at-start = at-starts-with .before .before .before in
-    let a = at-start .args in
-    let s = a .s .now in
-    sym (valid-unmarked (a .g) s (wordsOf s) (sym (at-starts-with .starts-with .ensures) ∙ not-true _ (c .if1 .taken)))
-
-word-sum-requires : tie.Need-word-sum-requires
-word-sum-requires c κs = search needs
-
-returns-2 : tie.Need-returns-2
-returns-2 c =
-    let at-word-sum = c .before in
-    let at-if1 = at-word-sum .before in
-    let at-starts-with = at-if1 .before in
-    let at-start = at-starts-with .before .before .before in
-    let a = at-start .args in
-    let s = a .s .now in
-    sym (valid-unbalanced (a .g) s (wordsOf s) (sym (at-starts-with .starts-with .ensures) ∙ not-false _ (at-if1 .if1 .left)) (ap isZero (sym (at-word-sum .word-sum .ensures)) ∙ ne-eqb _ 0 (c .if2 .taken)))
+    let the-starts-with = c .before .starts-with in
+    valid-unmarked _ _ _ (the-starts-with .result) (the-starts-with .ensures) (c .if1 .taken)
 
 header-fits-requires : tie.Need-header-fits-requires
 header-fits-requires c κs = search needs
 
-returns-3 : tie.Need-returns-3
-returns-3 c =
-    let at-header-fits = c .before in
-    let at-if2 = at-header-fits .before in
-    let at-word-sum = at-if2 .before in
-    let at-if1 = at-word-sum .before in
-    let at-starts-with = at-if1 .before in
-    let at-start = at-starts-with .before .before .before in
-    let a = at-start .args in
-    let s = a .s .now in
-    sym (valid-header (a .g) s (wordsOf s) (sym (at-starts-with .starts-with .ensures) ∙ not-false _ (at-if1 .if1 .left)) (ap isZero (sym (at-word-sum .word-sum .ensures)) ∙ eq-eqb _ 0 (at-if2 .if2 .left)) (sym (at-header-fits .header-fits .ensures) ∙ not-true _ (c .if3 .taken)))
+returns-2 : tie.Need-returns-2
+returns-2 c =
+    let the-header-fits = c .before .header-fits in
+    let the-if1 = c .before .before .if1 in
+    let the-starts-with = c .before .before .before .starts-with in
+    valid-header _ _ _ (the-starts-with .result) (the-starts-with .ensures) (the-if1 .left) (the-header-fits .result) (the-header-fits .ensures) (c .if2 .taken)
 
 branches-fit-requires : tie.Need-branches-fit-requires
 branches-fit-requires c κs =
-    let at-header-fits = c .before in
-    let at-start = at-header-fits .before .before .before .before .before .before .before in
-    (at-start .pre .0, (at-start .pre .1, header-count (at-start .args .g .l) (wordsOf (at-start .args .s .now)) (sym (at-header-fits .header-fits .ensures) ∙ not-false _ (c .if3 .left))))
+    let a = c .before .before .before .before .before .before .args in
+    let the-header-fits = c .before .header-fits in
+    let the-if1 = c .before .before .if1 in
+    let the-starts-with = c .before .before .before .starts-with in
+    let the-pre = c .before .before .before .before .before .before .pre in
+    (the-pre .0, (the-pre .1, few-branches (a .g) (a .s .now) (wordsOf (a .s .now)) (the-starts-with .result) (the-starts-with .ensures) (the-if1 .left) (the-header-fits .result) (the-header-fits .ensures) (c .if2 .left)))
 
-returns-4 : tie.Need-returns-4
-returns-4 c =
-    let at-branches-fit = c .before in
-    let at-if3 = at-branches-fit .before in
-    let at-header-fits = at-if3 .before in
-    let at-if2 = at-header-fits .before in
-    let at-word-sum = at-if2 .before in
-    let at-if1 = at-word-sum .before in
-    let at-starts-with = at-if1 .before in
-    let at-start = at-starts-with .before .before .before in
-    let a = at-start .args in
-    let s = a .s .now in
-    sym
-    (valid-branches (a .g) s (wordsOf s) (sym (at-starts-with .starts-with .ensures) ∙ not-false _ (at-if1 .if1 .left))
-    (ap isZero (sym (at-word-sum .word-sum .ensures)) ∙ eq-eqb _ 0 (at-if2 .if2 .left)) (sym (at-header-fits .header-fits .ensures) ∙ not-false _ (at-if3 .if3 .left))
-    (sym (at-branches-fit .branches-fit .ensures) ∙ not-true _ (c .if4 .taken)))
+returns-3 : tie.Need-returns-3
+returns-3 c =
+    let the-branches-fit = c .before .branches-fit in
+    let the-if2 = c .before .before .if2 in
+    let the-header-fits = c .before .before .before .header-fits in
+    let the-if1 = c .before .before .before .before .if1 in
+    let the-starts-with = c .before .before .before .before .before .starts-with in
+    valid-branches _ _ _ (the-starts-with .result) (the-starts-with .ensures) (the-if1 .left) (the-header-fits .result) (the-header-fits .ensures) (the-if2 .left)
+    (the-branches-fit .result) (the-branches-fit .ensures) (c .if3 .taken)
 
 entries-fit-requires : tie.Need-entries-fit-requires
 entries-fit-requires c κs =
-    let at-if3 = c .before .before in
-    let at-header-fits = at-if3 .before in
-    let at-start = at-header-fits .before .before .before .before .before .before .before in
-    (at-start .pre .0, header-piece (at-start .args .g .l) (wordsOf (at-start .args .s .now)) (sym (at-header-fits .header-fits .ensures) ∙ not-false _ (at-if3 .if3 .left)))
+    let a = c .before .before .before .before .before .before .before .before .args in
+    let the-if2 = c .before .before .if2 in
+    let the-header-fits = c .before .before .before .header-fits in
+    let the-if1 = c .before .before .before .before .if1 in
+    let the-starts-with = c .before .before .before .before .before .starts-with in
+    let the-pre = c .before .before .before .before .before .before .before .before .pre in
+    (the-pre .0, piece-below (a .g) (a .s .now) (wordsOf (a .s .now)) (the-starts-with .result) (the-starts-with .ensures) (the-if1 .left) (the-header-fits .result) (the-header-fits .ensures) (the-if2 .left))
+
+returns-4 : tie.Need-returns-4
+returns-4 c =
+    let the-entries-fit = c .before .entries-fit in
+    let the-if3 = c .before .before .if3 in
+    let the-branches-fit = c .before .before .before .branches-fit in
+    let the-if2 = c .before .before .before .before .if2 in
+    let the-header-fits = c .before .before .before .before .before .header-fits in
+    let the-if1 = c .before .before .before .before .before .before .if1 in
+    let the-starts-with = c .before .before .before .before .before .before .before .starts-with in
+    valid-entries _ _ _ (the-starts-with .result) (the-starts-with .ensures) (the-if1 .left) (the-header-fits .result) (the-header-fits .ensures) (the-if2 .left)
+    (the-branches-fit .result) (the-branches-fit .ensures) (the-if3 .left) (the-entries-fit .result) (the-entries-fit .ensures) (c .if4 .taken)
+
+word-sum-requires : tie.Need-word-sum-requires
+word-sum-requires c κs = search needs
 
 returns-5 : tie.Need-returns-5
 returns-5 c =
-    let at-if4 = c .before in
-    let at-branches-fit = at-if4 .before in
-    let at-if3 = at-branches-fit .before in
-    let at-header-fits = at-if3 .before in
-    let at-if2 = at-header-fits .before in
-    let at-word-sum = at-if2 .before in
-    let at-if1 = at-word-sum .before in
-    let at-starts-with = at-if1 .before in
-    let at-start = at-starts-with .before .before .before in
-    let a = at-start .args in
-    let s = a .s .now in
-    c .entries-fit .ensures ∙ sym
-    (valid-entries (a .g) s (wordsOf s) (sym (at-starts-with .starts-with .ensures) ∙ not-false _ (at-if1 .if1 .left))
-    (ap isZero (sym (at-word-sum .word-sum .ensures)) ∙ eq-eqb _ 0 (at-if2 .if2 .left)) (sym (at-header-fits .header-fits .ensures) ∙ not-false _ (at-if3 .if3 .left))
-    (sym (at-branches-fit .branches-fit .ensures) ∙ not-false _ (at-if4 .if4 .left)))
+    let the-if4 = c .before .if4 in
+    let the-entries-fit = c .before .before .entries-fit in
+    let the-if3 = c .before .before .before .if3 in
+    let the-branches-fit = c .before .before .before .before .branches-fit in
+    let the-if2 = c .before .before .before .before .before .if2 in
+    let the-header-fits = c .before .before .before .before .before .before .header-fits in
+    let the-if1 = c .before .before .before .before .before .before .before .if1 in
+    let the-starts-with = c .before .before .before .before .before .before .before .before .starts-with in
+    valid-sum _ _ _ (the-starts-with .result) (the-starts-with .ensures) (the-if1 .left) (the-header-fits .result) (the-header-fits .ensures) (the-if2 .left)
+    (the-branches-fit .result) (the-branches-fit .ensures) (the-if3 .left) (the-entries-fit .result) (the-entries-fit .ensures) (the-if4 .left) (c .word-sum .result) (c .word-sum .ensures)
 
 pub is-valid-spec : {M : Type 1} → statement M
 is-valid-spec =
@@ -105,11 +90,11 @@ is-valid-spec =
     slice-aggregate-starts-with
     starts-with-requires
     returns
-    word-sum-requires
-    returns-2
     header-fits-requires
-    returns-3
+    returns-2
     branches-fit-requires
-    returns-4
+    returns-3
     entries-fit-requires
+    returns-4
+    word-sum-requires
     returns-5)

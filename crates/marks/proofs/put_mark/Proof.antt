@@ -26,10 +26,8 @@ same-length c = search needs
 
 returns : tie.Need-returns
 returns c =
-    let at-copy-over = c .before .before in
-    let at-start = at-copy-over .before .before .before .before in
-    let a = at-start .args in
-    let call = at-copy-over .copy-over in
+    let a = c .before .before .before .before .before .before .args in
+    let call = c .before .before .copy-over in
     let e = call .ensures in
     let size : length (a .mark .now) - 0 ≡ length (call .last .0) = omega (arith, ap length e) in
     sets-part (a .s .now) 0 (call .last .0) _ size (omega (arith, ap length e)) ∙ ap (sets (a .s .now) 0) e

@@ -1,67 +1,63 @@
--- So far the bytes agree with the mark's.
-use Prim.Native.Nat.{ℕ, _-_, _≤_, _<_}
-use mathlib.Core.Path.{_≡_, sym}
+-- Too short, or the four bytes decide.
+use mathlib.Core.Path.{sym, _∙_}
 use native.Mathlib.Omega.{arith}
-use lib.ListN.{length}
-use borrow.Author.Count.{below-more, below-none}
 use borrow.Author.Needs.{needs}
-use Rattle.layout.specs.Bounded.{at}
-use Rattle.laws.proofs.Lists.{starts-short, starts-differs, starts-agrees}
+use Rattle.laws.proofs.Lists.{starts-short}
+use Rattle.marks.proofs.MarkLaws.{starts-four}
 use Rattle.marks.proofs.starts_with.Statement.{statement}
 use Rattle.marks.proofs.starts_with.Tie as tie
 
-abbrev Inv-loop : tie.InvT-loop
-Inv-loop s mark i₀ i = (i ≤ length mark) × ((k : ℕ) → k < i → at s k ≡ at mark k)
+returns : tie.Need-returns
+returns c =
+    let the-pre = c .before .before .before .pre in
+    let t = c .if1 .taken in
+    sym (starts-short _ _ (omega arith))
 
-abbrev μ-loop : tie.MeasureT-loop
-μ-loop s mark i₀ i = length mark - i
+shared-slice-read-same-four : tie.Need-shared-slice-read-same-four
+shared-slice-read-same-four c = omega arith
 
-returns : tie.Need-returns Inv-loop μ-loop
-returns c = sym (starts-short _ _ (c .if1 .taken))
+shared-slice-read-same-four-2 : tie.Need-shared-slice-read-same-four-2
+shared-slice-read-same-four-2 c = omega arith
 
-loop-holds : tie.Need-loop-holds Inv-loop μ-loop
-loop-holds c = (search needs, below-none _)
+shared-slice-read-same-four-3 : tie.Need-shared-slice-read-same-four-3
+shared-slice-read-same-four-3 c = omega arith
 
-shared-slice-read-if2 : tie.Need-shared-slice-read-if2 Inv-loop μ-loop
-shared-slice-read-if2 c = omega arith
+shared-slice-read-same-four-4 : tie.Need-shared-slice-read-same-four-4
+shared-slice-read-same-four-4 c = omega arith
 
-shared-slice-read-if2-2 : tie.Need-shared-slice-read-if2-2 Inv-loop μ-loop
-shared-slice-read-if2-2 c = omega arith
+shared-slice-read-same-four-5 : tie.Need-shared-slice-read-same-four-5
+shared-slice-read-same-four-5 c = omega arith
 
-returns-2 : tie.Need-returns-2 Inv-loop μ-loop
+shared-slice-read-same-four-6 : tie.Need-shared-slice-read-same-four-6
+shared-slice-read-same-four-6 c = omega arith
+
+shared-slice-read-same-four-7 : tie.Need-shared-slice-read-same-four-7
+shared-slice-read-same-four-7 c = omega arith
+
+shared-slice-read-same-four-8 : tie.Need-shared-slice-read-same-four-8
+shared-slice-read-same-four-8 c = omega arith
+
+same-four-requires : tie.Need-same-four-requires
+same-four-requires c κs = search needs
+
+returns-2 : tie.Need-returns-2
 returns-2 c =
-    let at-loop-test = c .before .before .before in
-    let at-loop = at-loop-test .before in
-    sym (starts-differs _ _ (at-loop .loop .i) (at-loop-test .loop-test .taken) (c .if2 .taken))
-
-add-i : tie.Need-add-i Inv-loop μ-loop
-add-i c = omega arith
-
-loop-less : tie.Need-loop-less Inv-loop μ-loop
-loop-less c = omega arith
-
-loop-again : tie.Need-loop-again Inv-loop μ-loop
-loop-again c =
-    let at-loop = c .before .before .before .before in
-    (search needs, below-more _ _ (at-loop .loop .inv .1) (c .if2 .left))
-
-returns-3 : tie.Need-returns-3 Inv-loop μ-loop
-returns-3 c =
-    let the-if1 = c .before .before .if1 in
-    sym (starts-agrees _ _ (the-if1 .left) (λ k h. c .before .loop .inv .1 k (omega arith)))
+    let the-if1 = c .before .before .before .before .before .before .before .before .before .if1 in
+    let the-pre = c .before .before .before .before .before .before .before .before .before .before .before .before .pre in
+    c .same-four .ensures ∙ starts-four _ _ the-pre (the-if1 .left)
 
 pub starts-with-spec : {M : Type 1} → statement M
 starts-with-spec =
     tie.close
     (tie.spec
-    Inv-loop
-    μ-loop
     returns
-    loop-holds
-    shared-slice-read-if2
-    shared-slice-read-if2-2
-    returns-2
-    add-i
-    loop-less
-    loop-again
-    returns-3)
+    shared-slice-read-same-four
+    shared-slice-read-same-four-2
+    shared-slice-read-same-four-3
+    shared-slice-read-same-four-4
+    shared-slice-read-same-four-5
+    shared-slice-read-same-four-6
+    shared-slice-read-same-four-7
+    shared-slice-read-same-four-8
+    same-four-requires
+    returns-2)

@@ -21,13 +21,9 @@ same-length c = search needs
 
 returns : tie.Need-returns
 returns c =
-    let at-put-word = c .before .before in
-    let at-balance-of = at-put-word .before in
-    let at-word-sum = at-balance-of .before .before in
-    let at-start = at-word-sum .before .before .before in
-    let s = at-start .args .s .now in
-    at-put-word .put-word .ensures
-    ∙ ap (λ (w : ℕ). sets s 4 (wordBytes w)) (at-balance-of .balance-of .ensures ∙ ap balance (at-word-sum .word-sum .ensures))
+    let s = c .before .before .before .before .before .before .before .before .args .s .now in
+    c .before .before .put-word .ensures
+    ∙ ap (λ (w : ℕ). sets s 4 (wordBytes w)) (c .before .before .before .balance-of .ensures ∙ ap balance (c .before .before .before .before .before .word-sum .ensures))
 
 pub put-balance-spec : {M : Type 1} → statement M
 put-balance-spec =

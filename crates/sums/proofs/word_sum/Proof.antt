@@ -12,14 +12,14 @@ use Rattle.sums.proofs.word_sum.Statement.{statement}
 use Rattle.sums.proofs.word_sum.Tie as tie
 
 abbrev Inv-loop : tie.InvT-loop
-Inv-loop s n sum₀ k₀ sum k = (k ≤ n) × (sum ≡ wordSum (take k (wordsOf s)))
+Inv-loop s sum₀ k₀ sum k = (k ≤ 128) × (sum ≡ wordSum (take k (wordsOf s)))
 
 abbrev μ-loop : tie.MeasureT-loop
-μ-loop s n sum₀ k₀ sum k = n - k
+μ-loop s sum₀ k₀ sum k = 128 - k
 
 loop-holds : tie.Need-loop-holds Inv-loop μ-loop
 unfolding wordSum
-loop-holds c = (search needs, refl)
+loop-holds c = (omega arith, refl)
 
 word-at-requires : tie.Need-word-at-requires Inv-loop μ-loop
 word-at-requires c κs = omega arith
@@ -35,17 +35,19 @@ loop-less c = omega arith
 
 loop-again : tie.Need-loop-again Inv-loop μ-loop
 loop-again c =
-    let at-loop = c .before .before .before in
-    let at-start = at-loop .before .before in
-    let s = at-start .args .s .now in
-    let k = at-loop .loop .k in
+    let the-loop = c .before .before .before .loop in
+    let the-pre = c .before .before .before .before .before .pre in
+    let a = c .before .before .before .before .before .args in
+    let s = a .s .now in
+    let k = the-loop .k in
     (omega arith, cc (sum-next (wordsOf s) k (omega (arith, length-wordsOf s))))
 
 returns : tie.Need-returns Inv-loop μ-loop
 returns c =
     let the-loop = c .before .loop in
-    let the-args = c .before .before .before .args in
-    let s = the-args .s .now in
+    let the-pre = c .before .before .before .pre in
+    let a = c .before .before .before .args in
+    let s = a .s .now in
     let k = the-loop .k in
     the-loop .inv .1 ∙ ap wordSum (take-all k (wordsOf s) (omega (arith, length-wordsOf s)))
 

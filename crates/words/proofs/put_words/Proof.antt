@@ -41,24 +41,19 @@ loop-less c = omega arith
 
 loop-again : tie.Need-loop-again Inv-loop μ-loop
 loop-again c =
-    let at-put-word = c .before .before in
-    let at-loop-test = at-put-word .before .before .before in
-    let at-loop = at-loop-test .before in
-    let at-start = at-loop .before .before .before in
-    let a = at-start .args in
-    let l = at-loop .loop in
-    let call = at-put-word .put-word in
-    (omega arith, call .kept .0 ∙ l .inv .1, call .ensures ∙ ap (λ (b : List ℕ). sets b (4 * (a .k + l .i)) (wordBytes (getD (a .words .now) (l .i) 0))) (l .inv .2) ∙ put-words-next (a .s .now) (a .k) (a .words .now) (l .i) (at-loop-test .loop-test .taken))
+    let a = c .before .before .before .before .before .before .before .before .before .args in
+    let l = c .before .before .before .before .before .before .loop in
+    let call = c .before .before .put-word in
+    (omega arith, call .kept .0 ∙ l .inv .1, call .ensures ∙ ap (λ (b : List ℕ). sets b (4 * (a .k + l .i)) (wordBytes (getD (a .words .now) (l .i) 0))) (l .inv .2) ∙ put-words-next (a .s .now) (a .k) (a .words .now) (l .i) (c .before .before .before .before .before .loop-test .taken))
 
 same-length : tie.Need-same-length Inv-loop μ-loop
 same-length c = c .before .loop .inv .1
 
 returns : tie.Need-returns Inv-loop μ-loop
 returns c =
-    let at-loop = c .before in
-    let at-start = at-loop .before .before .before in
-    let a = at-start .args in
-    at-loop .loop .inv .2 ∙ ap (λ (ws : List ℕ). sets (a .s .now) (4 * a .k) (bytesOf ws)) (take-all (at-loop .loop .i) (a .words .now) (c .loop-test .left))
+    let the-loop = c .before .loop in
+    let a = c .before .before .before .before .args in
+    the-loop .inv .2 ∙ ap (λ (ws : List ℕ). sets (a .s .now) (4 * a .k) (bytesOf ws)) (take-all (the-loop .i) (a .words .now) (c .loop-test .left))
 
 pub put-words-spec : {M : Type 1} → statement M
 put-words-spec =

@@ -35,12 +35,9 @@ loop-less c = omega arith
 
 loop-again : tie.Need-loop-again Inv-loop μ-loop
 loop-again c =
-    let at-put-word = c .before .before in
-    let at-loop = at-put-word .before .before .before in
-    let at-start = at-loop .before .before in
-    let a = at-start .args in
-    let l = at-loop .loop in
-    let call = at-put-word .put-word in
+    let a = c .before .before .before .before .before .before .before .args in
+    let l = c .before .before .before .before .before .loop in
+    let call = c .before .before .put-word in
     (omega arith, call .kept .0 ∙ l .inv .1, call .ensures ∙ ap (λ (b : List ℕ). sets b (4 * (a .k + l .i)) (wordBytes 0)) (l .inv .2) ∙ put-zeros-next (a .s .now) (a .k) (l .i))
 
 same-length : tie.Need-same-length Inv-loop μ-loop

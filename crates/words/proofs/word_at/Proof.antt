@@ -34,9 +34,8 @@ word-of-requires c κs = search needs
 
 returns : tie.Need-returns
 returns c =
-    let at-start = c .before .before .before .before .before .before in
-    let a = at-start .args in
-    c .word-of .ensures ∙ sym (at-words (a .s .now) (a .k) (at-start .pre))
+    let a = c .before .before .before .before .before .before .args in
+    c .word-of .ensures ∙ sym (at-words (a .s .now) (a .k) (c .before .before .before .before .before .before .pre))
 
 pub word-at-spec : {M : Type 1} → statement M
 word-at-spec =
