@@ -12,7 +12,7 @@ use lib.Seq.{getD-set-same, getD-set-other}
 use lib.Bits.{bitOr, bitAnd}
 use lib.Dec.{eqb}
 use borrow.Author.Tests.{eq-eqb, ne-eqb}
-use Rattle.layout.specs.Bounded.{allBelow, countBelow, updated}
+use Rattle.layout.specs.Bounded.{allBelow, updated}
 use Rattle.volume.specs.Tables.{bitAt, freeSectors}
 use Rattle.laws.proofs.Bounded.{eq?, allBelow-at, cond-true, cond-false, count-le, count-hit, count-miss}
 use Rattle.laws.proofs.Names.{beq-true}
@@ -88,10 +88,6 @@ bit-clear us k h b =
     put-bit us k (clearing (getD us (k / 8) 0) (k % 8)) false h (tried-put clearing false clear-table (getD us (k / 8) 0) (k % 8) b (omega arith))
 
 -- Free sectors counted, one more at a time.
-pub free-none : (us : List ℕ) → 0 ≡ freeSectors 0 (bitAt us)
-unfolding freeSectors countBelow
-free-none us = refl
-
 pub free-le : (k : ℕ) (us : List ℕ) → freeSectors k (bitAt us) ≤ k
 unfolding freeSectors
 free-le k us = count-le (λ j. not (bitAt us j)) k

@@ -1,36 +1,55 @@
--- What is counted at k is the number of free sectors below k.
-use Prim.Native.Nat.{ℕ, _+_, _-_, _≤_}
+-- What is counted at k is the number of free sectors below k, from the last whole word on.
+use Prim.Native.Nat.{ℕ, _+_, _-_, _/_, _≤_}
 use mathlib.Core.Path.{_≡_, _∙_, ap}
 use mathlib.Core.Logic.{⊎-elim}
 use native.Mathlib.Omega.{arith}
 use Rattle.volume.specs.Tables.{bitAt, freeSectors}
-use Rattle.bits.proofs.BitLaws.{free-none, free-le, free-hit, free-miss}
+use Rattle.bits.proofs.BitLaws.{free-le, free-hit, free-miss}
+use Rattle.bits.proofs.WordLaws.{free-words}
 use Rattle.bits.proofs.count_free.Statement.{statement}
 use Rattle.bits.proofs.count_free.Tie as tie
 
 abbrev Inv-loop : tie.InvT-loop
-Inv-loop used n free₀ k₀ free k = (k ≤ n) × (free ≡ freeSectors k (bitAt used))
+Inv-loop used n whole free₀ k₀ free k = (k ≤ n) × (free ≡ freeSectors k (bitAt used))
 
 abbrev μ-loop : tie.MeasureT-loop
-μ-loop used n free₀ k₀ free k = n - k
+μ-loop used n whole free₀ k₀ free k = n - k
+
+mul-whole : tie.Need-mul-whole Inv-loop μ-loop
+mul-whole c = omega arith
+
+cast-count-words : tie.Need-cast-count-words Inv-loop μ-loop
+cast-count-words c = omega arith
+
+count-words-requires : tie.Need-count-words-requires Inv-loop μ-loop
+count-words-requires c κs = (omega arith, omega arith)
+
+sub-free : tie.Need-sub-free Inv-loop μ-loop
+sub-free c =
+    let a = c .before .before .args in
+    let the-count-words = c .count-words in
+    free-words (a .used .now) (a .n / 64) (the-count-words .result) (the-count-words .ensures) .0
 
 loop-holds : tie.Need-loop-holds Inv-loop μ-loop
-loop-holds c = (omega arith, free-none (c .before .args .used .now))
+loop-holds c =
+    let a = c .before .before .args in
+    let the-count-words = c .count-words in
+    (omega arith, free-words (a .used .now) (a .n / 64) (the-count-words .result) (the-count-words .ensures) .1)
 
 cast-is-set : tie.Need-cast-is-set Inv-loop μ-loop
 cast-is-set c = omega arith
 
 is-set-requires : tie.Need-is-set-requires Inv-loop μ-loop
 is-set-requires c κs =
-    let r = c .before .before .before .pre in
+    let the-pre = c .before .before .before .before .pre in
     omega arith
 
 add-free : tie.Need-add-free Inv-loop μ-loop
 add-free c =
     let the-loop-test = c .before .before .loop-test in
-    let the-args = c .before .before .before .before .before .args in
+    let a = c .before .before .before .before .before .before .args in
     let l = c .before .before .before .loop in
-    let b = free-le (l .k) (the-args .used .now) in
+    let b = free-le (l .k) (a .used .now) in
     let e = l .inv .1 in
     let t = the-loop-test .taken in
     omega arith
@@ -44,9 +63,9 @@ loop-less c = omega arith
 loop-again : tie.Need-loop-again Inv-loop μ-loop
 loop-again c =
     let the-is-set = c .before .is-set in
-    let the-args = c .before .before .before .before .before .args in
+    let a = c .before .before .before .before .before .before .args in
     let l = c .before .before .before .loop in
-    let us = the-args .used .now in (
+    let us = a .used .now in (
       omega arith,
       ⊎-elim (λ w. w .1 ∙ ap (λ (x : ℕ). x + 1) (l .inv .1) ∙ free-hit (l .k) us (the-is-set .result) (the-is-set .ensures) (w .0 .taken))
           (λ w. w .1 ∙ l .inv .1 ∙ free-miss (l .k) us (the-is-set .result) (the-is-set .ensures) (w .0 .left)) (c .if1 .came),
@@ -54,11 +73,11 @@ loop-again c =
 
 returns : tie.Need-returns Inv-loop μ-loop
 returns c =
-    let the-args = c .before .before .before .args in
+    let a = c .before .before .before .before .args in
     let l = c .before .loop in
     let i = l .inv .0 in
     let t = c .loop-test .left in
-    l .inv .1 ∙ ap (λ (x : ℕ). freeSectors x (bitAt (the-args .used .now))) (let e : l .k ≡ the-args .n = omega arith in e)
+    l .inv .1 ∙ ap (λ (x : ℕ). freeSectors x (bitAt (a .used .now))) (let e : l .k ≡ a .n = omega arith in e)
 
 pub count-free-spec : {M : Type 1} → statement M
 count-free-spec =
@@ -66,6 +85,10 @@ count-free-spec =
     (tie.spec
     Inv-loop
     μ-loop
+    mul-whole
+    cast-count-words
+    count-words-requires
+    sub-free
     loop-holds
     cast-is-set
     is-set-requires
