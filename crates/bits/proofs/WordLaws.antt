@@ -5,15 +5,15 @@ use mathlib.Core.Logic.{⊎-elim}
 use mathlib.Core.Bool.{Bool, true, false, not}
 use mathlib.Core.List.{List}
 use native.Mathlib.Nat.{add-suc, mod-lt, mod-eq-of-lt}
-use native.Mathlib.Numerals.{add-one, one-add}
+use native.Mathlib.Numerals.{one-add}
 use native.Mathlib.Omega.{arith}
 use lib.Pow.{pow-pos, shr-shr, mod-pow-add, field, mod-mod-pow}
 use lib.Count.{ones, ones-cat, ones-ones}
 use lib.Dec.{eqb}
 use borrow.Author.Tests.{eqb-true, eqb-false}
-use Rattle.layout.specs.Bounded.{at, countBelow}
+use Rattle.layout.specs.Bounded.{at, allBelow, countBelow}
 use Rattle.volume.specs.Tables.{bitAt, freeSectors}
-use Rattle.laws.proofs.Bounded.{bool?, lt?, count-hit, count-miss, count-same}
+use Rattle.laws.proofs.Bounded.{bool?, lt?, allBelow-at, count-hit, count-miss, count-same}
 
 -- Bit j of a number.
 abbrev pub bit : ℕ → ℕ → Bool
@@ -68,6 +68,12 @@ word-bits us w r b e j h =
     let p : j % 8 ≡ (64 * w + j) % 8 = omega arith in
     ap (λ (x : ℕ). bit x j) all
     ∙ ap (λ (x : ℕ). eqb x 1) (joined-bit f (λ i. b (8 * w + i)) 8 j h ∙ ap₂ (λ (x y : ℕ). at us x / 2 ^ y % 2) q p)
+
+-- A word that is all ones has every sector marked.
+pub word-full : (us : List ℕ) (w x : ℕ) → ((j : ℕ) → j < 64 → bit x j ≡ bitAt us (64 * w + j)) → x ≡ 18446744073709551615
+    → (j : ℕ) → j < 64 → bitAt us (64 * w + j) ≡ true
+unfolding allBelow
+word-full us w x same e j h = sym (same j h) ∙ ap (λ (y : ℕ). bit y j) e ∙ allBelow-at (bit 18446744073709551615) 64 refl j h
 
 -- The ones of a number's lowest k bits, counted.
 count-ones : (x k : ℕ) → countBelow (bit x) k ≡ ones (x % 2 ^ k)

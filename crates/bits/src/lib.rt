@@ -33,6 +33,9 @@ pub fn clear_bit(used: &mut [u8], k: usize)
     used[q] = used[q] & (255 - (1u8 << (k % 8)));
 }
 
+// A word of 64 sectors that are all marked.
+pub const FULL: u64 = 18_446_744_073_709_551_615;
+
 // Eight bytes as one number, the lowest first.
 fn long_of(a: u8, b: u8, c: u8, d: u8, e: u8, f: u8, g: u8, h: u8) -> u64
     ensures { λ r. ⌜ r ≡ a + 256 * (b + 256 * (c + 256 * (d + 256 * (e + 256 * (f + 256 * (g + 256 * h)))))) ⌝ }

@@ -1,7 +1,8 @@
 // Placing: where the sectors of a commit go.
 ghost use mathlib.Core.Path.{_≡_};
 ghost use mathlib.Core.List.{_++_};
-ghost use Prim.Native.Nat.{_*_, _≤_, _<_};
+ghost use mathlib.Core.Bool.{true};
+ghost use Prim.Native.Nat.{ℕ, _+_, _*_, _≤_, _<_};
 ghost use lib.ListN.{length, drop};
 ghost use Rattle.layout.specs.Bounded.{listFrom};
 ghost use Rattle.volume.specs.Tables.{bitAt};
@@ -16,6 +17,29 @@ fn sector_after(n: u32, k: u32) -> u32
         return k + 1;
     }
     1
+}
+
+// How many sectors from k on can be skipped at once: those of a whole word that starts at k and is full, else k alone.
+fn used_run(used: &[u8], n: u32, k: u32, steps: u32) -> u32
+    requires { ⌜ k < n ⌝ }
+    requires { ⌜ 0 < steps ⌝ }
+    requires { ⌜ n ≤ 8 * length (now used) ⌝ }
+    requires { ⌜ bitAt (now used) k ≡ true ⌝ }
+    ensures { λ r. ⌜ (0 < r) × (r ≤ steps) × (k + r ≤ n) × ((j : ℕ) → j < r → bitAt (now (used .entry)) (k + j) ≡ true) ⌝ }
+{
+    if k % 64 != 0 {
+        return 1;
+    }
+    if n - k < 64 {
+        return 1;
+    }
+    if steps < 64 {
+        return 1;
+    }
+    if bits::word_at(used, (k / 64) as usize) != bits::FULL {
+        return 1;
+    }
+    64
 }
 
 // The first free sector from start on.
@@ -34,8 +58,9 @@ fn find_place(used: &[u8], n: u32, start: u32) -> u32
         if !bits::is_set(used, k as usize) {
             break k;
         }
-        k = sector_after(n, k);
-        steps -= 1;
+        let run = used_run(used, n, k, steps);
+        k = sector_after(n, k + run - 1);
+        steps -= run;
     };
     place
 }
