@@ -9,7 +9,7 @@ ghost use Rattle.geometry.specs.Geometry.{sectorBytes, piecesFor};
 ghost use Rattle.layout.specs.Bounded.{at, allBelow, same};
 ghost use Rattle.layout.specs.Word.{wordsOf};
 ghost use Rattle.layout.specs.MapSector.{entryWords, decoded};
-ghost use Rattle.volume.specs.Tables.{sectorAt, memory, tablesOf, pieceEntries, saysPiece, liveValid};
+ghost use Rattle.volume.specs.Tables.{bitAt, sectorAt, memory, tablesOf, freeSectors, pieceEntries, saysPiece, liveValid};
 ghost use Rattle.volume.specs.Format.{tablesFit};
 ghost use Rattle.volume.specs.Calls.{viewOf, stateFits, tablesAgree};
 use geometry::Geometry;
@@ -117,7 +117,7 @@ pub fn live_valid(g: Geometry, image: &[u8], map: &[u32], places: &[u32], number
     true
 }
 
-// Whether the tables are sound and the live map sectors say what they say.
+// Whether the tables are sound, in a used map with so many free sectors, and the live map sectors say what they say.
 pub fn tables_agree(
     s: State,
     image: &[u8],
@@ -125,13 +125,15 @@ pub fn tables_agree(
     places: &[u32],
     numbers: &[u32],
     used: &[u8],
+    free: u32,
 ) -> bool
     requires { ⌜ stateFits s (memory (now image) (now map) (now places) (now numbers) (now used)) ≡ true ⌝ }
     requires { ⌜ tablesFit (memory (now image) (now map) (now places) (now numbers) (now used)) (s .geometry) ≡ true ⌝ }
+    requires { ⌜ free ≡ freeSectors (s .geometry .n) (bitAt (now used)) ⌝ }
     ensures { λ r. ⌜ r ≡ tablesAgree s (memory (now (image .entry)) (now (map .entry)) (now (places .entry)) (now (numbers .entry)) (now (used .entry))) ⌝ }
 {
     let g = s.geometry;
-    if !soundness::is_consistent(g, map, places, numbers, used, s.tail, s.number) {
+    if !soundness::is_consistent(g, map, places, numbers, used, free, s.tail, s.number) {
         return false;
     }
     live_valid(g, image, map, places, numbers)

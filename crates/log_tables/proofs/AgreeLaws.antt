@@ -1,7 +1,7 @@
 -- Tables whose used map is made of what they name: it need not be compared.
-use Prim.Native.Nat.{ℕ, _*_, _-_, _≤_, _<_}
+use Prim.Native.Nat.{ℕ, _+_, _*_, _-_, _≤_, _<_}
 use mathlib.Core.Path.{_≡_, refl, sym, _∙_, ap}
-use mathlib.Core.Bool.{Bool, true, false, not, _&&_, Bool·beq, true≢false}
+use mathlib.Core.Bool.{Bool, true, false, not, Bool·beq, true≢false}
 use mathlib.Core.List.{List, []}
 use native.Mathlib.Omega.{arith}
 use lib.Dec.{eqb, leb}
@@ -12,6 +12,8 @@ use Rattle.layout.specs.Bounded.{at, allBelow, best, all, distinct, always, gat
 use Rattle.volume.specs.Tables.{namedBy, usedBy, freeSectors, consistent}
 use Rattle.laws.proofs.Bounded.{allBelow-is}
 use Rattle.names.proofs.Marking.{Left}
+use Rattle.names.proofs.Counting.{named-twice, named-once}
+use Rattle.soundness.proofs.Sounding.{inside-fails, once-fails, room-fails-here, rest-decides}
 use Rattle.numbers.proofs.Numbering.{Agree}
 use Rattle.log_tables.specs.LogTables.{tablesNamed}
 
@@ -19,22 +21,15 @@ beq-self : (b : Bool) → Bool·beq b b ≡ true
 beq-self true = refl
 beq-self false = refl
 
-module _ (a b c d e f g : Bool) where
-  names-off : a ≡ false → false ≡ (a && b && c && d && e && f && g)
-  names-off p = rw p refl
-
-  room-off : a ≡ true → b ≡ true → c ≡ false → false ≡ (a && b && c && d && e && f && g)
-  room-off p q r = rw (p, q, r) refl
-
-  rest-on : a ≡ true → b ≡ true → c ≡ true → (d && e && f && g) ≡ (a && b && c && d && e && f && g)
-  rest-on p q r = rw (p, q, r) refl
-
 module _ (g : Geometry) (map places numbers : List ℕ) (tail number : ℕ) where
   abbrev Names : List ℕ
   Names = namedBy (g .l) (at map) (at places)
 
-  abbrev Fits : Bool
-  Fits = all (within 1 (g .n - 1)) Names && distinct Names
+  abbrev Inside : Bool
+  Inside = all (within 1 (g .n - 1)) Names
+
+  abbrev Once : Bool
+  Once = distinct Names
 
   abbrev Bits : Bool
   Bits = allBelow (λ k. Bool·beq (usedBy Names k) (usedBy Names k)) (8 * usedBytes (g .n))
@@ -64,32 +59,43 @@ module _ (g : Geometry) (map places numbers : List ℕ) (tail number : ℕ) wher
   bits-same : Bits ≡ true
   bits-same = allBelow-is (λ k. Bool·beq (usedBy Names k) (usedBy Names k)) (8 * usedBytes (g .n)) (λ k h. beq-self (usedBy Names k))
 
-  module _ (bits : ℕ → Bool) (r : Bool) (h : Left (g .n) Names r bits) where
+  module _ (bits : ℕ → Bool) (r : Bool) (count : ℕ) (h : Left (g .n) Names r bits count) where
     pub names-fail : not r ≡ true → Agrees false bits
     unfolding consistent
-    names-fail e = (names-off Fits Bits Room D E F G (sym (h .0) ∙ not-true r e), no-claim bits)
+    names-fail e = (inside-fails Inside Once Bits Room D E F G (sym (h .0) ∙ not-true r e), no-claim bits)
 
-    module _ (e : not r ≡ false) (free p : ℕ) (counted : free ≡ freeSectors (g .n) bits) (pieces : p ≡ piecesFor (g .l)) where
-      fits : Fits ≡ true
-      fits = sym (h .0) ∙ not-false r e
+    module _ (e : not r ≡ false) (some : 1 ≤ g .n) (free : ℕ) (counted : free ≡ freeSectors (g .n) bits) where
+      yes : r ≡ true
+      yes = not-false r e
+
+      inside : Inside ≡ true
+      inside = sym (h .0) ∙ yes
 
       made : bits ≡ usedBy Names
-      made = h .1 (not-false r e)
+      made = h .1 yes .0
 
       free-is : free ≡ freeSectors (g .n) (usedBy Names)
       free-is = counted ∙ ap (freeSectors (g .n)) made
 
-      pub room-fails : free < p → Agrees false bits
+      pub twice-fails : (free + count + 1 ≡ g .n → ⊥) → Agrees false bits
       unfolding consistent
-      room-fails y =
-          let w = free-is in
-          (room-off Fits Bits Room D E F G fits bits-same (lt-leb (piecesFor (g .l)) (freeSectors (g .n) (usedBy Names)) (omega arith)), no-claim bits)
+      twice-fails d = (once-fails Inside Once Bits Room D E F G inside (named-twice (g .n) some Names inside free count free-is (h .1 yes .1) d), no-claim bits)
 
-      pub numbers-decide : p ≤ free → (u : Bool) (m : ℕ) → m ≡ piecesFor (g .l) → u ≡ Agree (at places) (at numbers) m tail number → Agrees u bits
-      unfolding consistent
-      numbers-decide y u m same v =
-          let w = free-is in (
-            v ∙ ap (λ (x : ℕ). Agree (at places) (at numbers) x tail number) same
-                ∙ rest-on Fits Bits Room D E F G fits bits-same (le-leb (piecesFor (g .l)) (freeSectors (g .n) (usedBy Names)) (omega arith)),
-            λ z. made,
-          )
+      module _ (total : free + count + 1 ≡ g .n) (p : ℕ) (pieces : p ≡ piecesFor (g .l)) where
+        once : Once ≡ true
+        once = named-once (g .n) some Names inside free count free-is (h .1 yes .1) total
+
+        pub room-fails : free < p → Agrees false bits
+        unfolding consistent
+        room-fails y =
+            let w = free-is in
+            (room-fails-here Inside Once Bits Room D E F G inside once bits-same (lt-leb (piecesFor (g .l)) (freeSectors (g .n) (usedBy Names)) (omega arith)), no-claim bits)
+
+        pub numbers-decide : p ≤ free → (u : Bool) (m : ℕ) → m ≡ piecesFor (g .l) → u ≡ Agree (at places) (at numbers) m tail number → Agrees u bits
+        unfolding consistent
+        numbers-decide y u m same v =
+            let w = free-is in (
+              v ∙ ap (λ (x : ℕ). Agree (at places) (at numbers) x tail number) same
+                  ∙ rest-decides Inside Once Bits Room D E F G inside once bits-same (le-leb (piecesFor (g .l)) (freeSectors (g .n) (usedBy Names)) (omega arith)),
+              λ z. made,
+            )

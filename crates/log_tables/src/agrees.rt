@@ -8,7 +8,8 @@ ghost use Rattle.volume.specs.Tables.{bitAt, namedBy, usedBy, consistent};
 ghost use Rattle.log_tables.specs.LogTables.{tablesNamed};
 use geometry::Geometry;
 
-// Marks the sectors that the tables name in the used map, and says whether the tables are then sound.
+// Marks the sectors that the tables name in the used map, and says whether the tables are then sound. No sector is named twice where as
+// many are used as there are names, and sector 0.
 pub fn log_agrees(
     g: Geometry,
     map: &[u32],
@@ -26,10 +27,15 @@ pub fn log_agrees(
     ensures { λ r. ⌜ (r ≡ consistent g (tablesNamed (g .l) (now (map .entry)) (now (places .entry)) (now (numbers .entry))) tail number) × (r ≡ true → bitAt (now (used .exit)) ≡ usedBy (namedBy (g .l) (at (now (map .entry))) (at (now (places .entry))))) ⌝ }
 {
     fill::zero_bytes(used);
-    if !names::mark_names(used, g, map, places) {
+    let named = names::mark_names(used, g, map, places);
+    if !named.inside {
         return false;
     }
-    if bits::count_free(used, g.n) < Geometry::pieces_for(g.l) {
+    let free = bits::count_free(used, g.n);
+    if free + named.count + 1 != g.n {
+        return false;
+    }
+    if free < Geometry::pieces_for(g.l) {
         return false;
     }
     numbers::numbers_agree(places, numbers, tail, number)

@@ -1,6 +1,6 @@
--- A loop that marks names in a bit map: so far every name lies in 1 to n - 1, none came twice, and the bits are sector 0 and the
--- names. Where one is refused, the names fail the test, and so does every longer list of them.
-use Prim.Native.Nat.{ℕ, zero, suc, _+_, _/_, _%_, _-_, _^_, _≤_, _<_}
+-- A loop that marks names in a bit map: so far every name lies in 1 to n - 1, and the bits are sector 0 and the names. Where one is
+-- refused, the names fail the test, and so does every longer list of them.
+use Prim.Native.Nat.{ℕ, zero, suc, _+_, _*_, _/_, _%_, _-_, _^_, _≤_, _<_}
 use mathlib.Core.Path.{_≡_, refl, sym, _∙_, ap, subst, fun-ext}
 use mathlib.Core.Logic.{⊎-elim}
 use mathlib.Core.Bool.{Bool, true, false, cond, not, _&&_, _||_, true≢false}
@@ -8,29 +8,19 @@ use mathlib.Core.List.{List, [], _∷_}
 use native.Mathlib.Nat.{eq-or-lt-of-le, le-of-suc-le-suc}
 use native.Mathlib.Numerals.{add-one}
 use native.Mathlib.Omega.{arith}
-use lib.ListN.{replicate}
+use lib.ListN.{length, set, replicate, length-set}
+use lib.Seq.{set-set, set-getD, getD-set-same}
+use lib.Bits.{bitOr}
 use lib.Dec.{eqb, leb}
-use borrow.Author.Tests.{leb-true, eq-eqb, ne-eqb}
+use borrow.Author.Tests.{eq-eqb, ne-eqb, le-leb, leb-true}
 use Rattle.geometry.specs.declared.Geometry.{Geometry}
 use Rattle.geometry.specs.Geometry.{within, piecesFor}
-use Rattle.layout.specs.Bounded.{at, allBelow, all, elem, distinct, always, gathered, updated}
+use Rattle.layout.specs.Bounded.{at, allBelow, all, elem, always, gathered, updated}
 use Rattle.volume.specs.Tables.{bitAt, namedBy, usedBy}
 use Rattle.layout.specs.Entry.{isEmpty, sectorOf}
-use Rattle.laws.proofs.Lists.{within-below, within-above, within-both}
-use Rattle.laws.proofs.Bounded.{bool?, and-l, and-r, and-i, not-of, allBelow-at, gathered-hit, gathered-miss}
-
--- A chain of four tests, two of them for the new name.
-four-range : (a b c d : Bool) → a ≡ false → (a && b && (not c && d)) ≡ false
-four-range a b c d p = rw p refl
-
-four-twice : (a b c d : Bool) → a ≡ true → b ≡ true → c ≡ true → (a && b && (not c && d)) ≡ false
-four-twice a b c d p q r = rw (p, q, r) refl
-
-four-before : (a b c d : Bool) → (b && d) ≡ false → (a && b && (not c && d)) ≡ false
-four-before false b c d e = refl
-four-before true false c d e = refl
-four-before true true true d e = refl
-four-before true true false d e = e
+use Rattle.laws.proofs.Lists.{within-below}
+use Rattle.laws.proofs.Bounded.{bool?, and-r, and-i, not-of, allBelow-at, gathered-hit, gathered-miss}
+use Rattle.bits.proofs.BitLaws.{bit-set}
 
 pub not-false : (b : Bool) → not b ≡ false → b ≡ true
 not-false true e = refl
@@ -46,114 +36,70 @@ only : (b : Bool) → cond b true false ≡ (b || false)
 only true = refl
 only false = refl
 
--- A new name is marked where this holds of it.
-abbrev pub Test : ℕ → (ℕ → Bool) → ℕ → Bool
-Test n bits k = within 1 (n - 1) k && not (bits k)
+after-false : (a : Bool) → (a && false) ≡ false
+after-false true = refl
+after-false false = refl
 
--- What is told of a name, and the bits then.
-module _ (n k : ℕ) (bits : ℕ → Bool) where
-  abbrev pub Told : Bool → (ℕ → Bool) → Type 0
-  Told r after = (r ≡ Test n bits k) × (after ≡ cond r (updated bits k true) bits)
+pub inside-low : (n k : ℕ) → k < 1 → false ≡ within 1 (n - 1) k
+inside-low n k h = sym (within-below 1 (n - 1) k h)
 
-  pub told-low : k < 1 → Told false bits
-  told-low h = (rw (within-below 1 (n - 1) k h) refl, refl)
+pub inside-high : (n k : ℕ) → 1 ≤ k → leb k (n - 1) ≡ within 1 (n - 1) k
+inside-high n k h = rw (le-leb 1 k h) refl
 
-  pub told-high : 1 ≤ k → n ≤ k → Told false bits
-  told-high h g = (rw (within-above 1 (n - 1) k h (omega arith)) refl, refl)
-
-  pub told-twice : 1 ≤ k → k < n → (b : Bool) → b ≡ bits k → b ≡ true → Told false bits
-  told-twice h g b e f = (rw (within-both 1 (n - 1) k h (omega arith), sym e ∙ f) refl, refl)
-
-  pub told-new : 1 ≤ k → k < n → (b : Bool) → b ≡ bits k → b ≡ false → (after : ℕ → Bool) → after ≡ updated bits k true → Told true after
-  told-new h g b e f after u = (rw (within-both 1 (n - 1) k h (omega arith), sym e ∙ f) refl, u)
+pub inside-below : (n k : ℕ) → 1 ≤ n → (r : Bool) → r ≡ within 1 (n - 1) k → not r ≡ false → k < n
+inside-below n k h r e f = let z = leb-true k (n - 1) (and-r (leb 1 k) (leb k (n - 1)) (sym e ∙ not-false r f)) in omega arith
 
 module _ (n : ℕ) where
-  abbrev pub Fit : List ℕ → Bool
-  Fit named = all (within 1 (n - 1)) named && distinct named
+  abbrev pub Inside : List ℕ → Bool
+  Inside named = all (within 1 (n - 1)) named
 
   pub record Marked (named : List ℕ) (bits : ℕ → Bool) : Type 0 where
-    pub range : all (within 1 (n - 1)) named ≡ true
-    pub once : distinct named ≡ true
+    pub range : Inside named ≡ true
     pub marks : bits ≡ usedBy named
 
   pub marked-none : (bits : ℕ → Bool) → bits ≡ usedBy [] → Marked [] bits
-  unfolding all distinct
-  marked-none bits e = record { range = refl; once = refl; marks = e }
+  unfolding all
+  marked-none bits e = record { range = refl; marks = e }
 
-  -- What a sector from 1 on is marked for.
-  named-before : (named : List ℕ) (bits : ℕ → Bool) (k : ℕ) → Marked named bits → within 1 (n - 1) k ≡ true → bits k ≡ elem k named
-  unfolding usedBy
-  named-before named bits k m e =
-      let low : 1 ≤ k = leb-true 1 k (and-l (leb 1 k) (leb k (n - 1)) e) in
-      ap (λ (f : ℕ → Bool). f k) (m .marks) ∙ ap (λ (b : Bool). b || elem k named) (ne-eqb k 0 (λ (z : k ≡ 0). omega arith))
-
-  pub marked-more : (named : List ℕ) (bits : ℕ → Bool) (k : ℕ) → Marked named bits → Test n bits k ≡ true
-      → Marked (k ∷ named) (updated bits k true)
-  unfolding all distinct usedBy elem
+  marked-more : (named : List ℕ) (bits : ℕ → Bool) (k : ℕ) → Marked named bits → within 1 (n - 1) k ≡ true → Marked (k ∷ named) (updated bits k true)
+  unfolding all usedBy elem
   marked-more named bits k m e =
-      let inside : within 1 (n - 1) k ≡ true = and-l (within 1 (n - 1) k) (not (bits k)) e in
-      let new : elem k named ≡ false =
-      sym (named-before named bits k m inside) ∙ not-of (bits k) (and-r (within 1 (n - 1) k) (not (bits k)) e) in
       record {
-        range = and-i (within 1 (n - 1) k) (all (within 1 (n - 1)) named) inside (m .range);
-        once = and-i (not (elem k named)) (distinct named) (ap not new) (m .once);
+        range = and-i (within 1 (n - 1) k) (all (within 1 (n - 1)) named) e (m .range);
         marks = fun-ext (λ j.
             ap (λ (f : ℕ → Bool). cond (eqb j k) true (f j)) (m .marks) ∙ swap (eqb j k) (eqb j 0) (elem j named));
       }
 
-  pub fit-refused : (named : List ℕ) (bits : ℕ → Bool) (k : ℕ) → Marked named bits → Test n bits k ≡ false → Fit (k ∷ named) ≡ false
-  unfolding all distinct
-  fit-refused named bits k m e =
-      ⊎-elim (λ (z : within 1 (n - 1) k ≡ true).
-      four-twice (within 1 (n - 1) k) (all (within 1 (n - 1)) named) (elem k named) (distinct named) z (m .range)
-      (sym (named-before named bits k m z) ∙ not-false (bits k) (ap (λ (b : Bool). b && not (bits k)) (sym z) ∙ e)))
-      (λ (z : within 1 (n - 1) k ≡ false).
-      four-range (within 1 (n - 1) k) (all (within 1 (n - 1)) named) (elem k named) (distinct named) z)
-      (bool? (within 1 (n - 1) k))
+  inside-refused : (named : List ℕ) (k : ℕ) → within 1 (n - 1) k ≡ false → Inside (k ∷ named) ≡ false
+  unfolding all
+  inside-refused named k e = rw e refl
 
-  fit-before : (k : ℕ) (named : List ℕ) → Fit named ≡ false → Fit (k ∷ named) ≡ false
-  unfolding all distinct
-  fit-before k named e = four-before (within 1 (n - 1) k) (all (within 1 (n - 1)) named) (elem k named) (distinct named) e
+  inside-before : (k : ℕ) (named : List ℕ) → Inside named ≡ false → Inside (k ∷ named) ≡ false
+  unfolding all
+  inside-before k named e = ap (λ (b : Bool). within 1 (n - 1) k && b) e ∙ after-false (within 1 (n - 1) k)
 
-  -- The test and the bits as a marking function leaves them.
-  abbrev pub Left : List ℕ → Bool → (ℕ → Bool) → Type 0
-  Left named r bits = (r ≡ Fit named) × (r ≡ true → bits ≡ usedBy named)
+  -- The test, the bits and the count of names as marking leaves them.
+  abbrev pub Left : List ℕ → Bool → (ℕ → Bool) → ℕ → Type 0
+  Left named r bits count = (r ≡ Inside named) × (r ≡ true → (bits ≡ usedBy named) × (count ≡ length named))
 
-  pub left-refused : (named : List ℕ) (bits : ℕ → Bool) → Fit named ≡ false → Left named false bits
-  left-refused named bits e = (sym e, λ (z : false ≡ true). absurd (true≢false (sym z)))
-
-  pub left-marked : (named : List ℕ) (bits : ℕ → Bool) → Marked named bits → Left named true bits
-  left-marked named bits m =
-      (sym (and-i (all (within 1 (n - 1)) named) (distinct named) (m .range) (m .once)), λ (z : true ≡ true). m .marks)
-
-  pub marked-left : (named : List ℕ) (bits : ℕ → Bool) (r : Bool) → Left named r bits → r ≡ true → Marked named bits
-  marked-left named bits r h e =
-      let fit = sym (h .0) ∙ e in
-      record {
-        range = and-l (all (within 1 (n - 1)) named) (distinct named) fit;
-        once = and-r (all (within 1 (n - 1)) named) (distinct named) fit;
-        marks = h .1 e;
-      }
+  left-refused : (named : List ℕ) (bits : ℕ → Bool) (count : ℕ) → Inside named ≡ false → Left named false bits count
+  left-refused named bits count e = (sym e, λ (z : false ≡ true). absurd (true≢false (sym z)))
 
   -- Names gathered in a row, one index after the other.
   module _ (test : ℕ → Bool) (value : ℕ → ℕ) (others : List ℕ) where
-    fit-step : (i : ℕ) → Fit (gathered test value others i) ≡ false → Fit (gathered test value others (suc i)) ≡ false
-    fit-step i e =
+    inside-step : (i : ℕ) → Inside (gathered test value others i) ≡ false → Inside (gathered test value others (suc i)) ≡ false
+    inside-step i e =
         ⊎-elim (λ (z : test i ≡ true).
-        ap Fit (gathered-hit test value others i z) ∙ fit-before (value i) (gathered test value others i) e)
-        (λ (z : test i ≡ false). ap Fit (gathered-miss test value others i z) ∙ e) (bool? (test i))
+        ap Inside (gathered-hit test value others i z) ∙ inside-before (value i) (gathered test value others i) e)
+        (λ (z : test i ≡ false). ap Inside (gathered-miss test value others i z) ∙ e) (bool? (test i))
 
-    pub fit-longer : (i m : ℕ) → i ≤ m → Fit (gathered test value others i) ≡ false → Fit (gathered test value others m) ≡ false
-    fit-longer i zero h e =
+    pub inside-longer : (i m : ℕ) → i ≤ m → Inside (gathered test value others i) ≡ false → Inside (gathered test value others m) ≡ false
+    inside-longer i zero h e =
         let z : i ≡ 0 = omega arith in
-        subst (λ (x : ℕ). Fit (gathered test value others x) ≡ false) z e
-    fit-longer i (suc m) h e =
-        ⊎-elim (λ (z : i ≡ suc m). subst (λ (x : ℕ). Fit (gathered test value others x) ≡ false) z e)
-        (λ (z : i < suc m). fit-step m (fit-longer i m (le-of-suc-le-suc z) e)) (eq-or-lt-of-le h)
-
-    pub others-refused : (m : ℕ) (bits : ℕ → Bool) → Fit others ≡ false → Left (gathered test value others m) false bits
-    unfolding gathered
-    others-refused m bits e = left-refused (gathered test value others m) bits (fit-longer 0 m (omega arith) e)
+        subst (λ (x : ℕ). Inside (gathered test value others x) ≡ false) z e
+    inside-longer i (suc m) h e =
+        ⊎-elim (λ (z : i ≡ suc m). subst (λ (x : ℕ). Inside (gathered test value others x) ≡ false) z e)
+        (λ (z : i < suc m). inside-step m (inside-longer i m (le-of-suc-le-suc z) e)) (eq-or-lt-of-le h)
 
     abbrev pub Marking : ℕ → (ℕ → Bool) → Type 0
     Marking i bits = Marked (gathered test value others i) bits
@@ -162,24 +108,50 @@ module _ (n : ℕ) where
     unfolding gathered
     marking-starts bits m = m
 
-    pub marking-skips : (i : ℕ) (bits : ℕ → Bool) → test i ≡ false → Marking i bits → Marking (suc i) bits
-    marking-skips i bits e m = subst (λ (xs : List ℕ). Marked xs bits) (sym (gathered-miss test value others i e)) m
+    pub marking-skips : (i : ℕ) (bits : ℕ → Bool) → test i ≡ false → Marking i bits → Marking (i + 1) bits
+    marking-skips i bits e m = rw add-one (subst (λ (xs : List ℕ). Marked xs bits) (sym (gathered-miss test value others i e)) m)
 
-    module _ (i : ℕ) (bits after : ℕ → Bool) (r : Bool) (e : test i ≡ true) (m : Marking i bits)
-        (h : Told n (value i) bits r after) where
-      pub marking-marks : r ≡ true → Marking (suc i) after
-      marking-marks z =
-          subst (λ (xs : List ℕ). Marked xs after) (sym (gathered-hit test value others i e))
-          (subst (λ (f : ℕ → Bool). Marked (value i ∷ gathered test value others i) f)
-          (sym (h .1 ∙ ap (λ (b : Bool). cond b (updated bits (value i) true) bits) z))
-          (marked-more (gathered test value others i) bits (value i) m (sym (h .0) ∙ z)))
+    module _ (i : ℕ) (e : test i ≡ true) (r : Bool) (f : r ≡ within 1 (n - 1) (value i)) where
+      pub marking-marks : (bits after : ℕ → Bool) → Marking i bits → not r ≡ false → after ≡ updated bits (value i) true → Marking (i + 1) after
+      marking-marks bits after m z u =
+          rw add-one
+          (subst (λ (xs : List ℕ). Marked xs after) (sym (gathered-hit test value others i e))
+          (subst (λ (g : ℕ → Bool). Marked (value i ∷ gathered test value others i) g) (sym u)
+          (marked-more (gathered test value others i) bits (value i) m (sym f ∙ not-false r z))))
 
-      pub marking-refused : (len : ℕ) → i < len → r ≡ false → Left (gathered test value others len) false after
+      pub marking-refused : (len : ℕ) → i < len → not r ≡ true → Inside (gathered test value others len) ≡ false
       marking-refused len below z =
-          left-refused (gathered test value others len) after
-          (fit-longer (suc i) len below
-          (ap Fit (gathered-hit test value others i e)
-          ∙ fit-refused (gathered test value others i) bits (value i) m (sym (h .0) ∙ z)))
+          inside-longer (suc i) len below
+          (ap Inside (gathered-hit test value others i e) ∙ inside-refused (gathered test value others i) (value i) (sym f ∙ not-of r z))
+
+      pub marking-counts : (count : ℕ) → count ≡ length (gathered test value others i) → count + 1 ≡ length (gathered test value others (i + 1))
+      marking-counts count c = rw (add-one, add-one) (ap suc c ∙ ap length (sym (gathered-hit test value others i e)))
+
+    pub marking-passes : (i count : ℕ) → test i ≡ false → count ≡ length (gathered test value others i) → count ≡ length (gathered test value others (i + 1))
+    marking-passes i count e c = rw add-one (c ∙ ap length (sym (gathered-miss test value others i e)))
+
+-- The live places.
+module _ (n : ℕ) (pl : List ℕ) where
+  abbrev Live : ℕ → List ℕ
+  Live m = gathered always (at pl) [] m
+
+  pub places-start : (bits : ℕ → Bool) → bits ≡ usedBy [] → Marked n (Live 0) bits
+  places-start bits e = marking-starts n always (at pl) [] bits (marked-none n bits e)
+
+  module _ (i k : ℕ) (is : k ≡ at pl i) (r : Bool) (f : r ≡ within 1 (n - 1) k) where
+    placed : r ≡ within 1 (n - 1) (at pl i)
+    placed = f ∙ ap (within 1 (n - 1)) is
+
+    pub place-marks : (bits after : ℕ → Bool) → Marked n (Live i) bits → not r ≡ false → after ≡ updated bits k true → Marked n (Live (i + 1)) after
+    place-marks bits after m z u = marking-marks n always (at pl) [] i refl r placed bits after m z (u ∙ ap (λ (x : ℕ). updated bits x true) is)
+
+    pub place-refused : i < length pl → not r ≡ true → (bits : ℕ → Bool) → (false ≡ Inside n (Live (length pl))) × (false ≡ true → bits ≡ usedBy (Live (length pl)))
+    place-refused b z bits = (sym (marking-refused n always (at pl) [] i refl r placed (length pl) b z), λ (y : false ≡ true). absurd (true≢false (sym y)))
+
+  pub places-end : (i : ℕ) (bits : ℕ → Bool) → i ≡ length pl → Marked n (Live i) bits → (true ≡ Inside n (Live (length pl))) × (true ≡ true → bits ≡ usedBy (Live (length pl)))
+  places-end i bits e m =
+      let all = subst (λ (x : ℕ). Marked n (Live x) bits) e m in
+      (sym (all .range), λ (z : true ≡ true). all .marks)
 
 -- Where all bits are clear and then sector 0 is marked, the bits are those of no names.
 zero-at : (m i : ℕ) → at (replicate m 0) i ≡ 0
@@ -203,6 +175,23 @@ zeros-marked bits us m e h =
     ∙ ap (λ (x : ℕ). eqb (x / 2 ^ (k % 8) % 2) 1) (zero-at m (k / 8)) ∙ zero-bit (k % 8) (omega arith))
     ∙ only (eqb k 0))
 
+-- The byte at hand put back: setting a bit there, or in another byte, is setting it in the map.
+module _ (ms : List ℕ) (at-hand held k : ℕ) (inside : at-hand < length ms) (below : k < 8 * length ms) where
+  abbrev pub Put : List ℕ
+  Put = set ms at-hand held
+
+  pub bit-held : k / 8 ≡ at-hand → held < 256 → (v : ℕ) → v ≡ bitOr held ((1 * 2 ^ (k % 8)) % 256) → bitAt (set ms at-hand v) ≡ updated (bitAt Put) k true
+  bit-held e h v f =
+      let is : at Put (k / 8) ≡ held = ap (at Put) e ∙ getD-set-same ms at-hand held 0 inside in
+      let same : set ms at-hand v ≡ set Put (k / 8) (bitOr (at Put (k / 8)) ((1 * 2 ^ (k % 8)) % 256)) =
+      ap (set ms at-hand) (f ∙ ap (λ (x : ℕ). bitOr x ((1 * 2 ^ (k % 8)) % 256)) (sym is))
+      ∙ sym (set-set ms at-hand held (bitOr (at Put (k / 8)) ((1 * 2 ^ (k % 8)) % 256)))
+      ∙ ap (λ (x : ℕ). set Put x (bitOr (at Put (k / 8)) ((1 * 2 ^ (k % 8)) % 256))) (sym e) in
+      ap bitAt same ∙ bit-set Put k (simp length-set below) (subst (λ (x : ℕ). x < 256) (sym is) h)
+
+  pub bit-moved : at Put (k / 8) < 256 → (v : ℕ) → v ≡ bitOr (at Put (k / 8)) ((1 * 2 ^ (k % 8)) % 256) → bitAt (set Put (k / 8) v) ≡ updated (bitAt Put) k true
+  bit-moved h v f = ap (λ (x : ℕ). bitAt (set Put (k / 8) x)) f ∙ bit-set Put k (simp length-set below) h
+
 -- All that tables name: the live places, then the sectors of the entries below i that are not zero.
 module _ (g : Geometry) (entry place : ℕ → ℕ) where
   taken : ℕ → Bool
@@ -214,54 +203,68 @@ module _ (g : Geometry) (entry place : ℕ → ℕ) where
   places : List ℕ
   places = gathered always place [] (piecesFor (g .l))
 
-  pub Entries : ℕ → (ℕ → Bool) → Type 0
-  Entries i bits = Marking (g .n) taken sector places i bits
+  pub Entries : ℕ → (ℕ → Bool) → ℕ → Type 0
+  Entries i bits count = Marked (g .n) (gathered taken sector places i) bits × (count ≡ length (gathered taken sector places i))
 
-  named-is : namedBy (g .l) entry place ≡ gathered taken sector places (g .l)
+  abbrev Named : List ℕ
+  Named = namedBy (g .l) entry place
+
+  named-is : Named ≡ gathered taken sector places (g .l)
   unfolding namedBy taken sector places
   named-is = refl
 
-  module _ (len : ℕ) (same : len ≡ piecesFor (g .l)) (bits : ℕ → Bool) (r : Bool) (h : Left (g .n) (gathered always place [] len) r bits) where
-    pub entries-start : not r ≡ false → Entries 0 bits
-    unfolding Entries places
+  gathered-length : (m : ℕ) → m ≡ length (gathered always place [] m)
+  unfolding gathered
+  gathered-length zero = refl
+  gathered-length (suc m) = ap suc (gathered-length m)
+
+  module _ (len : ℕ) (same : len ≡ piecesFor (g .l)) (bits : ℕ → Bool) (r : Bool)
+      (h : (r ≡ Inside (g .n) (gathered always place [] len)) × (r ≡ true → bits ≡ usedBy (gathered always place [] len))) where
+    pub entries-start : not r ≡ false → Entries 0 bits len
+    unfolding Entries places gathered
     entries-start e =
-        marking-starts (g .n) taken sector places bits
-        (subst (λ (x : ℕ). Marked (g .n) (gathered always place [] x) bits) same
-        (marked-left (g .n) (gathered always place [] len) bits r h (not-false r e)))
+        let yes = not-false r e in
+        let all : Marked (g .n) (gathered always place [] len) bits = record { range = sym (h .0) ∙ yes; marks = h .1 yes } in
+        (subst (λ (x : ℕ). Marked (g .n) (gathered always place [] x) bits) same all, gathered-length len ∙ ap (λ (x : ℕ). length (gathered always place [] x)) same)
 
-    pub places-refused : not r ≡ true → Left (g .n) (namedBy (g .l) entry place) false bits
-    unfolding places
-    places-refused e =
-        subst (λ (xs : List ℕ). Left (g .n) xs false bits) (sym named-is)
-        (others-refused (g .n) taken sector places (g .l) bits
-        (subst (λ (x : ℕ). Fit (g .n) (gathered always place [] x) ≡ false) same (sym (h .0) ∙ not-of r e)))
+    pub places-refused : not r ≡ true → (after : ℕ → Bool) (count : ℕ) → Left (g .n) Named false after count
+    unfolding places gathered
+    places-refused e after count =
+        subst (λ (xs : List ℕ). Left (g .n) xs false after count) (sym named-is)
+        (left-refused (g .n) (gathered taken sector places (g .l)) after count
+        (inside-longer (g .n) taken sector places 0 (g .l) (omega arith)
+        (subst (λ (x : ℕ). Inside (g .n) (gathered always place [] x) ≡ false) same (sym (h .0) ∙ not-of r e))))
 
-  pub entries-skip : (i : ℕ) (bits : ℕ → Bool) → entry i ≡ 0 → Entries i bits → Entries (i + 1) bits
+  pub entries-skip : (i : ℕ) (bits : ℕ → Bool) (count : ℕ) → entry i ≡ 0 → Entries i bits count → Entries (i + 1) bits count
   unfolding Entries taken
-  entries-skip i bits e m = rw add-one (marking-skips (g .n) taken sector places i bits (ap not (eq-eqb (entry i) 0 e)) m)
+  entries-skip i bits count e m =
+      let no : not (isEmpty (entry i)) ≡ false = ap not (eq-eqb (entry i) 0 e) in
+      (marking-skips (g .n) taken sector places i bits no (m .0), marking-passes (g .n) taken sector places i count no (m .1))
 
-  module _ (i : ℕ) (bits after : ℕ → Bool) (r : Bool) (k : ℕ) (e : entry i ≡ 0 → ⊥) (s : k ≡ sectorOf (entry i)) (m : Entries i bits)
-      (h : Told (g .n) k bits r after) where
-    told : Told (g .n) (sector i) bits r after
+  module _ (i k : ℕ) (r : Bool) (e : entry i ≡ 0 → ⊥) (s : k ≡ sectorOf (entry i)) (f : r ≡ within 1 (g .n - 1) k) where
+    told : r ≡ within 1 (g .n - 1) (sector i)
     unfolding sector
-    told = subst (λ (x : ℕ). Told (g .n) x bits r after) s h
+    told = f ∙ ap (within 1 (g .n - 1)) s
 
     is-taken : taken i ≡ true
     unfolding taken
     is-taken = ap not (ne-eqb (entry i) 0 e)
 
-    pub entry-marks : not r ≡ false → Entries (i + 1) after
-    unfolding Entries
-    entry-marks z = rw add-one (marking-marks (g .n) taken sector places i bits after r is-taken m told (not-false r z))
+    pub entry-marks : (bits after : ℕ → Bool) (count : ℕ) → Entries i bits count → not r ≡ false → after ≡ updated bits k true → Entries (i + 1) after (count + 1)
+    unfolding Entries sector
+    entry-marks bits after count m z u = (
+      marking-marks (g .n) taken sector places i is-taken r told bits after (m .0) z (u ∙ ap (λ (x : ℕ). updated bits x true) s),
+      marking-counts (g .n) taken sector places i is-taken r told count (m .1),
+    )
 
-    pub entry-refused : i < g .l → not r ≡ true → Left (g .n) (namedBy (g .l) entry place) false after
-    unfolding Entries
-    entry-refused b z =
-        subst (λ (xs : List ℕ). Left (g .n) xs false after) (sym named-is)
-        (marking-refused (g .n) taken sector places i bits after r is-taken m told (g .l) b (not-of r z))
+    pub entry-refused : i < g .l → not r ≡ true → (after : ℕ → Bool) (count : ℕ) → Left (g .n) Named false after count
+    entry-refused b z after count =
+        subst (λ (xs : List ℕ). Left (g .n) xs false after count) (sym named-is)
+        (left-refused (g .n) (gathered taken sector places (g .l)) after count (marking-refused (g .n) taken sector places i is-taken r told (g .l) b z))
 
-  pub entries-end : (i : ℕ) (bits : ℕ → Bool) → i ≡ g .l → Entries i bits → Left (g .n) (namedBy (g .l) entry place) true bits
+  pub entries-end : (i : ℕ) (bits : ℕ → Bool) (count : ℕ) → i ≡ g .l → Entries i bits count → Left (g .n) Named true bits count
   unfolding Entries
-  entries-end i bits e m =
-      subst (λ (xs : List ℕ). Left (g .n) xs true bits) (sym named-is)
-      (left-marked (g .n) (gathered taken sector places (g .l)) bits (subst (λ (x : ℕ). Marking (g .n) taken sector places x bits) e m))
+  entries-end i bits count e m =
+      subst (λ (xs : List ℕ). Left (g .n) xs true bits count) (sym named-is)
+      (let all = subst (λ (x : ℕ). Marked (g .n) (gathered taken sector places x) bits × (count ≡ length (gathered taken sector places x))) e m in
+      (sym (all .0 .range), λ (z : true ≡ true). (all .0 .marks, all .1)))

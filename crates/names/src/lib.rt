@@ -1,31 +1,36 @@
-// The sectors that tables name, marked in a bit map: one pass shows whether any is named twice.
+// The sectors that tables name, marked in a bit map. That none is named twice shows in how many bits are then set.
 ghost use mathlib.Core.Path.{_≡_};
-ghost use mathlib.Core.Bool.{true, cond, not, _&&_};
+ghost use mathlib.Core.Bool.{true};
 ghost use mathlib.Core.List.{[]};
-ghost use Prim.Native.Nat.{_*_, _-_, _≤_};
+ghost use Prim.Native.Nat.{_*_, _-_, _%_, _^_, _≤_, _<_};
 ghost use lib.ListN.{length, replicate};
-ghost use Rattle.geometry.specs.Geometry.{within, piecesFor};
-ghost use Rattle.layout.specs.Bounded.{at, all, distinct, always, gathered, updated};
+ghost use lib.Bits.{bitOr};
+ghost use Rattle.geometry.specs.Geometry.{within, mostBlocks, piecesFor};
+ghost use Rattle.layout.specs.Bounded.{at, all, always, gathered};
 ghost use Rattle.volume.specs.Tables.{bitAt, namedBy, usedBy};
 use geometry::Geometry;
 
-// Marks a named sector; false where it is not one from 1 to n - 1, or is named already.
-fn mark_name(marks: &mut [u8], n: u32, k: u32) -> bool
+// Whether every named sector is one from 1 to n - 1, and then how many names there are.
+pub struct Names {
+    pub inside: bool,
+    pub count: u32,
+}
+
+fn is_inside(n: u32, k: u32) -> bool
     requires { ⌜ 1 ≤ n ⌝ }
-    requires { ⌜ n ≤ 8 * length (now marks) ⌝ }
-    ensures { λ r. ⌜ (r ≡ (within 1 (n - 1) k && not (bitAt (now (marks .entry)) k))) × (bitAt (now (marks .exit)) ≡ cond r (updated (bitAt (now (marks .entry))) k true) (bitAt (now (marks .entry)))) ⌝ }
+    ensures { λ r. ⌜ r ≡ within 1 (n - 1) k ⌝ }
 {
     if k < 1 {
         return false;
     }
-    if n <= k {
-        return false;
-    }
-    if bits::is_set(marks, k as usize) {
-        return false;
-    }
-    bits::set_bit(marks, k as usize);
-    true
+    k <= n - 1
+}
+
+// A byte of the map with the bit of sector k set.
+fn with_bit(byte: u8, k: u32) -> u8
+    ensures { λ r. ⌜ (r ≡ bitOr byte ((1 * 2 ^ (k % 8)) % 256)) × (r < 256) ⌝ }
+{
+    byte | (1u8 << (k % 8))
 }
 
 // Marks the live places.
@@ -33,31 +38,41 @@ fn mark_places(marks: &mut [u8], n: u32, places: &[u32]) -> bool
     requires { ⌜ 1 ≤ n ⌝ }
     requires { ⌜ n ≤ 8 * length (now marks) ⌝ }
     requires { ⌜ bitAt (now marks) ≡ usedBy [] ⌝ }
-    ensures { λ r. ⌜ (r ≡ (all (within 1 (n - 1)) (gathered always (at (now (places .entry))) [] (length (now (places .entry)))) && distinct (gathered always (at (now (places .entry))) [] (length (now (places .entry)))))) × (r ≡ true → bitAt (now (marks .exit)) ≡ usedBy (gathered always (at (now (places .entry))) [] (length (now (places .entry))))) ⌝ }
+    ensures { λ r. ⌜ (r ≡ all (within 1 (n - 1)) (gathered always (at (now (places .entry))) [] (length (now (places .entry))))) × (r ≡ true → bitAt (now (marks .exit)) ≡ usedBy (gathered always (at (now (places .entry))) [] (length (now (places .entry))))) ⌝ }
 {
     let mut i = 0;
     while i < places.len() {
-        if !mark_name(marks, n, places[i]) {
+        let k = places[i];
+        if !is_inside(n, k) {
             return false;
         }
+        bits::set_bit(marks, k as usize);
         i += 1;
     }
     true
 }
 
-// Marks sector 0 and every sector that the tables name: the live places, then the sectors of all non-zero entries.
-pub fn mark_names(marks: &mut [u8], g: Geometry, map: &[u32], places: &[u32]) -> bool
+// Marks sector 0 and every sector that the tables name: the live places, then the sectors of all non-zero entries. The byte at hand
+// is kept apart from the map while one name after the other falls into it.
+pub fn mark_names(marks: &mut [u8], g: Geometry, map: &[u32], places: &[u32]) -> Names
     requires { ⌜ 1 ≤ g .n ⌝ }
     requires { ⌜ g .n ≤ 8 * length (now marks) ⌝ }
+    requires { ⌜ g .l ≤ mostBlocks ⌝ }
     requires { ⌜ length (now map) ≡ g .l ⌝ }
     requires { ⌜ length (now places) ≡ piecesFor (g .l) ⌝ }
     requires { ⌜ now marks ≡ replicate (length (now marks)) 0 ⌝ }
-    ensures { λ r. ⌜ (r ≡ (all (within 1 (g .n - 1)) (namedBy (g .l) (at (now (map .entry))) (at (now (places .entry)))) && distinct (namedBy (g .l) (at (now (map .entry))) (at (now (places .entry)))))) × (r ≡ true → bitAt (now (marks .exit)) ≡ usedBy (namedBy (g .l) (at (now (map .entry))) (at (now (places .entry))))) ⌝ }
+    ensures { λ r. ⌜ (r .inside ≡ all (within 1 (g .n - 1)) (namedBy (g .l) (at (now (map .entry))) (at (now (places .entry))))) × (r .inside ≡ true → (bitAt (now (marks .exit)) ≡ usedBy (namedBy (g .l) (at (now (map .entry))) (at (now (places .entry))))) × (r .count ≡ length (namedBy (g .l) (at (now (map .entry))) (at (now (places .entry)))))) × (r .count ≤ 24832) ⌝ }
 {
     bits::set_bit(marks, 0);
     if !mark_places(marks, g.n, places) {
-        return false;
+        return Names {
+            inside: false,
+            count: 0,
+        };
     }
+    let mut count = places.len() as u32;
+    let mut hand = 0;
+    let mut held = marks[0];
     let mut i = 0;
     'entries: while i < map.len() {
         let entry = map[i];
@@ -65,10 +80,27 @@ pub fn mark_names(marks: &mut [u8], g: Geometry, map: &[u32], places: &[u32]) ->
             i += 1;
             continue 'entries;
         }
-        if !mark_name(marks, g.n, blocks::sector_of(entry)) {
-            return false;
+        let k = blocks::sector_of(entry);
+        if !is_inside(g.n, k) {
+            return Names {
+                inside: false,
+                count: 0,
+            };
         }
+        let q = (k / 8) as usize;
+        count += 1;
         i += 1;
+        if q == hand {
+            held = with_bit(held, k);
+            continue 'entries;
+        }
+        marks[hand] = held;
+        hand = q;
+        held = with_bit(marks[q], k);
     }
-    true
+    marks[hand] = held;
+    Names {
+        inside: true,
+        count,
+    }
 }

@@ -1,5 +1,5 @@
 -- Which refusal a park meets, by the tests that led there; and what it leaves.
-use Prim.Native.Nat.{ℕ, _≤_}
+use Prim.Native.Nat.{ℕ, _*_, _≤_}
 use mathlib.Core.Path.{_≡_, refl, sym, _∙_, ap}
 use mathlib.Core.Bool.{Bool, true, false, not}
 use mathlib.Core.List.{List, []}
@@ -22,7 +22,7 @@ use Rattle.volume.specs.Refusals.{applies, firstOf, judged}
 use Rattle.volume.specs.Store.{applied, after, memoryWith, performed, unlessRefused}
 use Rattle.volume.specs.Format.{tablesFit}
 use Rattle.volume.specs.Calls.{stateFits, stateChecks, tablesAgree, parkChecks, parkAction, parkOf}
-use Rattle.laws.proofs.Sizes.{fits, state-fits}
+use Rattle.laws.proofs.Sizes.{fits, state-fits, tables-fit}
 use Rattle.laws.proofs.Judged.{cleared, later, performed-cut, performed-whole}
 use Rattle.checks.specs.Left.{lent}
 use Rattle.checks.proofs.StateLaws.{refused-by-lengths, passed-by-lengths, sizes-passed, tables-passed}
@@ -44,6 +44,9 @@ module _ (s : State) (im mp pl nu us : List ℕ) (v : Verdict)
 
     pub lengths-passed : tablesFit (memory im mp pl nu us) (s .geometry) ≡ true
     lengths-passed = tables-passed s im mp pl nu us true [] v f e
+
+    pub bits-enough : s .geometry .n ≤ 8 * length us
+    bits-enough = let u = tables-fit im mp pl nu us (s .geometry) lengths-passed .used in omega arith
 
     then : (w : Verdict) → w ≡ firstOf later (parkChecks s (memory im mp pl nu us)) → w ≡ verdict
     unfolding parkChecks

@@ -37,7 +37,9 @@ fn park_verdict(
             if !s.is_running() {
                 return Verdict::Refuse(Refusal::WrongPhase);
             }
-            if !live_sectors::tables_agree(s, image, map, places, numbers, used) {
+            let g = s.geometry;
+            let free = bits::count_free(used, g.n);
+            if !live_sectors::tables_agree(s, image, map, places, numbers, used, free) {
                 return Verdict::Refuse(Refusal::Inconsistent);
             }
             Verdict::Pass

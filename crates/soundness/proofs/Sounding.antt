@@ -10,23 +10,32 @@ use Rattle.geometry.specs.declared.Geometry.{Geometry}
 use Rattle.geometry.specs.Geometry.{within, piecesFor, mostBlocks, mostSectors, usedBytes, geometryFits}
 use Rattle.layout.specs.Bounded.{at, allBelow, best, all, distinct, always, gathered}
 use Rattle.volume.specs.Tables.{tablesOf, bitAt, namedBy, usedBy, freeSectors, consistent}
-use Rattle.laws.proofs.Bounded.{and-l, and-r, not-of}
+use Rattle.laws.proofs.Bounded.{and-l, and-r, not-of, allBelow-at, count-le, count-same}
+use Rattle.laws.proofs.Names.{beq-true}
+use Rattle.names.proofs.Counting.{named-twice, named-once}
 use Rattle.names.proofs.Marking.{Left, not-false}
 use Rattle.numbers.proofs.Numbering.{Agree}
 
--- Seven tests, the last four at once.
-module _ (a b c d e f g : Bool) where
-  first-fails : a ≡ false → false ≡ (a && b && c && d && e && f && g)
-  first-fails p = rw p refl
+-- Eight tests, the last four at once.
+never : (x : Bool) → (x && false) ≡ false
+never true = refl
+never false = refl
 
-  second-fails : a ≡ true → b ≡ false → false ≡ (a && b && c && d && e && f && g)
-  second-fails p q = rw (p, q) refl
+module _ (a b c d e f g h : Bool) where
+  pub inside-fails : a ≡ false → false ≡ (a && b && c && d && e && f && g && h)
+  inside-fails p = rw p refl
 
-  third-fails : a ≡ true → b ≡ true → c ≡ false → false ≡ (a && b && c && d && e && f && g)
-  third-fails p q r = rw (p, q, r) refl
+  pub once-fails : a ≡ true → b ≡ false → false ≡ (a && b && c && d && e && f && g && h)
+  once-fails p q = rw (p, q) refl
 
-  rest-decides : a ≡ true → b ≡ true → c ≡ true → (d && e && f && g) ≡ (a && b && c && d && e && f && g)
-  rest-decides p q r = rw (p, q, r) refl
+  pub bits-fails : c ≡ false → false ≡ (a && b && c && d && e && f && g && h)
+  bits-fails p = rw (p, never (a && b)) refl
+
+  pub room-fails-here : a ≡ true → b ≡ true → c ≡ true → d ≡ false → false ≡ (a && b && c && d && e && f && g && h)
+  room-fails-here p q r s = rw (p, q, r, s) refl
+
+  pub rest-decides : a ≡ true → b ≡ true → c ≡ true → d ≡ true → (e && f && g && h) ≡ (a && b && c && d && e && f && g && h)
+  rest-decides p q r s = rw (p, q, r, s) refl
 
 -- The sizes that a geometry gives.
 module _ (g : Geometry) (h : geometryFits g ≡ true) where
@@ -48,12 +57,19 @@ module _ (g : Geometry) (h : geometryFits g ≡ true) where
   pub sectors-most : g .n ≤ mostSectors
   sectors-most = leb-true (g .n) mostSectors (and-r (leb (2 * piecesFor (g .l) + 2) (g .n)) (leb (g .n) mostSectors) high)
 
+pub free-few : (n free : ℕ) (bits : ℕ → Bool) → free ≡ freeSectors n bits → free ≤ n
+unfolding freeSectors
+free-few n free bits e = let h = count-le (λ k. not (bits k)) n in omega arith
+
 module _ (g : Geometry) (map places numbers used : List ℕ) (tail number : ℕ) where
   abbrev Names : List ℕ
   Names = namedBy (g .l) (at map) (at places)
 
-  abbrev Fits : Bool
-  Fits = all (within 1 (g .n - 1)) Names && distinct Names
+  abbrev Inside : Bool
+  Inside = all (within 1 (g .n - 1)) Names
+
+  abbrev Once : Bool
+  Once = distinct Names
 
   abbrev Bits : Bool
   Bits = allBelow (λ k. Bool·beq (bitAt used k) (usedBy Names k)) (8 * usedBytes (g .n))
@@ -76,37 +92,57 @@ module _ (g : Geometry) (map places numbers used : List ℕ) (tail number : ℕ)
   abbrev Whole : Bool
   Whole = consistent g (tablesOf map places numbers used) tail number
 
-  module _ (marks : ℕ → Bool) (r : Bool) (h : Left (g .n) Names r marks) where
+  module _ (marks : ℕ → Bool) (r : Bool) (count : ℕ) (h : Left (g .n) Names r marks count) where
     pub names-fail : not r ≡ true → false ≡ Whole
     unfolding consistent
-    names-fail e = first-fails Fits Bits Room D E F G (sym (h .0) ∙ not-of r e)
+    names-fail e = inside-fails Inside Once Bits Room D E F G (sym (h .0) ∙ not-of r e)
 
     module _ (e : not r ≡ false) (s : Bool) (len : ℕ) (long : len ≡ usedBytes (g .n))
         (t : s ≡ allBelow (λ k. Bool·beq (bitAt used k) (marks k)) (8 * len)) where
-      fits : Fits ≡ true
-      fits = sym (h .0) ∙ not-false r e
+      yes : r ≡ true
+      yes = not-false r e
+
+      inside : Inside ≡ true
+      inside = sym (h .0) ∙ yes
 
       compared : s ≡ Bits
       compared =
           t
-          ∙ ap (λ (f : ℕ → Bool). allBelow (λ k. Bool·beq (bitAt used k) (f k)) (8 * len)) (h .1 (not-false r e))
+          ∙ ap (λ (f : ℕ → Bool). allBelow (λ k. Bool·beq (bitAt used k) (f k)) (8 * len)) (h .1 yes .0)
           ∙ ap (λ (x : ℕ). allBelow (λ k. Bool·beq (bitAt used k) (usedBy Names k)) (8 * x)) long
 
       pub bits-fail : not s ≡ true → false ≡ Whole
       unfolding consistent
-      bits-fail f = second-fails Fits Bits Room D E F G fits (sym compared ∙ not-of s f)
+      bits-fail f = bits-fails Inside Once Bits Room D E F G (sym compared ∙ not-of s f)
 
-      module _ (f : not s ≡ false) (free p : ℕ) (counted : free ≡ freeSectors (g .n) (bitAt used)) (pieces : p ≡ piecesFor (g .l)) where
+      module _ (f : not s ≡ false) (some : 1 ≤ g .n) (free : ℕ) (counted : free ≡ freeSectors (g .n) (bitAt used)) where
         bits : Bits ≡ true
         bits = sym compared ∙ not-false s f
 
-        pub room-fails : free < p → false ≡ Whole
-        unfolding consistent
-        room-fails w =
-            third-fails Fits Bits Room D E F G fits bits (lt-leb (piecesFor (g .l)) (freeSectors (g .n) (bitAt used)) (omega arith))
+        -- The used map is that of the names, so its free sectors are theirs.
+        free-is : free ≡ freeSectors (g .n) (usedBy Names)
+        unfolding freeSectors
+        free-is =
+            counted
+            ∙ count-same (λ k. not (bitAt used k)) (λ k. not (usedBy Names k)) (g .n)
+            (λ k b. ap not (beq-true (bitAt used k) (usedBy Names k)
+            (allBelow-at (λ k. Bool·beq (bitAt used k) (usedBy Names k)) (8 * usedBytes (g .n)) bits k (omega arith))))
 
-        pub numbers-decide : p ≤ free → (u : Bool) (m : ℕ) → m ≡ piecesFor (g .l) → u ≡ Agree (at places) (at numbers) m tail number → u ≡ Whole
+        pub twice-fails : (free + count + 1 ≡ g .n → ⊥) → false ≡ Whole
         unfolding consistent
-        numbers-decide w u m same v =
-            v ∙ ap (λ (x : ℕ). Agree (at places) (at numbers) x tail number) same
-            ∙ rest-decides Fits Bits Room D E F G fits bits (le-leb (piecesFor (g .l)) (freeSectors (g .n) (bitAt used)) (omega arith))
+        twice-fails d = once-fails Inside Once Bits Room D E F G inside (named-twice (g .n) some Names inside free count free-is (h .1 yes .1) d)
+
+        module _ (total : free + count + 1 ≡ g .n) (p : ℕ) (pieces : p ≡ piecesFor (g .l)) where
+          once : Once ≡ true
+          once = named-once (g .n) some Names inside free count free-is (h .1 yes .1) total
+
+          pub room-fails : free < p → false ≡ Whole
+          unfolding consistent
+          room-fails w =
+              room-fails-here Inside Once Bits Room D E F G inside once bits (lt-leb (piecesFor (g .l)) (freeSectors (g .n) (bitAt used)) (omega arith))
+
+          pub numbers-decide : p ≤ free → (u : Bool) (m : ℕ) → m ≡ piecesFor (g .l) → u ≡ Agree (at places) (at numbers) m tail number → u ≡ Whole
+          unfolding consistent
+          numbers-decide w u m same v =
+              v ∙ ap (λ (x : ℕ). Agree (at places) (at numbers) x tail number) same
+              ∙ rest-decides Inside Once Bits Room D E F G inside once bits (le-leb (piecesFor (g .l)) (freeSectors (g .n) (bitAt used)) (omega arith))

@@ -1,35 +1,47 @@
 // Sound tables ("consistent"), as a call checks them before it changes anything.
 ghost use mathlib.Core.Path.{_≡_};
-ghost use mathlib.Core.Bool.{true, Bool·beq};
+ghost use mathlib.Core.Bool.{true, _&&_, Bool·beq};
 ghost use Prim.Native.Nat.{_*_, _≤_};
 ghost use lib.ListN.{length};
+ghost use lib.Dec.{eqb};
 ghost use Rattle.geometry.specs.Geometry.{piecesFor, usedBytes, geometryFits};
 ghost use Rattle.layout.specs.Bounded.{allBelow};
-ghost use Rattle.volume.specs.Tables.{bitAt, tablesOf, consistent};
+ghost use Rattle.volume.specs.Tables.{bitAt, tablesOf, freeSectors, consistent};
 use geometry::Geometry;
 
-// Whether two used maps have the same bits: byte by byte.
+// Whether all was the same so far, and a and b are.
+fn still_same(good: bool, a: u8, b: u8) -> bool
+    ensures { λ r. ⌜ r ≡ (good && eqb a b) ⌝ }
+{
+    if a != b {
+        return false;
+    }
+    good
+}
+
+// Whether two used maps have the same bits. All bytes are looked at, so that the compiler compares several at a time.
 fn bits_agree(used: &[u8], marks: &[u8]) -> bool
     requires { ⌜ length (now used) ≤ length (now marks) ⌝ }
     ensures { λ r. ⌜ r ≡ allBelow (λ k. Bool·beq (bitAt (now (used .entry)) k) (bitAt (now (marks .entry)) k)) (8 * length (now (used .entry))) ⌝ }
 {
+    let mut good = true;
     let mut i = 0;
     while i < used.len() {
-        if used[i] != marks[i] {
-            return false;
-        }
+        good = still_same(good, used[i], marks[i]);
         i += 1;
     }
-    true
+    good
 }
 
-// Whether the tables are sound. The sectors that they name are marked in a used map of their own, which is then compared.
+// Whether the tables are sound, in a used map with so many free sectors. The sectors that they name are marked in a map of their own,
+// which is then compared; no sector is named twice where as many are used as there are names, and sector 0.
 pub fn is_consistent(
     g: Geometry,
     map: &[u32],
     places: &[u32],
     numbers: &[u32],
     used: &[u8],
+    free: u32,
     tail: u32,
     number: u32,
 ) -> bool
@@ -38,16 +50,21 @@ pub fn is_consistent(
     requires { ⌜ length (now places) ≡ piecesFor (g .l) ⌝ }
     requires { ⌜ length (now numbers) ≡ piecesFor (g .l) ⌝ }
     requires { ⌜ length (now used) ≡ usedBytes (g .n) ⌝ }
+    requires { ⌜ free ≡ freeSectors (g .n) (bitAt (now used)) ⌝ }
     ensures { λ r. ⌜ r ≡ consistent g (tablesOf (now (map .entry)) (now (places .entry)) (now (numbers .entry)) (now (used .entry))) tail number ⌝ }
 {
     let mut marks = [0u8; 8192];
-    if !names::mark_names(&mut marks, g, map, places) {
+    let named = names::mark_names(&mut marks, g, map, places);
+    if !named.inside {
         return false;
     }
     if !bits_agree(used, &marks) {
         return false;
     }
-    if bits::count_free(used, g.n) < Geometry::pieces_for(g.l) {
+    if free + named.count + 1 != g.n {
+        return false;
+    }
+    if free < Geometry::pieces_for(g.l) {
         return false;
     }
     numbers::numbers_agree(places, numbers, tail, number)

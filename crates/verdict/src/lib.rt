@@ -38,12 +38,13 @@ fn standing_verdict(
     if !s.is_running() {
         return Verdict::Refuse(Refusal::WrongPhase);
     }
-    if !live_sectors::tables_agree(s, image, map, places, numbers, used) {
+    let g = s.geometry;
+    let free = bits::count_free(used, g.n);
+    if !live_sectors::tables_agree(s, image, map, places, numbers, used, free) {
         return Verdict::Refuse(Refusal::Inconsistent);
     }
-    let g = s.geometry;
     let pieces = Geometry::pieces_for(g.l) as usize;
-    if (bits::count_free(used, g.n) as usize) < count + pieces {
+    if (free as usize) < count + pieces {
         return Verdict::Refuse(Refusal::NoRoom);
     }
     if GREATEST < s.number {

@@ -11,16 +11,13 @@ is-consistent-requires c κs =
     let the-pre = c .before .before .before .before .before .before .pre in
     let a = c .before .before .before .before .before .before .args in
     let f = the-pre .0 in
-    let t = the-pre .1 in (
-      geometry-fits (a .s) (a .image .now) (a .map .now) (a .places .now) (a .numbers .now) (a .used .now) f,
-      (
-        map-long (a .s) (a .image .now) (a .map .now) (a .places .now) (a .numbers .now) (a .used .now) t,
-        (
-          places-long (a .s) (a .image .now) (a .map .now) (a .places .now) (a .numbers .now) (a .used .now) t,
-          (numbers-long (a .s) (a .image .now) (a .map .now) (a .places .now) (a .numbers .now) (a .used .now) t, used-long (a .s) (a .image .now) (a .map .now) (a .places .now) (a .numbers .now) (a .used .now) t),
-        ),
-      ),
-    )
+    let t = the-pre .1 .0 in
+    let fits = geometry-fits (a .s) (a .image .now) (a .map .now) (a .places .now) (a .numbers .now) (a .used .now) f in
+    let map = map-long (a .s) (a .image .now) (a .map .now) (a .places .now) (a .numbers .now) (a .used .now) t in
+    let places = places-long (a .s) (a .image .now) (a .map .now) (a .places .now) (a .numbers .now) (a .used .now) t in
+    let numbers = numbers-long (a .s) (a .image .now) (a .map .now) (a .places .now) (a .numbers .now) (a .used .now) t in
+    let used = used-long (a .s) (a .image .now) (a .map .now) (a .places .now) (a .numbers .now) (a .used .now) t in
+    (fits, (map, (places, (numbers, (used, the-pre .1 .1)))))
 
 returns : tie.Need-returns
 returns c =
@@ -33,7 +30,7 @@ live-valid-requires c κs =
     let the-pre = c .before .before .before .before .before .before .before .before .pre in
     let a = c .before .before .before .before .before .before .before .before .args in
     let f = the-pre .0 in
-    let t = the-pre .1 in
+    let t = the-pre .1 .0 in
     let g = geometry-fits (a .s) (a .image .now) (a .map .now) (a .places .now) (a .numbers .now) (a .used .now) f in
     let n = sectors-some (a .s .geometry) g in
     let l = blocks-most (a .s .geometry) g in

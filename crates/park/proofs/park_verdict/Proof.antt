@@ -1,5 +1,5 @@
 -- Each refusal is the first that applies, by the laws of ParkLaws.
-use Rattle.park.proofs.ParkLaws.{lengths-refused, phase-refused, tables-refused, none-refused, state-passed, lengths-passed}
+use Rattle.park.proofs.ParkLaws.{lengths-refused, phase-refused, tables-refused, none-refused, state-passed, lengths-passed, bits-enough}
 use borrow.Author.Needs.{needs}
 use Rattle.park.proofs.park_verdict.Statement.{statement}
 use Rattle.park.proofs.park_verdict.Tie as tie
@@ -25,22 +25,29 @@ returns c =
     phase-refused _ _ _ _ _ _ (the-state-verdict .result) (the-state-verdict .ensures) (the-enum-told .given .1)
     (the-is-running .result) (the-is-running .ensures) (c .if1 .taken)
 
+count-free-requires : tie.Need-count-free-requires
+count-free-requires c κs =
+    let the-enum-told = c .before .before .before .enum-told in
+    let the-state-verdict = c .before .before .before .before .before .state-verdict in
+    let a = c .before .before .before .before .before .before .before .before .before .before .before .args in
+    bits-enough (a .s) (a .image .now) (a .map .now) (a .places .now) (a .numbers .now) (a .used .now) (the-state-verdict .result) (the-state-verdict .ensures) (the-enum-told .given .1)
+
 tables-agree-requires : tie.Need-tables-agree-requires
 tables-agree-requires c κs =
-    let the-enum-told = c .before .before .enum-told in
-    let the-state-verdict = c .before .before .before .before .state-verdict in
+    let the-enum-told = c .before .before .before .before .enum-told in
+    let the-state-verdict = c .before .before .before .before .before .before .state-verdict in
     let v = the-state-verdict .result in
     let f = the-state-verdict .ensures in
     let e = the-enum-told .given .1 in
-    (state-passed _ _ _ _ _ _ v f e, lengths-passed _ _ _ _ _ _ v f e)
+    (state-passed _ _ _ _ _ _ v f e, (lengths-passed _ _ _ _ _ _ v f e, c .count-free .ensures))
 
 returns-2 : tie.Need-returns-2
 returns-2 c =
     let the-tables-agree = c .before .tables-agree in
-    let the-if1 = c .before .before .if1 in
-    let the-is-running = c .before .before .before .is-running in
-    let the-enum-told = c .before .before .before .before .enum-told in
-    let the-state-verdict = c .before .before .before .before .before .before .state-verdict in
+    let the-if1 = c .before .before .before .before .if1 in
+    let the-is-running = c .before .before .before .before .before .is-running in
+    let the-enum-told = c .before .before .before .before .before .before .enum-told in
+    let the-state-verdict = c .before .before .before .before .before .before .before .before .state-verdict in
     tables-refused _ _ _ _ _ _ (the-state-verdict .result) (the-state-verdict .ensures) (the-enum-told .given .1)
     (the-is-running .result) (the-is-running .ensures) (the-if1 .left) (the-tables-agree .result) (the-tables-agree .ensures) (c .if2 .taken)
 
@@ -53,10 +60,10 @@ returns-3 c =
 returns-4 : tie.Need-returns-4
 returns-4 c =
     let the-tables-agree = c .before .tables-agree in
-    let the-if1 = c .before .before .if1 in
-    let the-is-running = c .before .before .before .is-running in
-    let the-enum-told = c .before .before .before .before .enum-told in
-    let the-state-verdict = c .before .before .before .before .before .before .state-verdict in
+    let the-if1 = c .before .before .before .before .if1 in
+    let the-is-running = c .before .before .before .before .before .is-running in
+    let the-enum-told = c .before .before .before .before .before .before .enum-told in
+    let the-state-verdict = c .before .before .before .before .before .before .before .before .state-verdict in
     none-refused _ _ _ _ _ _ (the-state-verdict .result) (the-state-verdict .ensures) (the-enum-told .given .1)
     (the-is-running .result) (the-is-running .ensures) (the-if1 .left) (the-tables-agree .result) (the-tables-agree .ensures) (c .if2 .left)
 
@@ -69,6 +76,7 @@ park-verdict-spec =
     enum-told
     is-running-requires
     returns
+    count-free-requires
     tables-agree-requires
     returns-2
     returns-3

@@ -13,13 +13,18 @@ returns c =
     let the-is-running = c .before .is-running in
     phase-refused _ _ _ _ _ _ _ (the-is-running .result) (the-is-running .ensures) (c .if1 .taken)
 
+count-free-requires : tie.Need-count-free-requires
+count-free-requires c κs = let the-pre = c .before .before .before .before .before .before .before .before .pre in bits-enough _ _ _ _ _ _ (the-pre .1 .0)
+
 tables-agree-requires : tie.Need-tables-agree-requires
-tables-agree-requires c κs = let the-pre = c .before .before .before .before .before .before .before .pre in (the-pre .0, the-pre .1 .0)
+tables-agree-requires c κs =
+    let the-pre = c .before .before .before .before .before .before .before .before .before .pre in
+    (the-pre .0, (the-pre .1 .0, c .count-free .ensures))
 
 returns-2 : tie.Need-returns-2
 returns-2 c =
-    let the-is-running = c .before .before .before .is-running in
-    let the-if1 = c .before .before .if1 in
+    let the-is-running = c .before .before .before .before .before .is-running in
+    let the-if1 = c .before .before .before .before .if1 in
     let the-tables-agree = c .before .tables-agree in
     tables-refused _ _ _ _ _ _ _ (the-is-running .result) (the-is-running .ensures) (the-if1 .left)
     (the-tables-agree .result) (the-tables-agree .ensures) (c .if2 .taken)
@@ -29,9 +34,6 @@ pieces-for-requires c κs = search needs
 
 cast-pieces : tie.Need-cast-pieces
 cast-pieces c = search needs
-
-count-free-requires : tie.Need-count-free-requires
-count-free-requires c κs = let the-pre = c .before .before .before .before .before .before .before .before .before .before .before .pre in bits-enough _ _ _ _ _ _ (the-pre .1 .0)
 
 cast-if3 : tie.Need-cast-if3
 cast-if3 c = search needs
@@ -44,10 +46,10 @@ returns-3 : tie.Need-returns-3
 returns-3 c =
     let the-is-running = c .before .before .before .before .before .before .before .is-running in
     let the-if1 = c .before .before .before .before .before .before .if1 in
-    let the-tables-agree = c .before .before .before .before .before .tables-agree in
-    let the-if2 = c .before .before .before .before .if2 in
-    let the-pieces-for = c .before .before .pieces-for in
-    let the-count-free = c .before .count-free in
+    let the-tables-agree = c .before .before .before .tables-agree in
+    let the-if2 = c .before .before .if2 in
+    let the-pieces-for = c .before .pieces-for in
+    let the-count-free = c .before .before .before .before .count-free in
     room-refused _ _ _ _ _ _ _ (the-is-running .result) (the-is-running .ensures) (the-if1 .left)
     (the-tables-agree .result) (the-tables-agree .ensures) (the-if2 .left)
     (the-count-free .result) (the-pieces-for .result) (the-count-free .ensures) (the-pieces-for .ensures) (c .if3 .taken)
@@ -56,10 +58,10 @@ returns-4 : tie.Need-returns-4
 returns-4 c =
     let the-is-running = c .before .before .before .before .before .before .before .before .before .is-running in
     let the-if1 = c .before .before .before .before .before .before .before .before .if1 in
-    let the-tables-agree = c .before .before .before .before .before .before .before .tables-agree in
-    let the-if2 = c .before .before .before .before .before .before .if2 in
-    let the-pieces-for = c .before .before .before .before .pieces-for in
-    let the-count-free = c .before .before .before .count-free in
+    let the-tables-agree = c .before .before .before .before .before .tables-agree in
+    let the-if2 = c .before .before .before .before .if2 in
+    let the-pieces-for = c .before .before .before .pieces-for in
+    let the-count-free = c .before .before .before .before .before .before .count-free in
     let the-if3 = c .before .before .if3 in
     numbers-refused _ _ _ _ _ _ _ (the-is-running .result) (the-is-running .ensures) (the-if1 .left)
     (the-tables-agree .result) (the-tables-agree .ensures) (the-if2 .left)
@@ -69,10 +71,10 @@ returns-5 : tie.Need-returns-5
 returns-5 c =
     let the-is-running = c .before .before .before .before .before .before .before .before .before .is-running in
     let the-if1 = c .before .before .before .before .before .before .before .before .if1 in
-    let the-tables-agree = c .before .before .before .before .before .before .before .tables-agree in
-    let the-if2 = c .before .before .before .before .before .before .if2 in
-    let the-pieces-for = c .before .before .before .before .pieces-for in
-    let the-count-free = c .before .before .before .count-free in
+    let the-tables-agree = c .before .before .before .before .before .tables-agree in
+    let the-if2 = c .before .before .before .before .if2 in
+    let the-pieces-for = c .before .before .before .pieces-for in
+    let the-count-free = c .before .before .before .before .before .before .count-free in
     let the-if3 = c .before .before .if3 in
     none-refused _ _ _ _ _ _ _ (the-is-running .result) (the-is-running .ensures) (the-if1 .left)
     (the-tables-agree .result) (the-tables-agree .ensures) (the-if2 .left)
@@ -84,11 +86,11 @@ standing-verdict-spec =
     (tie.spec
     is-running-requires
     returns
+    count-free-requires
     tables-agree-requires
     returns-2
     pieces-for-requires
     cast-pieces
-    count-free-requires
     cast-if3
     add-if3
     returns-3
