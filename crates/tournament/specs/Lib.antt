@@ -1,0 +1,2 @@
+-- A tournament of keys.
+pub mod Tournament

@@ -1,0 +1,112 @@
+// Keys in falling order without a look at all of them for each: a tournament of at most 256 entries, in which the greater of two
+// goes on. When the first is struck out, only its own matches, at most eight, are played anew.
+ghost use mathlib.Core.Path.{_≡_};
+ghost use Prim.Native.Nat.{ℕ, _+_, _*_, _-_, _/_, _%_, _≤_, _<_};
+ghost use lib.ListN.{length, set};
+ghost use Rattle.layout.specs.Bounded.{at, best};
+ghost use Rattle.tournament.specs.Tournament.{greater, ranked, keyAt, firstStruck, below, Played, Tournament, Replayed, Keyed};
+
+fn greater(a: u64, b: u64) -> u64
+    ensures { λ r. ⌜ r ≡ greater a b ⌝ }
+{
+    if a < b {
+        return b;
+    }
+    a
+}
+
+// The place that meets place i in a match.
+fn other(i: usize) -> usize
+    requires { ⌜ i < 512 ⌝ }
+    ensures { λ r. ⌜ r ≡ i + 1 - 2 * (i % 2) ⌝ }
+{
+    i + 1 - 2 * (i % 2)
+}
+
+// Plays the match at place k.
+fn play(tree: &mut [u64], k: usize)
+    requires { ⌜ length (now tree) ≡ 512 ⌝ }
+    requires { ⌜ k < 256 ⌝ }
+    ensures { λ _. ⌜ now (tree .exit) ≡ set (now (tree .entry)) k (greater (at (now (tree .entry)) (2 * k)) (at (now (tree .entry)) (2 * k + 1))) ⌝ }
+{
+    tree[k] = greater(tree[2 * k], tree[2 * k + 1]);
+}
+
+// Plays the matches of entry q anew, up to place 1. The winner so far is kept at hand: it need not be read again.
+fn replay(tree: &mut [u64], n: usize, q: usize)
+    requires { ⌜ length (now tree) ≡ 512 ⌝ }
+    requires { ⌜ n ≤ 256 ⌝ }
+    requires { ⌜ q < n ⌝ }
+    requires { ⌜ ((k : ℕ) → 1 ≤ k → k < n → (k ≡ (n + q) / 2 → ⊥) → Played (now tree) k) ⌝ }
+    ensures { λ _. ⌜ Replayed n (now (tree .entry)) (now (tree .exit)) ⌝ }
+{
+    let mut i = n + q;
+    let mut won = tree[i];
+    while 1 < i {
+        won = greater(won, tree[other(i)]);
+        i /= 2;
+        tree[i] = won;
+    }
+}
+
+// Plays all matches among n entries.
+pub fn play_all(tree: &mut [u64], n: usize)
+    requires { ⌜ length (now tree) ≡ 512 ⌝ }
+    requires { ⌜ n ≤ 256 ⌝ }
+    ensures { λ _. ⌜ Replayed n (now (tree .entry)) (now (tree .exit)) ⌝ }
+{
+    let mut k = n;
+    while 1 < k {
+        k -= 1;
+        play(tree, k);
+    }
+}
+
+// Makes entry q hold a key. Its matches are yet to be played.
+pub fn enter(tree: &mut [u64], n: usize, q: usize, key: u32)
+    requires { ⌜ length (now tree) ≡ 512 ⌝ }
+    requires { ⌜ n ≤ 256 ⌝ }
+    requires { ⌜ q < n ⌝ }
+    ensures { λ _. ⌜ now (tree .exit) ≡ set (now (tree .entry)) (n + q) (ranked n q key) ⌝ }
+{
+    tree[n + q] = 256 * (key as u64) + (n - 1 - q) as u64;
+}
+
+// The entry with the greatest key, of equal ones the lowest.
+pub fn first(tree: &[u64], n: usize) -> usize
+    requires { ⌜ length (now tree) ≡ 512 ⌝ }
+    requires { ⌜ n ≤ 256 ⌝ }
+    requires { ⌜ 0 < n ⌝ }
+    requires { ⌜ Tournament n (now tree) ⌝ }
+    ensures { λ r. ⌜ (r ≡ best (keyAt n (now (tree .entry))) n) × (r < n) ⌝ }
+{
+    n - 1 - (tree[1] % 256) as usize
+}
+
+// Strikes out the first entry: its key is 0 from now on.
+fn strike_first(tree: &mut [u64], n: usize)
+    requires { ⌜ length (now tree) ≡ 512 ⌝ }
+    requires { ⌜ n ≤ 256 ⌝ }
+    requires { ⌜ 0 < n ⌝ }
+    requires { ⌜ Tournament n (now tree) ⌝ }
+    ensures { λ _. ⌜ Replayed n (firstStruck n (now (tree .entry))) (now (tree .exit)) ⌝ }
+{
+    let q = first(tree, n);
+    enter(tree, n, q, 0);
+    replay(tree, n, q);
+}
+
+// Strikes out every entry whose key is not below the bound.
+pub fn keep_below(tree: &mut [u64], n: usize, bound: u32)
+    requires { ⌜ length (now tree) ≡ 512 ⌝ }
+    requires { ⌜ n ≤ 256 ⌝ }
+    requires { ⌜ 0 < n ⌝ }
+    requires { ⌜ 0 < bound ⌝ }
+    requires { ⌜ Tournament n (now tree) ⌝ }
+    ensures { λ _. ⌜ Keyed n (below bound (keyAt n (now (tree .entry)))) (now (tree .exit)) ⌝ }
+{
+    let least = 256 * (bound as u64);
+    while least <= tree[1] {
+        strike_first(tree, n);
+    }
+}
