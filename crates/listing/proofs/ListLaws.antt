@@ -1,7 +1,7 @@
 -- Branches, newest to oldest: the candidates, one step of the listing, and what a listed sector's branches reach.
 use Prim.Native.Nat.{ℕ, zero, suc, _+_, _*_, _-_, _≤_, _<_}
 use mathlib.Core.Path.{_≡_, refl, sym, _∙_, ap, fun-ext, subst}
-use mathlib.Core.Logic.{⊎-elim}
+use mathlib.Core.Logic.{_⊎_, inl, inr, ⊎-elim}
 use mathlib.Core.Bool.{Bool, true, false, cond, not, _&&_, _||_}
 use mathlib.Core.List.{List, [], _∷_, _++_, append-assoc, append-nil}
 use native.Mathlib.Nat.{not-suc-le-zero}
@@ -22,6 +22,8 @@ use Rattle.volume.specs.Calls.{viewOf}
 use Rattle.laws.proofs.Bounded.{bool?, lt?, eq?, and-l, and-r, cond-true, cond-false, tabled-at, all-at}
 use Rattle.pieces.specs.Arrays.{flagged, unflagged, Live}
 use Rattle.pieces.proofs.FlagLaws.{flag-set, none-flagged}
+use Rattle.tournament.specs.Tournament.{keyAt, below, Keyed}
+use Rattle.tournament.proofs.TournamentLaws.{keyed-first, keyed-below}
 use Rattle.laws.proofs.Words.{length-wordsOf}
 use Rattle.laws.proofs.Sectors.{sector-length}
 
@@ -46,18 +48,45 @@ module _ (nu touched : List ℕ) (bound : ℕ) where
   unfolding olderKey flagged
   key-newer q h d e = rw (remains q h, ne-eqb (at touched q) 1 d, le-ltb (at nu q) bound e) refl
 
--- The best so far.
-pub best-none : (key : ℕ → ℕ) → 0 ≡ best key 0
-unfolding best
-best-none key = refl
+  -- A candidate is older than the bound; with its number as the bound those below it are left.
+  key-under : (q : ℕ) → (key q ≡ 0 → ⊥) → key q < bound
+  unfolding olderKey
+  key-under q d = either (unflagged (length nu) touched q) (lt? (at nu q) bound) d
+    where
+      either : (b : Bool) → (at nu q < bound) ⊎ (bound ≤ at nu q) → (cond (b && ltb (at nu q) bound) (at nu q) 0 ≡ 0 → ⊥)
+          → cond (b && ltb (at nu q) bound) (at nu q) 0 < bound
+      either true (inl h) d = rw (lt-ltb (at nu q) bound h) h
+      either true (inr h) d = absurd (d (rw (le-ltb (at nu q) bound h) refl))
+      either false h d = absurd (d refl)
 
-pub best-new : (key : ℕ → ℕ) (q found : ℕ) → found ≡ best key q → key found < key q → q ≡ best key (q + 1)
-unfolding best
-best-new key q found e h = rw (add-one, ← e, lt-ltb (key found) (key q) h) refl
+pub key-below : (nu touched : List ℕ) (bound bound′ : ℕ) → bound′ ≤ bound → below bound′ (key nu touched bound) ≡ key nu touched bound′
+unfolding olderKey below
+key-below nu touched bound bound′ h = fun-ext (λ q. either q (unflagged (length nu) touched q) (lt? (at nu q) bound) (lt? (at nu q) bound′))
+  where
+    zero-out : (b : Bool) → _≡_ {A = ℕ} (cond b 0 0) 0
+    zero-out true = refl
+    zero-out false = refl
 
-pub best-old : (key : ℕ → ℕ) (q found : ℕ) → found ≡ best key q → key q ≤ key found → found ≡ best key (q + 1)
-unfolding best
-best-old key q found e h = rw (add-one, ← e, le-ltb (key found) (key q) h) refl
+    either : (q : ℕ) (b : Bool) → (at nu q < bound) ⊎ (bound ≤ at nu q) → (at nu q < bound′) ⊎ (bound′ ≤ at nu q)
+        → cond (ltb (cond (b && ltb (at nu q) bound) (at nu q) 0) bound′) (cond (b && ltb (at nu q) bound) (at nu q) 0) 0
+        ≡ cond (b && ltb (at nu q) bound′) (at nu q) 0
+    either q true (inl k) (inl m) = rw (lt-ltb (at nu q) bound k, lt-ltb (at nu q) bound′ m) refl
+    either q true (inl k) (inr m) = rw (lt-ltb (at nu q) bound k, le-ltb (at nu q) bound′ m) refl
+    either q true (inr k) (inl m) = absurd (omega arith)
+    either q true (inr k) (inr m) = rw (le-ltb (at nu q) bound k, le-ltb (at nu q) bound′ m) (zero-out (ltb 0 bound′))
+    either q false k m = zero-out (ltb 0 bound′)
+
+-- The candidates in a tournament.
+module _ (nu touched : List ℕ) (bound : ℕ) (tree : List ℕ) (s : Keyed (length nu) (key nu touched bound) tree) where
+  pub newest-first : (r : ℕ) → 0 < length nu → r ≡ best (keyAt (length nu) tree) (length nu) → r ≡ best (key nu touched bound) (length nu)
+  newest-first r h e = e ∙ keyed-first (length nu) (key nu touched bound) tree s h
+
+  pub older-left : (q bound′ : ℕ) (tree′ : List ℕ) → bound′ ≡ key nu touched bound q → (bound′ ≡ 0 → ⊥)
+      → Keyed (length nu) (below bound′ (keyAt (length nu) tree)) tree′ → Keyed (length nu) (key nu touched bound′) tree′
+  older-left q bound′ tree′ e d k =
+      let h = key-under nu touched bound q (λ (z : key nu touched bound q ≡ 0). d (e ∙ z)) in
+      subst (λ (x : ℕ → ℕ). Keyed (length nu) x tree′) (key-below nu touched bound bound′ (omega arith))
+      (keyed-below (length nu) (key nu touched bound) tree s bound′ tree′ k)
 
 -- One more in the list of branches.
 pub list-more : (bs : List ℕ) (count place : ℕ) → count < length bs → take (count + 1) (set bs count place) ≡ take count bs ++ (place ∷ [])

@@ -7,11 +7,12 @@ ghost use Prim.Native.Nat.{ℕ, suc, _+_, _*_, _≤_, _<_};
 ghost use lib.ListN.{length, take};
 ghost use lib.Dec.{eqb, ltb};
 ghost use Rattle.geometry.specs.Geometry.{sectorBytes};
-ghost use Rattle.layout.specs.Bounded.{at, best};
+ghost use Rattle.layout.specs.Bounded.{at};
 ghost use Rattle.volume.specs.Tables.{sectorAt, tablesOf};
 ghost use Rattle.volume.specs.Commit.{olderKey, listing};
 ghost use Rattle.volume.specs.Calls.{viewOf};
 ghost use Rattle.pieces.specs.Arrays.{flagged, unflagged, Live};
+ghost use Rattle.tournament.specs.Tournament.{Keyed};
 use geometry::Geometry;
 
 // The number of piece q where it is a candidate: untouched and older than bound; 0 where it is not.
@@ -30,21 +31,24 @@ fn older_key(numbers: &[u32], touched: &[u8], bound: u32, q: usize) -> u32
     0
 }
 
-// The newest of the candidates.
-fn newest_older(numbers: &[u32], touched: &[u8], bound: u32) -> usize
-    requires { ⌜ 0 < length (now numbers) ⌝ }
+// Enters every piece with its key, so that the newest candidate is the first of the tournament.
+fn enter_all(tree: &mut [u64], numbers: &[u32], touched: &[u8], bound: u32)
+    requires { ⌜ length (now tree) ≡ 512 ⌝ }
+    requires { ⌜ length (now numbers) ≤ 256 ⌝ }
     requires { ⌜ length (now numbers) ≤ length (now touched) ⌝ }
-    ensures { λ r. ⌜ (r ≡ best (olderKey (tablesOf [] [] (now (numbers .entry)) []) (unflagged (length (now (numbers .entry))) (now (touched .entry))) bound) (length (now (numbers .entry)))) × (r < length (now (numbers .entry))) ⌝ }
+    ensures { λ _. ⌜ Keyed (length (now (numbers .entry))) (olderKey (tablesOf [] [] (now (numbers .entry)) []) (unflagged (length (now (numbers .entry))) (now (touched .entry))) bound) (now (tree .exit)) ⌝ }
 {
-    let mut found = 0;
     let mut q = 0;
     while q < numbers.len() {
-        if older_key(numbers, touched, bound, found) < older_key(numbers, touched, bound, q) {
-            found = q;
-        }
+        tournament::enter(
+            tree,
+            numbers.len(),
+            q,
+            older_key(numbers, touched, bound, q),
+        );
         q += 1;
     }
-    found
+    tournament::play_all(tree, numbers.len());
 }
 
 // Lists a place, unless its sector is reached already. How many are listed then.
@@ -102,15 +106,19 @@ pub fn list_branches(
     let mut count = 0;
     let mut bound = number + 1;
     let mut steps = numbers.len();
+    // The candidates: the newest is the first, and those not older than bound are struck out.
+    let mut tree = [0u64; 512];
+    enter_all(&mut tree, numbers, touched, bound);
     'newest: while 0 < steps {
         if count == 25 {
             break 'newest;
         }
-        let q = newest_older(numbers, touched, bound);
+        let q = tournament::first(&tree, numbers.len());
         bound = older_key(numbers, touched, bound, q);
         if bound == 0 {
             break 'newest;
         }
+        tournament::keep_below(&mut tree, numbers.len(), bound);
         let place = places[q];
         count = list_place(branches, count, place, reached[q] == 1);
         let s = images::sector(image, place as usize);
