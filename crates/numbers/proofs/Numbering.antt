@@ -1,17 +1,24 @@
 -- Live numbers: the loops over them, each against its definition at the loop's index.
-use Prim.Native.Nat.{ℕ, zero, suc, _+_, _≤_, _<_}
+use Prim.Native.Nat.{ℕ, zero, suc, _+_, _%_, _≤_, _<_}
 use mathlib.Core.Path.{_≡_, refl, sym, _∙_, ap, subst}
 use mathlib.Core.Logic.{⊎-elim}
-use mathlib.Core.Bool.{Bool, true, false, not, _&&_}
+use mathlib.Core.Bool.{Bool, true, false, not, _&&_, _||_, true≢false}
 use mathlib.Core.List.{List, []}
 use native.Mathlib.Nat.{eq-or-lt-of-le, le-of-suc-le-suc}
 use native.Mathlib.Numerals.{add-one}
 use native.Mathlib.Omega.{arith}
 use lib.Dec.{eqb, leb, ltb}
 use borrow.Author.Tests.{eq-eqb, lt-ltb, le-ltb, ne-eqb}
-use Rattle.layout.specs.Bounded.{allBelow, best, elem, distinct, always, gathered}
+use Rattle.layout.specs.Bounded.{allBelow, best, elem, distinct, always, gathered, updated}
 use Rattle.names.proofs.Marking.{not-false}
-use Rattle.laws.proofs.Bounded.{bool?, clash, not-of, and-i, or-none, cond-true, cond-false, allBelow-at, distinct-rest, distinct-cons, gathered-own}
+use Rattle.laws.proofs.Bounded.{bool?, lt?, eq?, clash, not-of, and-i, cond-true, cond-false, allBelow-at, distinct-rest, distinct-cons, gathered-has}
+
+-- Two numbers, the same or not.
+pub same-found : (found : Bool) (a b : ℕ) → a ≡ b → true ≡ (eqb a b || found)
+same-found found a b e = rw (eq-eqb a b e) refl
+
+pub same-not : (found : Bool) (a b : ℕ) → (a ≡ b → ⊥) → found ≡ (eqb a b || found)
+same-not found a b d = rw (ne-eqb a b d) refl
 
 -- A test that fails below a bound.
 pub allBelow-not : (test : ℕ → Bool) (n k : ℕ) → k < n → test k ≡ false → false ≡ allBelow test n
@@ -36,12 +43,9 @@ module _ (num : ℕ → ℕ) where
   unfolding gathered elem
   elem-none x = refl
 
-  pub elem-found : (i j : ℕ) → j < i → num j ≡ num i → true ≡ elem (num i) (Those i)
-  elem-found i j h e = sym (subst (λ (x : ℕ). elem x (Those i) ≡ true) e (gathered-own always num [] i j h refl))
-
-  pub elem-more : (x j : ℕ) → elem x (Those j) ≡ false → (num j ≡ x → ⊥) → elem x (Those (j + 1)) ≡ false
+  pub elem-next : (x j : ℕ) (found found′ : Bool) → found ≡ elem x (Those j) → found′ ≡ (eqb x (num j) || found) → found′ ≡ elem x (Those (j + 1))
   unfolding gathered elem
-  elem-more x j e d = rw add-one (or-none (eqb x (num j)) (elem x (Those j)) (ne-eqb x (num j) (λ (z : x ≡ num j). d (sym z))) e)
+  elem-next x j found found′ e f = rw add-one (f ∙ ap (λ (b : Bool). eqb x (num j) || b) e)
 
   pub distinct-none : distinct (Those 0) ≡ true
   unfolding gathered distinct
@@ -66,6 +70,34 @@ module _ (num : ℕ → ℕ) where
       ⊎-elim (λ (z : distinct (Those m) ≡ true).
       clash (distinct (Those (suc i))) (distinct-shorter (suc i) m h z) (ap (λ (b : Bool). not b && distinct (Those i)) e))
       (λ (z : distinct (Those m) ≡ false). sym z) (bool? (distinct (Those m)))
+
+  -- Those below i are distinct, and their residues are marked.
+  abbrev pub Residues : (ℕ → Bool) → ℕ → Type 0
+  Residues bits i = (distinct (Those i) ≡ true) × ((j : ℕ) → j < i → bits (num j % 65536) ≡ true)
+
+  new-residue : (bits : ℕ → Bool) (i : ℕ) → Residues bits i → bits (num i % 65536) ≡ false → elem (num i) (Those i) ≡ false
+  unfolding elem
+  new-residue bits i m e =
+      ⊎-elim (λ (z : elem (num i) (Those i) ≡ true).
+      ⊎-elim (λ (y : elem (num i) [] ≡ true). absurd (true≢false (sym y)))
+      (λ (y : (k : ℕ) × (k < i) × (always k ≡ true) × (num k ≡ num i)).
+      absurd (true≢false (sym (m .1 (y .0) (y .1)) ∙ ap (λ (x : ℕ). bits (x % 65536)) (y .3) ∙ e)))
+      (gathered-has always num [] i (num i) z))
+      (λ (z : elem (num i) (Those i) ≡ false). z) (bool? (elem (num i) (Those i)))
+
+  pub residues-more : (bits after : ℕ → Bool) (i : ℕ) → Residues bits i → (r : ℕ) → r ≡ num i % 65536 → (b : Bool) → b ≡ bits r → b ≡ false → after ≡ updated bits r true
+      → Residues after (i + 1)
+  residues-more bits after i m r is b e f u = (
+    distinct-more i (m .0) (new-residue bits i m (ap bits (sym is) ∙ sym e ∙ f)),
+    λ j h.
+        ap (λ (g : ℕ → Bool). g (num j % 65536)) u
+        ∙ ⊎-elim (λ (z : num j % 65536 ≡ r). cond-true (eqb (num j % 65536) r) true (bits (num j % 65536)) (eq-eqb (num j % 65536) r z))
+        (λ (d : num j % 65536 ≡ r → ⊥).
+        cond-false (eqb (num j % 65536) r) true (bits (num j % 65536)) (ne-eqb (num j % 65536) r d)
+        ∙ ⊎-elim (λ (y : j < i). m .1 j y)
+        (λ (y : i ≤ j). let z : j ≡ i = omega arith in absurd (d (ap (λ (x : ℕ). num x % 65536) z ∙ sym is))) (lt? j i))
+        (eq? (num j % 65536) r),
+  )
 
   -- The greatest so far.
   pub best-zero : 0 ≡ best num 0

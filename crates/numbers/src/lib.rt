@@ -1,30 +1,39 @@
 // Live numbers, and the tail among them.
 ghost use mathlib.Core.Path.{_≡_};
-ghost use mathlib.Core.Bool.{_&&_};
+ghost use mathlib.Core.Bool.{true, _&&_, _||_};
 ghost use mathlib.Core.List.{[]};
 ghost use Prim.Native.Nat.{_<_};
 ghost use lib.ListN.{length};
 ghost use lib.Dec.{eqb, leb};
 ghost use Rattle.layout.specs.Bounded.{at, allBelow, best, elem, distinct, always, gathered};
 
-// Whether number i stands below i already.
+// Whether one was found already, or a and b are the same.
+fn or_same(found: bool, a: u32, b: u32) -> bool
+    ensures { λ r. ⌜ r ≡ (eqb a b || found) ⌝ }
+{
+    if a == b {
+        return true;
+    }
+    found
+}
+
+// Whether number i stands below i already. All are looked at, so that the compiler compares several at a time.
 fn stands_before(numbers: &[u32], i: usize) -> bool
     requires { ⌜ i < length (now numbers) ⌝ }
     ensures { λ r. ⌜ r ≡ elem (at (now (numbers .entry)) i) (gathered always (at (now (numbers .entry))) [] i) ⌝ }
 {
     let number = numbers[i];
+    let mut found = false;
     let mut j = 0;
     while j < i {
-        if numbers[j] == number {
-            return true;
-        }
+        found = or_same(found, number, numbers[j]);
         j += 1;
     }
-    false
+    found
 }
 
-// At most P x P / 2 steps.
-fn all_distinct(numbers: &[u32]) -> bool
+// Each number against those before it: at most P x P / 2 steps.
+fn pairs_distinct(numbers: &[u32]) -> bool
     ensures { λ r. ⌜ r ≡ distinct (gathered always (at (now (numbers .entry))) [] (length (now (numbers .entry)))) ⌝ }
 {
     let mut i = 0;
@@ -35,6 +44,36 @@ fn all_distinct(numbers: &[u32]) -> bool
         i += 1;
     }
     true
+}
+
+// Whether no two numbers are the same modulo 65,536: then they are distinct.
+fn residues_distinct(numbers: &[u32]) -> bool
+    ensures { λ r. ⌜ (r ≡ true → distinct (gathered always (at (now (numbers .entry))) [] (length (now (numbers .entry)))) ≡ true) ⌝ }
+{
+    let mut seen = [0u8; 8192];
+    let mut i = 0;
+    while i < numbers.len() {
+        let residue = (numbers[i] % 65_536) as usize;
+        if bits::is_set(&seen, residue) {
+            return false;
+        }
+        bits::set_bit(&mut seen, residue);
+        i += 1;
+    }
+    true
+}
+
+// By residues first: most numbers of a log differ in them. A few are compared in pairs sooner than the residues' map is cleared.
+fn all_distinct(numbers: &[u32]) -> bool
+    ensures { λ r. ⌜ r ≡ distinct (gathered always (at (now (numbers .entry))) [] (length (now (numbers .entry)))) ⌝ }
+{
+    if numbers.len() < 64 {
+        return pairs_distinct(numbers);
+    }
+    if residues_distinct(numbers) {
+        return true;
+    }
+    pairs_distinct(numbers)
 }
 
 fn all_from_1(numbers: &[u32]) -> bool

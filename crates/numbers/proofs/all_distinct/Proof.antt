@@ -1,68 +1,30 @@
--- Those below i are distinct; one that stands below itself decides.
-use Prim.Native.Nat.{ℕ, _-_, _≤_}
-use mathlib.Core.Path.{_≡_, sym, _∙_, subst}
-use mathlib.Core.Bool.{true}
-use mathlib.Core.List.{[]}
-use native.Mathlib.Omega.{arith}
-use lib.ListN.{length}
-use Rattle.layout.specs.Bounded.{at, distinct, always, gathered}
-use Rattle.numbers.proofs.Numbering.{distinct-none, distinct-more, distinct-not}
+-- The residues answer, or the pairs do.
+use mathlib.Core.Path.{sym}
+use borrow.Author.Needs.{needs}
 use Rattle.numbers.proofs.all_distinct.Statement.{statement}
 use Rattle.numbers.proofs.all_distinct.Tie as tie
 
-abbrev Inv-loop : tie.InvT-loop
-Inv-loop numbers i₀ i = (i ≤ length numbers) × (distinct (gathered always (at numbers) [] i) ≡ true)
+pairs-distinct-requires : tie.Need-pairs-distinct-requires
+pairs-distinct-requires c κs = search needs
 
-abbrev μ-loop : tie.MeasureT-loop
-μ-loop numbers i₀ i = length numbers - i
+returns : tie.Need-returns
+returns c = c .pairs-distinct .ensures
 
-loop-holds : tie.Need-loop-holds Inv-loop μ-loop
-loop-holds c = (omega arith, distinct-none (at (c .before .args .numbers .now)))
+residues-distinct-requires : tie.Need-residues-distinct-requires
+residues-distinct-requires c κs = search needs
 
-stands-before-requires : tie.Need-stands-before-requires Inv-loop μ-loop
-stands-before-requires c κs = c .loop-test .taken
-
-returns : tie.Need-returns Inv-loop μ-loop
-returns c =
-    let the-loop-test = c .before .before .loop-test in
-    let the-loop = c .before .before .before .loop in
-    let the-args = c .before .before .before .before .before .args in
-    let xs = the-args .numbers .now in
-    let s = c .before .stands-before in
-    distinct-not (at xs) (the-loop .i) (length xs) (the-loop-test .taken) (sym (s .ensures) ∙ c .if1 .taken)
-
-add-i : tie.Need-add-i Inv-loop μ-loop
-add-i c = omega arith
-
-loop-less : tie.Need-loop-less Inv-loop μ-loop
-loop-less c = omega arith
-
-loop-again : tie.Need-loop-again Inv-loop μ-loop
-loop-again c =
-    let the-args = c .before .before .before .before .before .args in
-    let xs = the-args .numbers .now in
-    let l = c .before .before .before .loop in
-    let s = c .before .stands-before in
-    (omega arith, distinct-more (at xs) (l .i) (l .inv .1) (sym (s .ensures) ∙ c .if1 .left))
-
-returns-2 : tie.Need-returns-2 Inv-loop μ-loop
+returns-2 : tie.Need-returns-2
 returns-2 c =
-    let the-args = c .before .before .before .args in
-    let xs = the-args .numbers .now in
-    let l = c .before .loop in
-    let e : l .i ≡ length xs = (let i = l .inv .0 in let t = c .loop-test .left in omega arith) in
-    sym (subst (λ (x : ℕ). distinct (gathered always (at xs) [] x) ≡ true) e (l .inv .1))
+    let the-residues-distinct = c .before .residues-distinct in
+    sym (the-residues-distinct .ensures (c .if2 .taken))
+
+pairs-distinct-requires-2 : tie.Need-pairs-distinct-requires-2
+pairs-distinct-requires-2 c κs = search needs
+
+returns-3 : tie.Need-returns-3
+returns-3 c = c .pairs-distinct2 .ensures
 
 pub all-distinct-spec : {M : Type 1} → statement M
 all-distinct-spec =
     tie.close
-    (tie.spec
-    Inv-loop
-    μ-loop
-    loop-holds
-    stands-before-requires
-    returns
-    add-i
-    loop-less
-    loop-again
-    returns-2)
+    (tie.spec pairs-distinct-requires returns residues-distinct-requires returns-2 pairs-distinct-requires-2 returns-3)
