@@ -1,3 +1,4 @@
 -- Laws that this crate's proofs cite, and its callers' may.
-pub mod Exchange
+pub mod Equal
+pub mod Chaining
 pub mod Gathering

@@ -1,2 +1,2 @@
 -- Equal numbers, as the code looks for them.
-pub mod Parted
+pub mod Chains

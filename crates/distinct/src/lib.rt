@@ -1,69 +1,114 @@
-// Whether numbers are all different: they are parted by one bit after the other, from the highest down, so that n numbers take at
-// most 33 passes over n.
+// Whether numbers are all different, in time linear in their count whatever they are: if no two agree in their lower 16 bits they
+// are; otherwise they are chained by their upper 14 bits, and the lower 18 of each chain's numbers are stamped in a table.
 ghost use mathlib.Core.Path.{_≡_};
-ghost use mathlib.Core.Bool.{not};
+ghost use mathlib.Core.Bool.{true, false, not};
 ghost use mathlib.Core.List.{[]};
-ghost use Prim.Native.Nat.{_*_, _≤_, _<_};
-ghost use lib.ListN.{length, set, drop};
+ghost use Prim.Native.Nat.{ℕ, _+_, _*_, _≤_, _<_};
+ghost use lib.ListN.{length, drop};
 ghost use Rattle.geometry.specs.Geometry.{sectorBytes};
 ghost use Rattle.layout.specs.Bounded.{at, distinct, gathered, isZero};
 ghost use Rattle.volume.specs.Tables.{sectorAt, bitAt};
 ghost use Rattle.signed.specs.Signed.{numberAt};
-ghost use Rattle.distinct.specs.Parted.{AgreeAbove, Parted};
+ghost use Rattle.distinct.specs.Chains.{groupOf, lastIn, Back, Linked, Apart};
 
-fn swap(xs: &mut [u32], i: usize, j: usize)
-    requires { ⌜ i < length (now xs) ⌝ }
-    requires { ⌜ j < length (now xs) ⌝ }
-    ensures { λ _. ⌜ now (xs .exit) ≡ set (set (now (xs .entry)) i (at (now (xs .entry)) j)) j (at (now (xs .entry)) i) ⌝ }
+// Whether no two numbers agree in their lower 16 bits: then they are all different. If two do, they may be different all the same.
+fn residues_distinct(xs: &[u32]) -> bool
+    ensures { λ r. ⌜ (r ≡ true → distinct (now (xs .entry)) ≡ true) ⌝ }
 {
-    let a = xs[i];
-    xs[i] = xs[j];
-    xs[j] = a;
-}
-
-// Brings the numbers whose bit is clear to the front, and says how many they are.
-fn part(xs: &mut [u32], bit: u32) -> usize
-    requires { ⌜ bit < 32 ⌝ }
-    ensures { λ r. ⌜ Parted (now (xs .entry)) bit (now (xs .exit)) r ⌝ }
-{
-    let mut m = 0;
+    let mut seen = [0u8; 8192];
     let mut i = 0;
-    'numbers: while i < xs.len() {
-        if (xs[i] >> bit) % 2 == 1 {
-            i += 1;
-            continue 'numbers;
+    while i < xs.len() {
+        let k = (xs[i] % 65536) as usize;
+        if bits::is_set(&seen, k) {
+            return false;
         }
-        swap(xs, m, i);
-        m += 1;
+        bits::set_bit(&mut seen, k);
         i += 1;
     }
-    m
+    true
 }
 
-// Whether numbers that agree above the lowest so many bits are all different.
-fn distinct_below(xs: &mut [u32], bit: u32) -> bool
-    requires { ⌜ bit ≤ 32 ⌝ }
-    requires { ⌜ AgreeAbove bit (now xs) ⌝ }
+// Chains the numbers by group: a group's head is one more than the index of its last number, and next leads from each number to the
+// one before it in its group; 0 stands for none.
+fn link(xs: &[u32], heads: &mut [u32], next: &mut [u32])
+    requires { ⌜ length (now xs) ≤ 65536 ⌝ }
+    requires { ⌜ length (now heads) ≡ 16384 ⌝ }
+    requires { ⌜ ((g : ℕ) → at (now heads) g ≡ 0) ⌝ }
+    requires { ⌜ length (now xs) ≤ length (now next) ⌝ }
+    ensures { λ _. ⌜ Linked (now (xs .entry)) (now (heads .exit)) (now (next .exit)) ⌝ }
+{
+    let mut i = 0;
+    while i < xs.len() {
+        let g = (xs[i] / 262144) as usize;
+        next[i] = heads[g];
+        heads[g] = (i + 1) as u32;
+        i += 1;
+    }
+}
+
+// Whether the numbers of group g are all different. Earlier groups left lower stamps, so the table is not cleared between groups.
+fn chain_distinct(xs: &[u32], next: &[u32], stamps: &mut [u16], head: u32, g: u16) -> bool
+    requires { ⌜ g < 16384 ⌝ }
+    requires { ⌜ length (now xs) ≤ length (now next) ⌝ }
+    requires { ⌜ Back (now xs) (now next) ⌝ }
+    requires { ⌜ head ≡ lastIn (groupOf (now xs)) g (length (now xs)) ⌝ }
+    requires { ⌜ length (now stamps) ≡ 262144 ⌝ }
+    requires { ⌜ ((k : ℕ) → at (now stamps) k ≤ g) ⌝ }
+    ensures { λ r. ⌜ (r ≡ true → Apart (now (xs .entry)) g) × (r ≡ false → distinct (now (xs .entry)) ≡ false) × ((k : ℕ) → at (now (stamps .exit)) k ≤ g + 1) ⌝ }
+{
+    let mut p = head;
+    while p != 0 {
+        let i = (p - 1) as usize;
+        let k = (xs[i] % 262144) as usize;
+        if stamps[k] == g + 1 {
+            return false;
+        }
+        stamps[k] = g + 1;
+        p = next[i];
+    }
+    true
+}
+
+// Whether the numbers of every group are all different.
+fn groups_distinct(xs: &[u32], heads: &[u32], next: &[u32], stamps: &mut [u16]) -> bool
+    requires { ⌜ length (now xs) ≤ length (now next) ⌝ }
+    requires { ⌜ length (now heads) ≡ 16384 ⌝ }
+    requires { ⌜ Linked (now xs) (now heads) (now next) ⌝ }
+    requires { ⌜ length (now stamps) ≡ 262144 ⌝ }
+    requires { ⌜ ((k : ℕ) → at (now stamps) k ≤ 0) ⌝ }
     ensures { λ r. ⌜ r ≡ distinct (now (xs .entry)) ⌝ }
 {
-    if xs.len() < 2 {
-        return true;
+    let mut g: u16 = 0;
+    while g < 16384 {
+        if !chain_distinct(xs, next, stamps, heads[g as usize], g) {
+            return false;
+        }
+        g += 1;
     }
-    if bit == 0 {
-        return false;
-    }
-    let m = part(xs, bit - 1);
-    if !distinct_below(&mut xs[..m], bit - 1) {
-        return false;
-    }
-    distinct_below(&mut xs[m..], bit - 1)
+    true
+}
+
+// Whether words are all different, by chains: never more than three steps for a word.
+fn chains_distinct(xs: &[u32]) -> bool
+    requires { ⌜ length (now xs) ≤ 65536 ⌝ }
+    ensures { λ r. ⌜ r ≡ distinct (now (xs .entry)) ⌝ }
+{
+    let mut heads = [0u32; 16384];
+    let mut next = [0u32; 65536];
+    let mut stamps = [0u16; 262144];
+    link(xs, &mut heads, &mut next);
+    groups_distinct(xs, &heads, &next, &mut stamps)
 }
 
 // Whether words are all different.
-fn words_distinct(xs: &mut [u32]) -> bool
+fn words_distinct(xs: &[u32]) -> bool
+    requires { ⌜ length (now xs) ≤ 65536 ⌝ }
     ensures { λ r. ⌜ r ≡ distinct (now (xs .entry)) ⌝ }
 {
-    distinct_below(xs, 32)
+    if residues_distinct(xs) {
+        return true;
+    }
+    chains_distinct(xs)
 }
 
 // Gathers the numbers of the marked sectors at the end of xs, the last sector's first, and says where they begin.
@@ -97,5 +142,5 @@ pub fn numbers_distinct(image: &[u8], n: u32, marks: &[u8]) -> bool
 {
     let mut xs = [0u32; 65536];
     let from = gather(image, n, marks, &mut xs);
-    words_distinct(&mut xs[from..])
+    words_distinct(&xs[from..])
 }

@@ -1,9 +1,9 @@
 -- What was gathered are the numbers of the marked sectors.
-use Prim.Native.Nat.{ℕ, _-_}
+use Prim.Native.Nat.{ℕ}
 use mathlib.Core.Path.{_∙_, ap}
 use lib.ListN.{length-replicate}
 use Rattle.layout.specs.Bounded.{distinct}
-use Rattle.distinct.proofs.Exchange.{lent-end}
+use Rattle.distinct.proofs.Equal.{lent-end}
 use borrow.Author.Needs.{needs}
 use Rattle.distinct.proofs.numbers_distinct.Statement.{statement}
 use Rattle.distinct.proofs.numbers_distinct.Tie as tie
@@ -14,17 +14,17 @@ slice-aggregate-gather c = search needs
 gather-requires : tie.Need-gather-requires
 gather-requires c κs = search needs
 
-mul-xs : tie.Need-mul-xs
-mul-xs c = search needs
+mul-words-distinct : tie.Need-mul-words-distinct
+mul-words-distinct c = search needs
 
 sub-words-distinct : tie.Need-sub-words-distinct
 sub-words-distinct c = search needs
 
-part-xs-start : tie.Need-part-xs-start
-part-xs-start c = search needs
+part-words-distinct-start : tie.Need-part-words-distinct-start
+part-words-distinct-start c = search needs
 
-part-xs-end : tie.Need-part-xs-end
-part-xs-end c = search needs
+part-words-distinct-end : tie.Need-part-words-distinct-end
+part-words-distinct-end c = search needs
 
 words-distinct-requires : tie.Need-words-distinct-requires
 words-distinct-requires c κs = search needs
@@ -32,7 +32,7 @@ words-distinct-requires c κs = search needs
 returns : tie.Need-returns
 returns c =
     let the-gather = c .before .before .before .before .gather in
-    c .before .words-distinct .ensures ∙ ap distinct (lent-end _ 65536 (the-gather .result) (the-gather .kept .1 .1 .1 .0 ∙ length-replicate {A = ℕ} 65536 0) (the-gather .ensures .0) ∙ the-gather .ensures .1)
+    c .words-distinct .ensures ∙ ap distinct (lent-end _ 65536 (the-gather .result) (the-gather .kept .1 .1 .1 .0 ∙ length-replicate {A = ℕ} 65536 0) (the-gather .ensures .0) ∙ the-gather .ensures .1)
 
 pub numbers-distinct-spec : {M : Type 1} → statement M
 numbers-distinct-spec =
@@ -40,9 +40,9 @@ numbers-distinct-spec =
     (tie.spec
     slice-aggregate-gather
     gather-requires
-    mul-xs
+    mul-words-distinct
     sub-words-distinct
-    part-xs-start
-    part-xs-end
+    part-words-distinct-start
+    part-words-distinct-end
     words-distinct-requires
     returns)

@@ -1,24 +1,23 @@
--- Words have no bits above 32.
-use Prim.Native.Nat.{_-_}
-use native.Mathlib.Omega.{arith}
-use Rattle.distinct.proofs.Exchange.{words-agree}
+-- Residues that are all different decide; otherwise the chains do.
+use mathlib.Core.Path.{sym}
+use borrow.Author.Needs.{needs}
 use Rattle.distinct.proofs.words_distinct.Statement.{statement}
 use Rattle.distinct.proofs.words_distinct.Tie as tie
 
-distinct-below-requires : tie.Need-distinct-below-requires
-distinct-below-requires c κs =
-    let the-args = c .before .before .args in
-    (omega arith, words-agree (the-args .xs .now) (λ i. (c .before .slice-known .given i) .fits))
-
-same-length : tie.Need-same-length
-same-length c =
-    let the-distinct-below = c .before .before .distinct-below in
-    the-distinct-below .kept .0
+residues-distinct-requires : tie.Need-residues-distinct-requires
+residues-distinct-requires c κs = search needs
 
 returns : tie.Need-returns
 returns c =
-    let the-distinct-below = c .before .before .distinct-below in
-    the-distinct-below .ensures
+    let the-residues-distinct = c .before .residues-distinct in
+    sym (the-residues-distinct .ensures (c .if1 .taken))
+
+chains-distinct-requires : tie.Need-chains-distinct-requires
+chains-distinct-requires c κs = search needs
+
+returns-2 : tie.Need-returns-2
+returns-2 c = search needs
 
 pub words-distinct-spec : {M : Type 1} → statement M
-words-distinct-spec = tie.close (tie.spec distinct-below-requires same-length returns)
+words-distinct-spec =
+    tie.close (tie.spec residues-distinct-requires returns chains-distinct-requires returns-2)

@@ -1,0 +1,84 @@
+-- The residues met so far are marked, and no two agree.
+use Prim.Native.Nat.{ℕ, _-_, _≤_}
+use mathlib.Core.Path.{refl, sym, _∙_}
+use mathlib.Core.Bool.{false}
+use native.Mathlib.Omega.{arith}
+use lib.ListN.{length, length-replicate}
+use borrow.Author.Needs.{needs}
+use Rattle.laws.proofs.Bounded.{clash}
+use Rattle.distinct.proofs.Equal.{Residues, residues-none, residues-more, residues-distinct}
+use Rattle.distinct.proofs.residues_distinct.Statement.{statement}
+use Rattle.distinct.proofs.residues_distinct.Tie as tie
+
+abbrev Inv-loop : tie.InvT-loop
+Inv-loop xs seen₀ i₀ seen i = (i ≤ length xs) × Residues xs seen i
+
+abbrev μ-loop : tie.MeasureT-loop
+μ-loop xs seen₀ i₀ seen i = length xs - i
+
+loop-holds : tie.Need-loop-holds Inv-loop μ-loop
+loop-holds c = (omega arith, residues-none _ _ (length-replicate {A = ℕ} 8192 0))
+
+mul-k : tie.Need-mul-k Inv-loop μ-loop
+mul-k c = omega arith
+
+shared-slice-read-k : tie.Need-shared-slice-read-k Inv-loop μ-loop
+shared-slice-read-k c = search needs
+
+cast-k : tie.Need-cast-k Inv-loop μ-loop
+cast-k c = search needs
+
+slice-aggregate-is-set : tie.Need-slice-aggregate-is-set Inv-loop μ-loop
+slice-aggregate-is-set c = search needs
+
+is-set-requires : tie.Need-is-set-requires Inv-loop μ-loop
+is-set-requires c κs =
+    let the-loop = c .before .before .before .loop in let n = the-loop .inv .1 .long in omega arith
+
+returns : tie.Need-returns Inv-loop μ-loop
+returns c = λ e. clash false e refl
+
+slice-aggregate-set-bit : tie.Need-slice-aggregate-set-bit Inv-loop μ-loop
+slice-aggregate-set-bit c = search needs
+
+set-bit-requires : tie.Need-set-bit-requires Inv-loop μ-loop
+set-bit-requires c κs =
+    let the-loop = c .before .before .before .before .before .before .loop in let n = the-loop .inv .1 .long in omega arith
+
+add-i : tie.Need-add-i Inv-loop μ-loop
+add-i c = search needs
+
+loop-less : tie.Need-loop-less Inv-loop μ-loop
+loop-less c = omega arith
+
+loop-again : tie.Need-loop-again Inv-loop μ-loop
+loop-again c =
+    let the-is-set = c .before .before .before .before .is-set in
+    let the-set-bit = c .before .set-bit in
+    let the-loop = c .before .before .before .before .before .before .before .before .loop in
+    (omega arith, residues-more _ (the-loop .seen) _ (the-loop .i) (the-loop .inv .1) (sym (c .before .before .before .if1 .left) ∙ the-is-set .ensures) (the-set-bit .kept .0) (the-set-bit .ensures))
+
+returns-2 : tie.Need-returns-2 Inv-loop μ-loop
+returns-2 c =
+    let the-loop = c .before .loop in
+    λ _. residues-distinct _ (the-loop .seen) (the-loop .i) (the-loop .inv .1) (c .loop-test .left)
+
+pub residues-distinct-spec : {M : Type 1} → statement M
+residues-distinct-spec =
+    tie.close
+    (tie.spec
+    Inv-loop
+    μ-loop
+    loop-holds
+    mul-k
+    shared-slice-read-k
+    cast-k
+    slice-aggregate-is-set
+    is-set-requires
+    returns
+    slice-aggregate-set-bit
+    set-bit-requires
+    add-i
+    loop-less
+    loop-again
+    returns-2)
