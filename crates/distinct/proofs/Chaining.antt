@@ -92,6 +92,13 @@ module _ (xs : List ℕ) (next₀ : List ℕ) where
             (λ (d : j ≡ i → ⊥). getD-set-other next i j (at heads (groupOf xs i)) 0 d ∙ l .back j (omega arith)) (eq? j i);
       })
 
+  -- A head so far is no higher than i, so that it fits a link.
+  pub linking-low : (heads next : List ℕ) (i : ℕ) → Linking heads next i → at xs i < 2 ^ 32 → at heads (groupOf xs i) ≤ i
+  linking-low heads next i l word =
+      let e = l .ends (groupOf xs i) (omega arith) in
+      let b = last-le (groupOf xs) (groupOf xs i) i in
+      omega arith
+
   pub linking-ends : (heads next : List ℕ) (i : ℕ) → Linking heads next i → length xs ≤ i → Linked xs heads next
   linking-ends heads next i l h =
       let b = l .inside in

@@ -1,17 +1,15 @@
--- Distinct numbers as lists in which no two indices have one number, and the bit map of residues.
-use Prim.Native.Nat.{ℕ, zero, suc, _+_, _-_, _*_, _%_, _≤_, _<_}
+-- Distinct numbers as lists in which no two indices have one number, and the map of residues.
+use Prim.Native.Nat.{ℕ, zero, suc, _+_, _-_, _%_, _≤_, _<_}
 use mathlib.Core.Path.{_≡_, refl, sym, _∙_, ap, subst}
 use mathlib.Core.Logic.{⊎-elim}
-use mathlib.Core.Bool.{Bool, true, false}
+use mathlib.Core.Bool.{true, false}
 use mathlib.Core.List.{List, [], _∷_}
 use native.Mathlib.Nat.{not-suc-le-zero, le-of-suc-le-suc}
 use native.Mathlib.Omega.{arith}
-use lib.ListN.{length, take, drop, length-drop}
-use lib.Seq.{take-all}
-use Rattle.layout.specs.Bounded.{at, elem, distinct, updated}
-use Rattle.laws.proofs.Bounded.{bool?, eq?, suc-cases, clash, elem-cons, elem-here, elem-there, distinct-head, distinct-rest, distinct-cons, not-elem}
-use Rattle.laws.proofs.Bounded.{updated-here, updated-other}
-use Rattle.volume.specs.Tables.{bitAt}
+use lib.ListN.{length, set, take, drop, length-set, length-drop}
+use lib.Seq.{getD-set-same, getD-set-other, take-all}
+use Rattle.layout.specs.Bounded.{at, elem, distinct}
+use Rattle.laws.proofs.Bounded.{bool?, eq?, clash, elem-cons, elem-here, elem-there, distinct-head, distinct-rest, distinct-cons, not-elem}
 
 elem-at : (k : ℕ) (xs : List ℕ) → elem k xs ≡ true → (i : ℕ) × (i < length xs) × (at xs i ≡ k)
 unfolding elem
@@ -55,11 +53,11 @@ equal-distinct xs i j h g f =
 -- The residues of the numbers below i are marked, and no two agree.
 module _ (xs : List ℕ) where
   pub record Residues (seen : List ℕ) (i : ℕ) : Type 0 where
-    pub long : length seen ≡ 8192
-    pub marked : (j : ℕ) → j < i → bitAt seen (at xs j % 65536) ≡ true
+    pub long : length seen ≡ 65536
+    pub marked : (j : ℕ) → j < i → at seen (at xs j % 65536) ≡ 1
     pub differ : Differ xs i
 
-  pub residues-none : (seen : List ℕ) → length seen ≡ 8192 → Residues seen 0
+  pub residues-none : (seen : List ℕ) → length seen ≡ 65536 → Residues seen 0
   residues-none seen h =
       record {
         long = h;
@@ -67,22 +65,21 @@ module _ (xs : List ℕ) where
         differ = λ j k h g. absurd (not-suc-le-zero g);
       }
 
-  pub residues-more : (seen new : List ℕ) (i : ℕ) → Residues seen i → false ≡ bitAt seen (at xs i % 65536)
-      → length new ≡ length seen → bitAt new ≡ updated (bitAt seen) (at xs i % 65536) true → Residues new (i + 1)
-  residues-more seen new i r free n e =
+  pub residues-more : (seen : List ℕ) (i : ℕ) → Residues seen i → (at seen (at xs i % 65536) ≡ 1 → ⊥)
+      → Residues (set seen (at xs i % 65536) 1) (i + 1)
+  residues-more seen i r free =
+      let n = r .long in
       let k = at xs i % 65536 in
       record {
-        long = n ∙ r .long;
+        long = length-set seen k 1 ∙ n;
         marked = λ j h.
-            ap (λ (f : ℕ → Bool). f (at xs j % 65536)) e
-            ∙ ⊎-elim (λ (z : at xs j % 65536 ≡ k). ap (updated (bitAt seen) k true) z ∙ updated-here (bitAt seen) k true)
+            ⊎-elim (λ (z : at xs j % 65536 ≡ k). ap (at (set seen k 1)) z ∙ getD-set-same seen k 1 0 (omega arith))
             (λ (z : at xs j % 65536 ≡ k → ⊥).
-            updated-other (bitAt seen) k (at xs j % 65536) true z
+            getD-set-other seen k (at xs j % 65536) 1 0 z
             ∙ ⊎-elim (λ (y : j ≡ i). absurd (z (ap (λ (x : ℕ). at xs x % 65536) y))) (λ (y : j ≡ i → ⊥). r .marked j (omega arith)) (eq? j i))
             (eq? (at xs j % 65536) k);
         differ = λ j m h g f.
-            ⊎-elim (λ (y : m ≡ i).
-            clash (bitAt seen k) (ap (λ (x : ℕ). bitAt seen (x % 65536)) (sym (f ∙ ap (at xs) y)) ∙ r .marked j (omega arith)) (sym free))
+            ⊎-elim (λ (y : m ≡ i). free (ap (λ (x : ℕ). at seen (x % 65536)) (sym (f ∙ ap (at xs) y)) ∙ r .marked j (omega arith)))
             (λ (y : m ≡ i → ⊥). r .differ j m h (omega arith) f) (eq? m i);
       }
 

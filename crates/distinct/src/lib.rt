@@ -15,14 +15,14 @@ ghost use Rattle.distinct.specs.Chains.{groupOf, lastIn, Back, Linked, A
 fn residues_distinct(xs: &[u32]) -> bool
     ensures { λ r. ⌜ (r ≡ true → distinct (now (xs .entry)) ≡ true) ⌝ }
 {
-    let mut seen = [0u8; 8192];
+    let mut seen = [0u8; 65536];
     let mut i = 0;
     while i < xs.len() {
         let k = (xs[i] % 65536) as usize;
-        if bits::is_set(&seen, k) {
+        if seen[k] == 1 {
             return false;
         }
-        bits::set_bit(&mut seen, k);
+        seen[k] = 1;
         i += 1;
     }
     true
@@ -30,7 +30,7 @@ fn residues_distinct(xs: &[u32]) -> bool
 
 // Chains the numbers by group: a group's head is one more than the index of its last number, and next leads from each number to the
 // one before it in its group; 0 stands for none.
-fn link(xs: &[u32], heads: &mut [u32], next: &mut [u32])
+fn link(xs: &[u32], heads: &mut [u32], next: &mut [u16])
     requires { ⌜ length (now xs) ≤ 65536 ⌝ }
     requires { ⌜ length (now heads) ≡ 16384 ⌝ }
     requires { ⌜ ((g : ℕ) → at (now heads) g ≡ 0) ⌝ }
@@ -40,14 +40,14 @@ fn link(xs: &[u32], heads: &mut [u32], next: &mut [u32])
     let mut i = 0;
     while i < xs.len() {
         let g = (xs[i] / 262144) as usize;
-        next[i] = heads[g];
+        next[i] = heads[g] as u16;
         heads[g] = (i + 1) as u32;
         i += 1;
     }
 }
 
 // Whether the numbers of group g are all different. Earlier groups left lower stamps, so the table is not cleared between groups.
-fn chain_distinct(xs: &[u32], next: &[u32], stamps: &mut [u16], head: u32, g: u16) -> bool
+fn chain_distinct(xs: &[u32], next: &[u16], stamps: &mut [u16], head: u32, g: u16) -> bool
     requires { ⌜ g < 16384 ⌝ }
     requires { ⌜ length (now xs) ≤ length (now next) ⌝ }
     requires { ⌜ Back (now xs) (now next) ⌝ }
@@ -60,17 +60,17 @@ fn chain_distinct(xs: &[u32], next: &[u32], stamps: &mut [u16], head: u32, g: u1
     while p != 0 {
         let i = (p - 1) as usize;
         let k = (xs[i] % 262144) as usize;
+        p = next[i] as u32;
         if stamps[k] == g + 1 {
             return false;
         }
         stamps[k] = g + 1;
-        p = next[i];
     }
     true
 }
 
 // Whether the numbers of every group are all different.
-fn groups_distinct(xs: &[u32], heads: &[u32], next: &[u32], stamps: &mut [u16]) -> bool
+fn groups_distinct(xs: &[u32], heads: &[u32], next: &[u16], stamps: &mut [u16]) -> bool
     requires { ⌜ length (now xs) ≤ length (now next) ⌝ }
     requires { ⌜ length (now heads) ≡ 16384 ⌝ }
     requires { ⌜ Linked (now xs) (now heads) (now next) ⌝ }
@@ -94,7 +94,7 @@ fn chains_distinct(xs: &[u32]) -> bool
     ensures { λ r. ⌜ r ≡ distinct (now (xs .entry)) ⌝ }
 {
     let mut heads = [0u32; 16384];
-    let mut next = [0u32; 65536];
+    let mut next = [0u16; 65536];
     let mut stamps = [0u16; 262144];
     link(xs, &mut heads, &mut next);
     groups_distinct(xs, &heads, &next, &mut stamps)

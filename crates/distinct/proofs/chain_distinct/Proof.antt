@@ -1,4 +1,5 @@
 -- The numbers of the group from index p on are met.
+use Prim.Native.Nat.{_-_}
 use mathlib.Core.Path.{refl}
 use native.Mathlib.Omega.{arith}
 use lib.ListN.{length}
@@ -34,6 +35,16 @@ shared-slice-read-k c = search needs
 cast-k : tie.Need-cast-k Inv-loop μ-loop
 cast-k c = search needs
 
+mul-p : tie.Need-mul-p Inv-loop μ-loop
+mul-p c = search needs
+
+shared-slice-read-p : tie.Need-shared-slice-read-p Inv-loop μ-loop
+shared-slice-read-p c = search needs
+
+cast-p : tie.Need-cast-p Inv-loop μ-loop
+cast-p c =
+    let b = c .shared-slice-known2 .given (c .before .before .before .loop .p - 1) in omega arith
+
 mul-if1 : tie.Need-mul-if1 Inv-loop μ-loop
 mul-if1 c = search needs
 
@@ -48,8 +59,8 @@ same-length c = search needs
 
 returns : tie.Need-returns Inv-loop μ-loop
 returns c =
-    let the-loop = c .before .before .before .before .loop in
-    (λ e. clash _ e refl, λ _. walking-meets _ _ (the-loop .stamps) (the-loop .p) (the-loop .inv) (c .before .before .before .loop-test .taken) (c .if1 .taken), the-loop .inv .most)
+    let the-loop = c .before .before .before .before .before .loop in
+    (λ e. clash _ e refl, λ _. walking-meets _ _ (the-loop .stamps) (the-loop .p) (the-loop .inv) (c .before .before .before .before .loop-test .taken) (c .if1 .taken), the-loop .inv .most)
 
 add-stamps : tie.Need-add-stamps Inv-loop μ-loop
 add-stamps c = search needs
@@ -59,12 +70,6 @@ mul-stamps c = search needs
 
 slice-write-stamps : tie.Need-slice-write-stamps Inv-loop μ-loop
 slice-write-stamps c = search needs
-
-mul-p : tie.Need-mul-p Inv-loop μ-loop
-mul-p c = search needs
-
-shared-slice-read-p : tie.Need-shared-slice-read-p Inv-loop μ-loop
-shared-slice-read-p c = search needs
 
 loop-less : tie.Need-loop-less Inv-loop μ-loop
 loop-less c =
@@ -76,7 +81,7 @@ loop-again : tie.Need-loop-again Inv-loop μ-loop
 loop-again c =
     let the-loop = c .before .before .before .before .before .loop in
     let a = c .before .before .before .before .before .before .args in
-    walking-more _ _ (the-loop .stamps) (the-loop .p) (the-loop .inv) (c .before .before .before .before .loop-test .taken) (c .before .if1 .left) (a .next .now) (c .before .before .before .before .before .before .pre .1 .1 .0)
+    walking-more _ _ (the-loop .stamps) (the-loop .p) (the-loop .inv) (c .before .before .before .before .loop-test .taken) (c .if1 .left) (a .next .now) (c .before .before .before .before .before .before .pre .1 .1 .0)
 
 same-length-2 : tie.Need-same-length-2 Inv-loop μ-loop
 same-length-2 c = search needs
@@ -98,6 +103,9 @@ chain-distinct-spec =
     mul-k
     shared-slice-read-k
     cast-k
+    mul-p
+    shared-slice-read-p
+    cast-p
     mul-if1
     slice-read-if1
     add-if1
@@ -106,8 +114,6 @@ chain-distinct-spec =
     add-stamps
     mul-stamps
     slice-write-stamps
-    mul-p
-    shared-slice-read-p
     loop-less
     loop-again
     same-length-2

@@ -4,7 +4,7 @@ use mathlib.Core.Path.{sym, _∙_}
 use native.Mathlib.Omega.{arith}
 use lib.ListN.{length}
 use borrow.Author.Needs.{needs}
-use Rattle.distinct.proofs.Chaining.{Linking, linking-none, linking-more, linking-ends}
+use Rattle.distinct.proofs.Chaining.{Linking, linking-none, linking-more, linking-low, linking-ends}
 use Rattle.distinct.proofs.link.Statement.{statement}
 use Rattle.distinct.proofs.link.Tie as tie
 
@@ -36,6 +36,13 @@ mul-next c =
 slice-read-next : tie.Need-slice-read-next Inv-loop μ-loop
 slice-read-next c =
     let the-loop = c .before .before .before .loop in let n = the-loop .inv .groups in let b = c .before .shared-slice-known .given (the-loop .i) in omega arith
+
+cast-next : tie.Need-cast-next Inv-loop μ-loop
+cast-next c =
+    let the-loop = c .before .before .before .loop in
+    let the-pre = c .before .before .before .before .pre in
+    let b = linking-low _ _ (the-loop .heads) (the-loop .next) (the-loop .i) (the-loop .inv) (c .before .shared-slice-known .given (the-loop .i) .fits) in
+    omega arith
 
 mul-next-2 : tie.Need-mul-next-2 Inv-loop μ-loop
 mul-next-2 c = omega arith
@@ -93,6 +100,7 @@ link-spec =
     cast-g
     mul-next
     slice-read-next
+    cast-next
     mul-next-2
     slice-write-next
     add-heads

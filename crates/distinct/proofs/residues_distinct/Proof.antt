@@ -1,6 +1,6 @@
 -- The residues met so far are marked, and no two agree.
 use Prim.Native.Nat.{ℕ, _-_, _≤_}
-use mathlib.Core.Path.{refl, sym, _∙_}
+use mathlib.Core.Path.{refl}
 use mathlib.Core.Bool.{false}
 use native.Mathlib.Omega.{arith}
 use lib.ListN.{length, length-replicate}
@@ -17,7 +17,7 @@ abbrev μ-loop : tie.MeasureT-loop
 μ-loop xs seen₀ i₀ seen i = length xs - i
 
 loop-holds : tie.Need-loop-holds Inv-loop μ-loop
-loop-holds c = (omega arith, residues-none _ _ (length-replicate {A = ℕ} 8192 0))
+loop-holds c = (omega arith, residues-none _ _ (length-replicate {A = ℕ} 65536 0))
 
 mul-k : tie.Need-mul-k Inv-loop μ-loop
 mul-k c = omega arith
@@ -28,22 +28,14 @@ shared-slice-read-k c = search needs
 cast-k : tie.Need-cast-k Inv-loop μ-loop
 cast-k c = search needs
 
-slice-aggregate-is-set : tie.Need-slice-aggregate-is-set Inv-loop μ-loop
-slice-aggregate-is-set c = search needs
-
-is-set-requires : tie.Need-is-set-requires Inv-loop μ-loop
-is-set-requires c κs =
-    let the-loop = c .before .before .before .loop in let n = the-loop .inv .1 .long in omega arith
+array-read-if1 : tie.Need-array-read-if1 Inv-loop μ-loop
+array-read-if1 c = omega arith
 
 returns : tie.Need-returns Inv-loop μ-loop
 returns c = λ e. clash false e refl
 
-slice-aggregate-set-bit : tie.Need-slice-aggregate-set-bit Inv-loop μ-loop
-slice-aggregate-set-bit c = search needs
-
-set-bit-requires : tie.Need-set-bit-requires Inv-loop μ-loop
-set-bit-requires c κs =
-    let the-loop = c .before .before .before .before .before .before .loop in let n = the-loop .inv .1 .long in omega arith
+array-write-seen : tie.Need-array-write-seen Inv-loop μ-loop
+array-write-seen c = omega arith
 
 add-i : tie.Need-add-i Inv-loop μ-loop
 add-i c = search needs
@@ -53,10 +45,8 @@ loop-less c = omega arith
 
 loop-again : tie.Need-loop-again Inv-loop μ-loop
 loop-again c =
-    let the-is-set = c .before .before .before .before .is-set in
-    let the-set-bit = c .before .set-bit in
-    let the-loop = c .before .before .before .before .before .before .before .before .loop in
-    (omega arith, residues-more _ (the-loop .seen) _ (the-loop .i) (the-loop .inv .1) (sym (c .before .before .before .if1 .left) ∙ the-is-set .ensures) (the-set-bit .kept .0) (the-set-bit .ensures))
+    let the-loop = c .before .before .before .loop in
+    (omega arith, residues-more _ (the-loop .seen) (the-loop .i) (the-loop .inv .1) (c .if1 .left))
 
 returns-2 : tie.Need-returns-2 Inv-loop μ-loop
 returns-2 c =
@@ -73,11 +63,9 @@ residues-distinct-spec =
     mul-k
     shared-slice-read-k
     cast-k
-    slice-aggregate-is-set
-    is-set-requires
+    array-read-if1
     returns
-    slice-aggregate-set-bit
-    set-bit-requires
+    array-write-seen
     add-i
     loop-less
     loop-again
