@@ -1,6 +1,6 @@
 // The used map: one bit a sector, lowest bit of byte 0 first.
 ghost use mathlib.Core.Path.{_≡_};
-ghost use mathlib.Core.Bool.{true, false};
+ghost use mathlib.Core.Bool.{true, false, cond};
 ghost use Prim.Native.Nat.{ℕ, _+_, _*_, _/_, _%_, _^_, _≤_, _<_};
 ghost use lib.ListN.{length};
 ghost use lib.Dec.{eqb};
@@ -66,6 +66,19 @@ pub fn word_at(used: &[u8], w: usize) -> u64
         used[first + 6],
         used[first + 7],
     )
+}
+
+// Stores the bits of sectors 64w to 64w + 63.
+pub fn put_word(used: &mut [u8], w: usize, x: u64)
+    requires { ⌜ 8 * w + 8 ≤ length (now used) ⌝ }
+    ensures { λ _. ⌜ bitAt (now (used .exit)) ≡ (λ k. cond (eqb (k / 64) w) (eqb (x / 2 ^ (k % 64) % 2) 1) (bitAt (now (used .entry)) k)) ⌝ }
+{
+    let first = 8 * w;
+    let mut i = 0;
+    while i < 8 {
+        used[first + i] = ((x >> (8 * i)) % 256) as u8;
+        i += 1;
+    }
 }
 
 // Sectors 0 to 64 * words - 1 that are marked.

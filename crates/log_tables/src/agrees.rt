@@ -1,12 +1,25 @@
 // Whether tables that were found are sound.
 ghost use mathlib.Core.Path.{_≡_};
 ghost use mathlib.Core.Bool.{true};
+ghost use Prim.Native.Nat.{_≤_};
 ghost use lib.ListN.{length};
 ghost use Rattle.geometry.specs.Geometry.{piecesFor, usedBytes, geometryFits};
-ghost use Rattle.layout.specs.Bounded.{at};
+ghost use Rattle.layout.specs.Bounded.{at, listFrom};
 ghost use Rattle.volume.specs.Tables.{bitAt, namedBy, usedBy, consistent};
 ghost use Rattle.log_tables.specs.LogTables.{tablesNamed};
 use geometry::Geometry;
+
+// Fills the used map from the marks.
+fn take_marks(used: &mut [u8], marks: &[u8])
+    requires { ⌜ length (now used) ≤ length (now marks) ⌝ }
+    ensures { λ _. ⌜ now (used .exit) ≡ listFrom (at (now (marks .entry))) 0 (length (now (used .entry))) ⌝ }
+{
+    let mut i = 0;
+    while i < used.len() {
+        used[i] = marks[i];
+        i += 1;
+    }
+}
 
 // Marks the sectors that the tables name in the used map, and says whether the tables are then sound. No sector is named twice where as
 // many are used as there are names, and sector 0.
@@ -26,17 +39,21 @@ pub fn log_agrees(
     requires { ⌜ length (now used) ≡ usedBytes (g .n) ⌝ }
     ensures { λ r. ⌜ (r ≡ consistent g (tablesNamed (g .l) (now (map .entry)) (now (places .entry)) (now (numbers .entry))) tail number) × (r ≡ true → bitAt (now (used .exit)) ≡ usedBy (namedBy (g .l) (at (now (map .entry))) (at (now (places .entry))))) ⌝ }
 {
-    fill::zero_bytes(used);
-    let named = names::mark_names(used, g, map, places);
+    let mut marks = [0u8; 8192];
+    let named = names::mark_names(&mut marks, g, map, places);
     if !named.inside {
         return false;
     }
-    let free = bits::count_free(used, g.n);
+    let free = bits::count_free(&marks, g.n);
     if free + named.count + 1 != g.n {
         return false;
     }
     if free < Geometry::pieces_for(g.l) {
         return false;
     }
-    numbers::numbers_agree(places, numbers, tail, number)
+    if !numbers::numbers_agree(places, numbers, tail, number) {
+        return false;
+    }
+    take_marks(used, &marks);
+    true
 }

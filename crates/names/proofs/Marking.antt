@@ -8,9 +8,7 @@ use mathlib.Core.List.{List, [], _∷_}
 use native.Mathlib.Nat.{eq-or-lt-of-le, le-of-suc-le-suc}
 use native.Mathlib.Numerals.{add-one}
 use native.Mathlib.Omega.{arith}
-use lib.ListN.{length, set, replicate, length-set}
-use lib.Seq.{set-set, set-getD, getD-set-same}
-use lib.Bits.{bitOr}
+use lib.ListN.{length, replicate}
 use lib.Dec.{eqb, leb}
 use borrow.Author.Tests.{eq-eqb, ne-eqb, le-leb, leb-true}
 use Rattle.geometry.specs.declared.Geometry.{Geometry}
@@ -19,8 +17,7 @@ use Rattle.layout.specs.Bounded.{at, allBelow, all, elem, always, gathered, upd
 use Rattle.volume.specs.Tables.{bitAt, namedBy, usedBy}
 use Rattle.layout.specs.Entry.{isEmpty, sectorOf}
 use Rattle.laws.proofs.Lists.{within-below}
-use Rattle.laws.proofs.Bounded.{bool?, and-r, and-i, not-of, allBelow-at, gathered-hit, gathered-miss}
-use Rattle.bits.proofs.BitLaws.{bit-set}
+use Rattle.laws.proofs.Bounded.{bool?, and-r, and-i, not-of, all-elem, allBelow-at, gathered-hit, gathered-miss}
 
 pub not-false : (b : Bool) → not b ≡ false → b ≡ true
 not-false true e = refl
@@ -130,6 +127,19 @@ module _ (n : ℕ) where
     pub marking-passes : (i count : ℕ) → test i ≡ false → count ≡ length (gathered test value others i) → count ≡ length (gathered test value others (i + 1))
     marking-passes i count e c = rw add-one (c ∙ ap length (sym (gathered-miss test value others i e)))
 
+-- A sector past the last is not named.
+pub unnamed : (n : ℕ) (named : List ℕ) → all (within 1 (n - 1)) named ≡ true → (k : ℕ) → 1 ≤ n → n ≤ k → usedBy named k ≡ false
+unfolding usedBy
+unnamed n named inside k some past = rw (ne-eqb k 0 (λ (z : k ≡ 0). omega arith), not-there named inside) refl
+  where
+    not-there : (xs : List ℕ) → all (within 1 (n - 1)) xs ≡ true → elem k xs ≡ false
+    not-there xs e =
+        ⊎-elim (λ (z : elem k xs ≡ true).
+        let w = all-elem (within 1 (n - 1)) xs k e z in
+        let top = leb-true k (n - 1) (and-r (leb 1 k) (leb k (n - 1)) w) in
+        absurd (omega arith))
+        (λ (z : elem k xs ≡ false). z) (bool? (elem k xs))
+
 -- The live places.
 module _ (n : ℕ) (pl : List ℕ) where
   abbrev Live : ℕ → List ℕ
@@ -163,7 +173,7 @@ zero-table : allBelow (λ j. not (eqb (0 / 2 ^ j % 2) 1)) 8 ≡ true
 unfolding allBelow
 zero-table = refl
 
-zero-bit : (j : ℕ) → j < 8 → eqb (0 / 2 ^ j % 2) 1 ≡ false
+pub zero-bit : (j : ℕ) → j < 8 → eqb (0 / 2 ^ j % 2) 1 ≡ false
 zero-bit j h = not-of (eqb (0 / 2 ^ j % 2) 1) (allBelow-at (λ j. not (eqb (0 / 2 ^ j % 2) 1)) 8 zero-table j h)
 
 pub zeros-marked : (bits : ℕ → Bool) (us : List ℕ) (m : ℕ) → us ≡ replicate m 0 → bits ≡ updated (bitAt us) 0 true → bits ≡ usedBy []
@@ -174,23 +184,6 @@ zeros-marked bits us m e h =
     (ap (λ (xs : List ℕ). eqb (at xs (k / 8) / 2 ^ (k % 8) % 2) 1) e
     ∙ ap (λ (x : ℕ). eqb (x / 2 ^ (k % 8) % 2) 1) (zero-at m (k / 8)) ∙ zero-bit (k % 8) (omega arith))
     ∙ only (eqb k 0))
-
--- The byte at hand put back: setting a bit there, or in another byte, is setting it in the map.
-module _ (ms : List ℕ) (at-hand held k : ℕ) (inside : at-hand < length ms) (below : k < 8 * length ms) where
-  abbrev pub Put : List ℕ
-  Put = set ms at-hand held
-
-  pub bit-held : k / 8 ≡ at-hand → held < 256 → (v : ℕ) → v ≡ bitOr held ((1 * 2 ^ (k % 8)) % 256) → bitAt (set ms at-hand v) ≡ updated (bitAt Put) k true
-  bit-held e h v f =
-      let is : at Put (k / 8) ≡ held = ap (at Put) e ∙ getD-set-same ms at-hand held 0 inside in
-      let same : set ms at-hand v ≡ set Put (k / 8) (bitOr (at Put (k / 8)) ((1 * 2 ^ (k % 8)) % 256)) =
-      ap (set ms at-hand) (f ∙ ap (λ (x : ℕ). bitOr x ((1 * 2 ^ (k % 8)) % 256)) (sym is))
-      ∙ sym (set-set ms at-hand held (bitOr (at Put (k / 8)) ((1 * 2 ^ (k % 8)) % 256)))
-      ∙ ap (λ (x : ℕ). set Put x (bitOr (at Put (k / 8)) ((1 * 2 ^ (k % 8)) % 256))) (sym e) in
-      ap bitAt same ∙ bit-set Put k (simp length-set below) (subst (λ (x : ℕ). x < 256) (sym is) h)
-
-  pub bit-moved : at Put (k / 8) < 256 → (v : ℕ) → v ≡ bitOr (at Put (k / 8)) ((1 * 2 ^ (k % 8)) % 256) → bitAt (set Put (k / 8) v) ≡ updated (bitAt Put) k true
-  bit-moved h v f = ap (λ (x : ℕ). bitAt (set Put (k / 8) x)) f ∙ bit-set Put k (simp length-set below) h
 
 -- All that tables name: the live places, then the sectors of the entries below i that are not zero.
 module _ (g : Geometry) (entry place : ℕ → ℕ) where

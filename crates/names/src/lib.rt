@@ -1,11 +1,11 @@
 // The sectors that tables name, marked in a bit map. That none is named twice shows in how many bits are then set.
 ghost use mathlib.Core.Path.{_≡_};
-ghost use mathlib.Core.Bool.{true};
+ghost use mathlib.Core.Bool.{true, cond};
 ghost use mathlib.Core.List.{[]};
-ghost use Prim.Native.Nat.{_*_, _-_, _%_, _^_, _≤_, _<_};
+ghost use Prim.Native.Nat.{ℕ, _*_, _-_, _/_, _%_, _^_, _≤_, _<_};
 ghost use lib.ListN.{length, replicate};
-ghost use lib.Bits.{bitOr};
-ghost use Rattle.geometry.specs.Geometry.{within, mostBlocks, piecesFor};
+ghost use lib.Dec.{eqb};
+ghost use Rattle.geometry.specs.Geometry.{within, mostBlocks, mostSectors, piecesFor};
 ghost use Rattle.layout.specs.Bounded.{at, all, always, gathered};
 ghost use Rattle.volume.specs.Tables.{bitAt, namedBy, usedBy};
 use geometry::Geometry;
@@ -26,11 +26,11 @@ fn is_inside(n: u32, k: u32) -> bool
     k <= n - 1
 }
 
-// A byte of the map with the bit of sector k set.
-fn with_bit(byte: u8, k: u32) -> u8
-    ensures { λ r. ⌜ (r ≡ bitOr byte ((1 * 2 ^ (k % 8)) % 256)) × (r < 256) ⌝ }
+// A word of the map with the bit of sector k set.
+fn with_bit(word: u64, k: u32) -> u64
+    ensures { λ r. ⌜ ((j : ℕ) → j < 64 → eqb (r / 2 ^ j % 2) 1 ≡ cond (eqb j (k % 64)) true (eqb (word / 2 ^ j % 2) 1)) ⌝ }
 {
-    byte | (1u8 << (k % 8))
+    word | (1u64 << (k % 64))
 }
 
 // Marks the live places.
@@ -52,11 +52,12 @@ fn mark_places(marks: &mut [u8], n: u32, places: &[u32]) -> bool
     true
 }
 
-// Marks sector 0 and every sector that the tables name: the live places, then the sectors of all non-zero entries. The byte at hand
-// is kept apart from the map while one name after the other falls into it.
+// Marks sector 0 and every sector that the tables name: the live places, then the sectors of all non-zero entries. The word of 64
+// bits at hand is kept apart from the map while one name after the other falls into it.
 pub fn mark_names(marks: &mut [u8], g: Geometry, map: &[u32], places: &[u32]) -> Names
     requires { ⌜ 1 ≤ g .n ⌝ }
-    requires { ⌜ g .n ≤ 8 * length (now marks) ⌝ }
+    requires { ⌜ g .n ≤ mostSectors ⌝ }
+    requires { ⌜ length (now marks) ≡ 8192 ⌝ }
     requires { ⌜ g .l ≤ mostBlocks ⌝ }
     requires { ⌜ length (now map) ≡ g .l ⌝ }
     requires { ⌜ length (now places) ≡ piecesFor (g .l) ⌝ }
@@ -72,7 +73,7 @@ pub fn mark_names(marks: &mut [u8], g: Geometry, map: &[u32], places: &[u32]) ->
     }
     let mut count = places.len() as u32;
     let mut hand = 0;
-    let mut held = marks[0];
+    let mut held = bits::word_at(marks, 0);
     let mut i = 0;
     'entries: while i < map.len() {
         let entry = map[i];
@@ -87,18 +88,18 @@ pub fn mark_names(marks: &mut [u8], g: Geometry, map: &[u32], places: &[u32]) ->
                 count: 0,
             };
         }
-        let q = (k / 8) as usize;
+        let q = (k / 64) as usize;
         count += 1;
         i += 1;
         if q == hand {
             held = with_bit(held, k);
             continue 'entries;
         }
-        marks[hand] = held;
+        bits::put_word(marks, hand, held);
         hand = q;
-        held = with_bit(marks[q], k);
+        held = with_bit(bits::word_at(marks, q), k);
     }
-    marks[hand] = held;
+    bits::put_word(marks, hand, held);
     Names {
         inside: true,
         count,

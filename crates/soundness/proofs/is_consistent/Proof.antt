@@ -16,7 +16,7 @@ mark-names-requires c κs =
     let p = c .before .before .before .before .before .pre in
     let some = sectors-some (a .g) (p .0) in
     let most = sectors-most (a .g) (p .0) in
-    (omega arith, (omega arith, (blocks-most (a .g) (p .0), (p .1 .0, (p .1 .1 .0, refl)))))
+    (omega arith, (most, (refl, (blocks-most (a .g) (p .0), (p .1 .0, (p .1 .1 .0, refl))))))
 
 returns : tie.Need-returns
 returns c =

@@ -1,53 +1,51 @@
 -- Each return, by a law of AgreeLaws.
-use Prim.Native.Nat.{ℕ}
-use mathlib.Core.Path.{sym, _∙_, ap}
+use mathlib.Core.Path.{refl, sym, _∙_}
 use native.Mathlib.Omega.{arith}
-use lib.ListN.{length, replicate}
+use lib.ListN.{length}
 use Rattle.soundness.proofs.Sounding.{blocks-some, blocks-most, sectors-some, sectors-most, free-few}
-use Rattle.log_tables.proofs.AgreeLaws.{names-fail, twice-fails, room-fails, numbers-decide}
+use Rattle.log_tables.proofs.AgreeLaws.{names-fail, twice-fails, room-fails, numbers-fail, numbers-pass}
 use borrow.Author.Needs.{needs}
 use Rattle.log_tables.proofs.agrees.log_agrees.Statement.{statement}
 use Rattle.log_tables.proofs.agrees.log_agrees.Tie as tie
 
-zero-bytes-requires : tie.Need-zero-bytes-requires
-zero-bytes-requires c κs = search needs
+slice-aggregate-mark-names : tie.Need-slice-aggregate-mark-names
+slice-aggregate-mark-names c = search needs
 
 mark-names-requires : tie.Need-mark-names-requires
 mark-names-requires c κs =
-    let the-zero-bytes = c .before .before .before .zero-bytes in
-    let a = c .before .before .before .before .before .before .before .before .before .args in
-    let p = c .before .before .before .before .before .before .before .before .before .pre in
+    let a = c .before .before .before .before .before .args in
+    let p = c .before .before .before .before .before .pre in
     let some = sectors-some (a .g) (p .0) in
-    let e = p .1 .1 .1 .1 in
-    let k = the-zero-bytes .kept .0 in
-    (omega arith, (omega arith, (blocks-most (a .g) (p .0), (p .1 .0, (p .1 .1 .0, the-zero-bytes .ensures ∙ ap (λ (x : ℕ). replicate x 0) (sym k))))))
+    (omega arith, (sectors-most (a .g) (p .0), (refl, (blocks-most (a .g) (p .0), (p .1 .0, (p .1 .1 .0, refl))))))
 
 same-length : tie.Need-same-length
 same-length c = search needs
 
 returns : tie.Need-returns
 returns c =
-    let the-mark-names = c .before .before .before .before .mark-names in
-    let a = c .before .before .before .before .before .before .before .before .before .before .before .before .before .before .args in
+    let the-mark-names = c .before .before .before .mark-names in
+    let a = c .before .before .before .before .before .before .before .before .before .args in
     names-fail (a .g) (a .map .now) (a .places .now) (a .numbers .now) (a .tail) (a .number)
-    _ (the-mark-names .result .inside) (the-mark-names .result .count) (the-mark-names .ensures .0, the-mark-names .ensures .1) (c .if1 .taken)
+    (the-mark-names .last .0) (the-mark-names .result .inside) (the-mark-names .result .count) (the-mark-names .ensures .0, the-mark-names .ensures .1) (c .if1 .taken) _
+
+slice-aggregate-count-free : tie.Need-slice-aggregate-count-free
+slice-aggregate-count-free c = search needs
 
 count-free-requires : tie.Need-count-free-requires
 count-free-requires c κs =
-    let the-mark-names = c .before .before .before .before .before .mark-names in
-    let the-zero-bytes = c .before .before .before .before .before .before .before .before .before .zero-bytes in
-    let p = c .before .before .before .before .before .before .before .before .before .before .before .before .before .before .before .pre in
-    let e = p .1 .1 .1 .1 in
-    let k = the-zero-bytes .kept .0 in
-    let m = the-mark-names .kept .0 in
+    let the-mark-names = c .before .before .before .before .mark-names in
+    let a = c .before .before .before .before .before .before .before .before .before .before .args in
+    let p = c .before .before .before .before .before .before .before .before .before .before .pre in
+    let most = sectors-most (a .g) (p .0) in
+    let k = the-mark-names .kept .0 in
     omega arith
 
 add-if2 : tie.Need-add-if2
 add-if2 c =
     let the-count-free = c .before .count-free in
-    let the-mark-names = c .before .before .before .before .before .before .before .mark-names in
-    let a = c .before .before .before .before .before .before .before .before .before .before .before .before .before .before .before .before .before .args in
-    let p = c .before .before .before .before .before .before .before .before .before .before .before .before .before .before .before .before .before .pre in
+    let the-mark-names = c .before .before .before .before .before .before .mark-names in
+    let a = c .before .before .before .before .before .before .before .before .before .before .before .before .args in
+    let p = c .before .before .before .before .before .before .before .before .before .before .before .before .pre in
     let few = the-mark-names .ensures .2 in
     let most = sectors-most (a .g) (p .0) in
     let free = free-few (a .g .n) (the-count-free .result) _ (the-count-free .ensures) in
@@ -56,33 +54,27 @@ add-if2 c =
 add-if2-2 : tie.Need-add-if2-2
 add-if2-2 c =
     let the-count-free = c .before .count-free in
-    let the-mark-names = c .before .before .before .before .before .before .before .mark-names in
-    let a = c .before .before .before .before .before .before .before .before .before .before .before .before .before .before .before .before .before .args in
-    let p = c .before .before .before .before .before .before .before .before .before .before .before .before .before .before .before .before .before .pre in
+    let the-mark-names = c .before .before .before .before .before .before .mark-names in
+    let a = c .before .before .before .before .before .before .before .before .before .before .before .before .args in
+    let p = c .before .before .before .before .before .before .before .before .before .before .before .before .pre in
     let few = the-mark-names .ensures .2 in
     let most = sectors-most (a .g) (p .0) in
     let free = free-few (a .g .n) (the-count-free .result) _ (the-count-free .ensures) in
     omega arith
 
-same-length-2 : tie.Need-same-length-2
-same-length-2 c = search needs
-
 returns-2 : tie.Need-returns-2
 returns-2 c =
     let the-count-free = c .before .before .before .count-free in
     let the-if1 = c .before .before .before .before .before .if1 in
-    let the-mark-names = c .before .before .before .before .before .before .before .before .before .mark-names in
-    let a = c .before .before .before .before .before .before .before .before .before .before .before .before .before .before .before .before .before .before .before .args in
-    let p = c .before .before .before .before .before .before .before .before .before .before .before .before .before .before .before .before .before .before .before .pre in
+    let the-mark-names = c .before .before .before .before .before .before .before .before .mark-names in
+    let a = c .before .before .before .before .before .before .before .before .before .before .before .before .before .before .args in
+    let p = c .before .before .before .before .before .before .before .before .before .before .before .before .before .before .pre in
     let some = sectors-some (a .g) (p .0) in
     twice-fails (a .g) (a .map .now) (a .places .now) (a .numbers .now) (a .tail) (a .number)
-    _ (the-mark-names .result .inside) (the-mark-names .result .count) (the-mark-names .ensures .0, the-mark-names .ensures .1) (the-if1 .left) (omega arith) (the-count-free .result) (the-count-free .ensures) (c .if2 .taken)
+    (the-mark-names .last .0) (the-mark-names .result .inside) (the-mark-names .result .count) (the-mark-names .ensures .0, the-mark-names .ensures .1) (the-if1 .left) (omega arith) (the-count-free .result) (the-count-free .ensures) (c .if2 .taken) _
 
 pieces-for-requires : tie.Need-pieces-for-requires
 pieces-for-requires c κs = search needs
-
-same-length-3 : tie.Need-same-length-3
-same-length-3 c = search needs
 
 returns-3 : tie.Need-returns-3
 returns-3 c =
@@ -90,58 +82,89 @@ returns-3 c =
     let the-if2 = c .before .before .if2 in
     let the-count-free = c .before .before .before .before .before .count-free in
     let the-if1 = c .before .before .before .before .before .before .before .if1 in
-    let the-mark-names = c .before .before .before .before .before .before .before .before .before .before .before .mark-names in
-    let a = c .before .before .before .before .before .before .before .before .before .before .before .before .before .before .before .before .before .before .before .before .before .args in
-    let p = c .before .before .before .before .before .before .before .before .before .before .before .before .before .before .before .before .before .before .before .before .before .pre in
+    let the-mark-names = c .before .before .before .before .before .before .before .before .before .before .mark-names in
+    let a = c .before .before .before .before .before .before .before .before .before .before .before .before .before .before .before .before .args in
+    let p = c .before .before .before .before .before .before .before .before .before .before .before .before .before .before .before .before .pre in
     let some = sectors-some (a .g) (p .0) in
     room-fails (a .g) (a .map .now) (a .places .now) (a .numbers .now) (a .tail) (a .number)
-    _ (the-mark-names .result .inside) (the-mark-names .result .count) (the-mark-names .ensures .0, the-mark-names .ensures .1) (the-if1 .left) (omega arith) (the-count-free .result) (the-count-free .ensures) (the-if2 .left)
-    (the-pieces-for .result) (the-pieces-for .ensures) (c .if3 .taken)
+    (the-mark-names .last .0) (the-mark-names .result .inside) (the-mark-names .result .count) (the-mark-names .ensures .0, the-mark-names .ensures .1) (the-if1 .left) (omega arith) (the-count-free .result) (the-count-free .ensures) (the-if2 .left)
+    (the-pieces-for .result) (the-pieces-for .ensures) (c .if3 .taken) _
 
 numbers-agree-requires : tie.Need-numbers-agree-requires
 numbers-agree-requires c κs =
-    let a = c .before .before .before .before .before .before .before .before .before .before .before .before .before .before .before .before .before .before .before .before .before .args in
-    let p = c .before .before .before .before .before .before .before .before .before .before .before .before .before .before .before .before .before .before .before .before .before .pre in
+    let a = c .before .before .before .before .before .before .before .before .before .before .before .before .before .before .before .before .args in
+    let p = c .before .before .before .before .before .before .before .before .before .before .before .before .before .before .before .before .pre in
     let some = blocks-some (a .g) (p .0) in
     let e = p .1 .1 .1 .0 in
     (omega arith, p .1 .1 .0 ∙ sym e)
 
-same-length-4 : tie.Need-same-length-4
-same-length-4 c = search needs
-
 returns-4 : tie.Need-returns-4
 returns-4 c =
-    let the-numbers-agree = c .numbers-agree in
-    let the-if3 = c .before .if3 in
-    let the-pieces-for = c .before .before .pieces-for in
-    let the-if2 = c .before .before .before .if2 in
-    let the-count-free = c .before .before .before .before .before .before .count-free in
-    let the-if1 = c .before .before .before .before .before .before .before .before .if1 in
+    let the-numbers-agree = c .before .numbers-agree in
+    let the-if3 = c .before .before .if3 in
+    let the-pieces-for = c .before .before .before .pieces-for in
+    let the-if2 = c .before .before .before .before .if2 in
+    let the-count-free = c .before .before .before .before .before .before .before .count-free in
+    let the-if1 = c .before .before .before .before .before .before .before .before .before .if1 in
     let the-mark-names = c .before .before .before .before .before .before .before .before .before .before .before .before .mark-names in
-    let a = c .before .before .before .before .before .before .before .before .before .before .before .before .before .before .before .before .before .before .before .before .before .before .args in
-    let p = c .before .before .before .before .before .before .before .before .before .before .before .before .before .before .before .before .before .before .before .before .before .before .pre in
+    let a = c .before .before .before .before .before .before .before .before .before .before .before .before .before .before .before .before .before .before .args in
+    let p = c .before .before .before .before .before .before .before .before .before .before .before .before .before .before .before .before .before .before .pre in
     let some = sectors-some (a .g) (p .0) in
-    numbers-decide (a .g) (a .map .now) (a .places .now) (a .numbers .now) (a .tail) (a .number)
-    _ (the-mark-names .result .inside) (the-mark-names .result .count) (the-mark-names .ensures .0, the-mark-names .ensures .1) (the-if1 .left) (omega arith) (the-count-free .result) (the-count-free .ensures) (the-if2 .left)
+    numbers-fail (a .g) (a .map .now) (a .places .now) (a .numbers .now) (a .tail) (a .number)
+    (the-mark-names .last .0) (the-mark-names .result .inside) (the-mark-names .result .count) (the-mark-names .ensures .0, the-mark-names .ensures .1) (the-if1 .left) (omega arith) (the-count-free .result) (the-count-free .ensures) (the-if2 .left)
     (the-pieces-for .result) (the-pieces-for .ensures) (the-if3 .left)
-    (the-numbers-agree .result) (length (a .numbers .now)) (p .1 .1 .1 .0) (the-numbers-agree .ensures)
+    (the-numbers-agree .result) (length (a .numbers .now)) (p .1 .1 .1 .0) (the-numbers-agree .ensures) (c .if4 .taken) _
+
+slice-aggregate-take-marks : tie.Need-slice-aggregate-take-marks
+slice-aggregate-take-marks c = search needs
+
+take-marks-requires : tie.Need-take-marks-requires
+take-marks-requires c κs =
+    let the-mark-names = c .before .before .before .before .before .before .before .before .before .before .before .before .before .before .mark-names in
+    let a = c .before .before .before .before .before .before .before .before .before .before .before .before .before .before .before .before .before .before .before .before .args in
+    let p = c .before .before .before .before .before .before .before .before .before .before .before .before .before .before .before .before .before .before .before .before .pre in
+    let most = sectors-most (a .g) (p .0) in
+    let e = p .1 .1 .1 .1 in
+    let k = the-mark-names .kept .0 in
+    omega arith
+
+returns-5 : tie.Need-returns-5
+returns-5 c =
+    let the-take-marks = c .before .before .take-marks in
+    let the-if4 = c .before .before .before .before .before .if4 in
+    let the-numbers-agree = c .before .before .before .before .before .before .numbers-agree in
+    let the-if3 = c .before .before .before .before .before .before .before .if3 in
+    let the-pieces-for = c .before .before .before .before .before .before .before .before .pieces-for in
+    let the-if2 = c .before .before .before .before .before .before .before .before .before .if2 in
+    let the-count-free = c .before .before .before .before .before .before .before .before .before .before .before .before .count-free in
+    let the-if1 = c .before .before .before .before .before .before .before .before .before .before .before .before .before .before .if1 in
+    let the-mark-names = c .before .before .before .before .before .before .before .before .before .before .before .before .before .before .before .before .before .mark-names in
+    let a = c .before .before .before .before .before .before .before .before .before .before .before .before .before .before .before .before .before .before .before .before .before .before .before .args in
+    let p = c .before .before .before .before .before .before .before .before .before .before .before .before .before .before .before .before .before .before .before .before .before .before .before .pre in
+    let some = sectors-some (a .g) (p .0) in
+    numbers-pass (a .g) (a .map .now) (a .places .now) (a .numbers .now) (a .tail) (a .number)
+    (the-mark-names .last .0) (the-mark-names .result .inside) (the-mark-names .result .count) (the-mark-names .ensures .0, the-mark-names .ensures .1) (the-if1 .left) (omega arith) (the-count-free .result) (the-count-free .ensures) (the-if2 .left)
+    (the-pieces-for .result) (the-pieces-for .ensures) (the-if3 .left)
+    (the-numbers-agree .result) (length (a .numbers .now)) (p .1 .1 .1 .0) (the-numbers-agree .ensures) (the-if4 .left)
+    (length (a .used .now)) (p .1 .1 .1 .1) (the-take-marks .last .0) (the-take-marks .ensures)
 
 pub log-agrees-spec : {M : Type 1} → statement M
 log-agrees-spec =
     tie.close
     (tie.spec
-    zero-bytes-requires
+    slice-aggregate-mark-names
     mark-names-requires
-    same-length
     returns
+    slice-aggregate-count-free
     count-free-requires
     add-if2
     add-if2-2
-    same-length-2
     returns-2
     pieces-for-requires
-    same-length-3
     returns-3
     numbers-agree-requires
-    same-length-4
-    returns-4)
+    returns-4
+    slice-aggregate-take-marks
+    take-marks-requires
+    same-length
+    returns-5)
