@@ -11,7 +11,7 @@ ghost use Rattle.volume.specs.Tables.{sectorAt, bitAt};
 ghost use Rattle.signed.specs.Signed.{pieceAt};
 
 // Puts sector k in as the live sector of piece q, if it is newer than the one that stands there.
-pub fn raise(places: &mut [u32], numbers: &mut [u32], q: usize, k: u32, number: u32)
+fn raise(places: &mut [u32], numbers: &mut [u32], q: usize, k: u32, number: u32)
     requires { ⌜ q < length (now places) ⌝ }
     requires { ⌜ q < length (now numbers) ⌝ }
     ensures { λ _. ⌜ (now (places .exit) ≡ cond (ltb (at (now (numbers .entry)) q) number) (set (now (places .entry)) q k) (now (places .entry))) × (now (numbers .exit) ≡ cond (ltb (at (now (numbers .entry)) q) number) (set (now (numbers .entry)) q number) (now (numbers .entry))) ⌝ }

@@ -90,7 +90,7 @@ fn all_from_1(numbers: &[u32]) -> bool
 }
 
 // The index of the greatest number, of equal ones the lowest.
-pub fn newest(numbers: &[u32]) -> usize
+fn newest(numbers: &[u32]) -> usize
     requires { ⌜ 0 < length (now numbers) ⌝ }
     ensures { λ r. ⌜ r ≡ best (at (now (numbers .entry))) (length (now (numbers .entry))) ⌝ }
 {

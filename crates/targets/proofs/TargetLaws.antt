@@ -1,8 +1,8 @@
 -- A target that is read, and the branches of a sector one after the other.
 use Prim.Native.Nat.{ℕ, suc, _+_, _-_, _≤_, _<_}
-use mathlib.Core.Path.{_≡_, refl, sym, _∙_, ap, fun-ext}
+use mathlib.Core.Path.{_≡_, refl, sym, _∙_, ap, subst}
 use mathlib.Core.Logic.{⊎-elim}
-use mathlib.Core.Bool.{Bool, true, false, cond, _&&_}
+use mathlib.Core.Bool.{Bool, true, false, cond}
 use mathlib.Core.List.{List}
 use mathlib.Core.Option.{some}
 use native.Mathlib.Numerals.{add-one}
@@ -10,37 +10,53 @@ use native.Mathlib.Omega.{arith}
 use lib.ListN.{length, set, take, drop, length-set, length-take, length-drop, drop-of-length-le}
 use lib.Seq.{getD-take, drop-cons, length-take-le}
 use lib.Dec.{leb, ltb}
-use borrow.Author.Tests.{eq-eqb, ne-eqb, lt-ltb, leb-true}
+use borrow.Author.Tests.{eq-eqb, ne-eqb, lt-ltb, le-ltb, leb-true}
 use Rattle.geometry.specs.declared.Geometry.{Geometry}
 use Rattle.geometry.specs.Geometry.{within, piecesFor}
-use Rattle.layout.specs.Bounded.{at, all, isZero, updated}
+use Rattle.layout.specs.Bounded.{at, all, updated}
 use Rattle.layout.specs.Word.{wordsOf}
 use Rattle.layout.specs.MapSector.{View, branchWords, fields}
 use Rattle.volume.specs.Commit.{branchesIn}
 use Rattle.volume.specs.Recover.{numberIn, imageView, Walk, waitingNumber, targetWaits, targetsRead}
-use Rattle.laws.proofs.Bounded.{bool?, eq?, and-l, and-r, cond-true, cond-false, at-set, all-at}
+use Rattle.laws.proofs.Bounded.{eq?, and-l, and-r, cond-true, cond-false, at-set, all-at}
 use Rattle.laws.proofs.Words.{length-wordsOf}
 use Rattle.signed.specs.Signed.{isSigned, signedAt, below}
 use Rattle.signed.proofs.ViewLaws.{view-signed, view-unsigned, signed-piece, signed-count, signed-branches}
-use Rattle.targets.specs.Waiting.{walkOf, Waits}
+use Rattle.tournament.specs.Tournament.{ranked, keyAt, Tournament, Replayed, Keyed}
+use Rattle.tournament.proofs.TournamentLaws.{changed-to}
+use Rattle.targets.specs.Waiting.{walkOf, mayWait, Waits}
 
--- Three tests, and what is stored where all pass.
-module _ (a b c : Bool) (old new : List ℕ) where
-  pub first-off : a ≡ false → old ≡ cond (a && b && c) new old
-  first-off e = rw e refl
+-- The tests of a target, one after the other.
+module _ (tree taken : List ℕ) (holder number p : ℕ) where
+  pub late-left : holder ≤ number → false ≡ mayWait tree taken holder number p
+  unfolding mayWait
+  late-left h = rw (le-ltb number holder h) refl
 
-  pub second-off : a ≡ true → b ≡ false → old ≡ cond (a && b && c) new old
-  second-off e f = rw (e, f) refl
+  pub done-left : number < holder → (at taken p ≡ 0 → ⊥) → false ≡ mayWait tree taken holder number p
+  unfolding mayWait
+  done-left h d = rw (lt-ltb number holder h, ne-eqb (at taken p) 0 d) refl
 
-  pub last-left : a ≡ true → b ≡ true → cond c new old ≡ cond (a && b && c) new old
-  last-left e f = rw (e, f) refl
+  pub newer-waits : number < holder → at taken p ≡ 0 → (v : ℕ) → v ≡ keyAt (length taken) tree p → ltb v number ≡ mayWait tree taken holder number p
+  unfolding mayWait
+  newer-waits h z v e = rw (lt-ltb number holder h, eq-eqb (at taken p) 0 z) (ap (λ (x : ℕ). ltb x number) e)
+
+-- The tournament has an entry for each piece.
+pub tournament-of : {pieces : ℕ} {view : View} {waiting tree taken : List ℕ} → Waits pieces view waiting tree taken → Tournament (length taken) tree
+tournament-of {tree = tree} w = subst (λ (n : ℕ). Tournament n tree) (sym (w .takenLong)) (w .keyed .tournament)
+
+-- Another number waits for piece p.
+pub rekeyed : (n pieces p number : ℕ) (key key′ : ℕ → ℕ) (tree tree′ : List ℕ) → n ≡ pieces → pieces ≤ 256 → p < pieces → length tree ≡ 512
+    → Keyed pieces key tree → Replayed n (set tree (n + p) (ranked n p number)) tree′ → ((j : ℕ) → j < pieces → updated key p number j ≡ key′ j)
+    → Keyed pieces key′ tree′
+rekeyed n pieces p number key key′ tree tree′ e few inside room s r same =
+    changed-to pieces p number tree tree′ few inside room (subst (λ (x : ℕ). Replayed x (set tree (x + p) (ranked x p number)) tree′) e r) key key′ s same
 
 -- A sector of an image, signed or not.
 pub signed-here : (g : Geometry) (image : ℕ → List ℕ) (k : ℕ) (r v : Bool) → k < g .n → r ≡ isSigned g image k → r ≡ v → signedAt g image k ≡ v
 unfolding signedAt below
 signed-here g image k r v h e f = rw (lt-ltb k (g .n) h) (sym e ∙ f)
 
-module _ (g : Geometry) (image : ℕ → List ℕ) (holder : ℕ) (waiting numbers taken : List ℕ) (w : Waits (piecesFor (g .l)) (imageView g image) waiting numbers taken)
+module _ (g : Geometry) (image : ℕ → List ℕ) (holder : ℕ) (waiting tree taken : List ℕ) (w : Waits (piecesFor (g .l)) (imageView g image) waiting tree taken)
     (target : ℕ) where
   abbrev view : View
   view = imageView g image
@@ -49,7 +65,7 @@ module _ (g : Geometry) (image : ℕ → List ℕ) (holder : ℕ) (waiting numbe
   unfolding targetWaits
   target-unsigned e = sym (ap (targetWaits view holder (walkOf waiting taken) target) (view-unsigned g image target e))
 
-  -- A signed target, offered.
+  -- A signed target.
   module _ (low : 1 ≤ target) (e : signedAt g image target ≡ true) (s : List ℕ) (is : s ≡ image target) (number p : ℕ) (num : number ≡ at (wordsOf s) 2)
       (piece : p ≡ at (wordsOf s) 4) where
     pub piece-inside : p < piecesFor (g .l)
@@ -59,63 +75,56 @@ module _ (g : Geometry) (image : ℕ → List ℕ) (holder : ℕ) (waiting numbe
     says = view-signed g image target e ∙ ap (λ (x : List ℕ). some (fields (wordsOf x))) (sym is)
 
     abbrev waits? : Bool
-    waits? = ltb number holder && isZero (at taken p) && ltb (at numbers p) number
+    waits? = mayWait tree taken holder number p
 
     next : Walk
     next = record { waiting = updated (at waiting) p target; taken = at taken }
 
+    before-is : keyAt (length taken) tree p ≡ waitingNumber view (walkOf waiting taken) p
+    before-is = ap (λ (n : ℕ). keyAt n tree p) (w .takenLong) ∙ w .keyed .keys p piece-inside
+
     read-is : targetWaits view holder (walkOf waiting taken) target (view target) ≡ cond waits? next (walkOf waiting taken)
-    unfolding targetWaits next
+    unfolding targetWaits next mayWait
     read-is =
         ap (targetWaits view holder (walkOf waiting taken) target) says
-        ∙ rw (sym num, sym piece, sym (ap (λ (f : ℕ → ℕ). f p) (w .keys))) refl
+        ∙ rw (sym num, sym piece, sym before-is) refl
+
+    pub target-left : (r : Bool) → r ≡ waits? → r ≡ false → walkOf waiting taken ≡ targetWaits view holder (walkOf waiting taken) target (view target)
+    target-left r f t = sym (read-is ∙ cond-false waits? next (walkOf waiting taken) (sym f ∙ t))
 
     number-is : numberIn (view target) ≡ number
     unfolding numberIn
     number-is = ap numberIn says ∙ sym num
 
     -- The numbers of what waits, with the target in its place.
-    keys-next : updated (at numbers) p number ≡ waitingNumber view next
+    keys-next : (j : ℕ) → updated (waitingNumber view (walkOf waiting taken)) p number j ≡ waitingNumber view next j
     unfolding next
-    keys-next =
-        fun-ext (λ j.
+    keys-next j =
         ⊎-elim (λ (z : j ≡ p).
         rw (eq-eqb j p z, ne-eqb target 0 (λ (y : target ≡ 0). omega arith)) (sym number-is))
-        (λ (d : j ≡ p → ⊥). rw (ne-eqb j p d) (ap (λ (f : ℕ → ℕ). f j) (w .keys))) (eq? j p))
+        (λ (d : j ≡ p → ⊥). rw (ne-eqb j p d) refl) (eq? j p)
 
-    module _ (waiting′ numbers′ : List ℕ) (f : waiting′ ≡ cond waits? (set waiting p target) waiting) (u : numbers′ ≡ cond waits? (set numbers p number) numbers) where
-      abbrev Result : Type 0
-      Result = (walkOf waiting′ taken ≡ targetWaits view holder (walkOf waiting taken) target (view target)) × Waits (piecesFor (g .l)) view waiting′ numbers′ taken
-
-      on : waits? ≡ true → Result
-      unfolding next
-      on t =
-          let i = piece-inside in
-          let wl = w .waitingLong in
-          let nl = w .numbersLong in
-          let a : waiting′ ≡ set waiting p target = f ∙ cond-true waits? (set waiting p target) waiting t in
-          let b : numbers′ ≡ set numbers p number = u ∙ cond-true waits? (set numbers p number) numbers t in
-          let c : at waiting′ ≡ updated (at waiting) p target = ap (λ (xs : List ℕ). at xs) a ∙ at-set waiting p target (omega arith) in
-          let same : walkOf waiting′ taken ≡ next = ap (λ (h : ℕ → ℕ). record { waiting = h; taken = at taken }) c in (
-            same ∙ sym (read-is ∙ cond-true waits? next (walkOf waiting taken) t),
-            record {
-              waitingLong = ap length a ∙ length-set waiting p target ∙ wl;
-              numbersLong = ap length b ∙ length-set numbers p number ∙ nl;
-              takenLong = w .takenLong;
-              keys = ap (λ (xs : List ℕ). at xs) b ∙ at-set numbers p number (omega arith) ∙ keys-next ∙ ap (waitingNumber view) (sym same);
-            },
-          )
-
-      off : waits? ≡ false → Result
-      off t =
-          let a : waiting′ ≡ waiting = f ∙ cond-false waits? (set waiting p target) waiting t in
-          let b : numbers′ ≡ numbers = u ∙ cond-false waits? (set numbers p number) numbers t in (
-            ap (λ (xs : List ℕ). walkOf xs taken) a ∙ sym (read-is ∙ cond-false waits? next (walkOf waiting taken) t),
-            rw (a, b) w,
-          )
-
-      pub target-offered : Result
-      target-offered = ⊎-elim on off (bool? waits?)
+    pub target-put : (r : Bool) → r ≡ waits? → r ≡ true → (tree′ : List ℕ) → length tree′ ≡ length tree
+        → Replayed (length taken) (set tree (length taken + p) (ranked (length taken) p number)) tree′
+        → (walkOf (set waiting p target) taken ≡ targetWaits view holder (walkOf waiting taken) target (view target))
+        × Waits (piecesFor (g .l)) view (set waiting p target) tree′ taken
+    unfolding next
+    target-put r f t tree′ long replayed =
+        let i = piece-inside in
+        let wl = w .waitingLong in
+        let same : walkOf (set waiting p target) taken ≡ next =
+        ap (λ (h : ℕ → ℕ). record { waiting = h; taken = at taken }) (at-set waiting p target (omega arith)) in (
+          same ∙ sym (read-is ∙ cond-true waits? next (walkOf waiting taken) (sym f ∙ t)),
+          record {
+            few = w .few;
+            waitingLong = length-set waiting p target ∙ wl;
+            treeLong = long ∙ w .treeLong;
+            takenLong = w .takenLong;
+            keyed = rekeyed (length taken) (piecesFor (g .l)) p number (waitingNumber view (walkOf waiting taken)) (waitingNumber view (walkOf (set waiting p target) taken))
+                tree tree′ (w .takenLong) (w .few) i (w .treeLong) (w .keyed) replayed
+                (λ j h. keys-next j ∙ ap (λ (x : Walk). waitingNumber view x j) (sym same));
+          },
+        )
 
 -- The branches of a signed sector.
 module _ (g : Geometry) (image : ℕ → List ℕ) (k : ℕ) (e : signedAt g image k ≡ true) (size : length (image k) ≡ 512) (s : List ℕ) (is : s ≡ image k) where

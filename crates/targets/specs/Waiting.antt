@@ -1,14 +1,16 @@
 -- The walk as the arrays of the code hold it: what is known of the sectors met, and what waits.
 use Prim.Native.Nat.{ℕ, _*_, _≤_}
 use mathlib.Core.Path.{_≡_}
-use mathlib.Core.Bool.{_&&_}
+use mathlib.Core.Bool.{Bool, _&&_}
 use mathlib.Core.List.{List}
 use lib.ListN.{length}
+use lib.Dec.{ltb}
 use Rattle.geometry.specs.declared.Geometry.{Geometry}
-use Rattle.layout.specs.Bounded.{at}
+use Rattle.layout.specs.Bounded.{at, isZero}
 use Rattle.layout.specs.MapSector.{View}
 use Rattle.volume.specs.Tables.{bitAt}
 use Rattle.volume.specs.Recover.{Walk, waitingNumber}
+use Rattle.tournament.specs.Tournament.{keyAt, Keyed}
 use Rattle.signed.specs.Signed.{isSigned}
 
 -- Of the sectors seen so far it is known which are signed.
@@ -21,9 +23,14 @@ pub record Known (g : Geometry) (image : ℕ → List ℕ) (seen good : List ℕ
 abbrev pub walkOf : List ℕ → List ℕ → Walk
 walkOf waiting taken = record { waiting = at waiting; taken = at taken }
 
--- With what waits stand its numbers.
-pub record Waits (pieces : ℕ) (view : View) (waiting numbers taken : List ℕ) : Type 0 where
+-- Whether a signed target of this number and piece waits, the numbers of what waits being the keys of a tournament.
+unfoldable pub mayWait : List ℕ → List ℕ → ℕ → ℕ → ℕ → Bool
+mayWait tree taken holder number p = ltb number holder && isZero (at taken p) && ltb (keyAt (length taken) tree p) number
+
+-- With what waits stands a tournament of its numbers.
+pub record Waits (pieces : ℕ) (view : View) (waiting tree taken : List ℕ) : Type 0 where
+  pub few : pieces ≤ 256
   pub waitingLong : length waiting ≡ pieces
-  pub numbersLong : length numbers ≡ pieces
+  pub treeLong : length tree ≡ 512
   pub takenLong : length taken ≡ pieces
-  pub keys : at numbers ≡ waitingNumber view (walkOf waiting taken)
+  pub keyed : Keyed pieces (waitingNumber view (walkOf waiting taken)) tree

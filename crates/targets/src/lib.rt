@@ -1,18 +1,15 @@
 // The targets that a walk reads: whether a sector is signed, and which sector then waits.
 ghost use mathlib.Core.Path.{_≡_};
-ghost use mathlib.Core.Bool.{true, cond, _&&_};
+ghost use mathlib.Core.Bool.{true};
 ghost use Prim.Native.Nat.{_*_, _<_, _≤_};
-ghost use lib.ListN.{length, set};
-ghost use lib.Dec.{ltb};
+ghost use lib.ListN.{length};
 ghost use Rattle.geometry.specs.Geometry.{sectorBytes, piecesFor};
-ghost use Rattle.layout.specs.Bounded.{at, isZero};
 ghost use Rattle.volume.specs.Tables.{sectorAt};
 ghost use Rattle.volume.specs.Commit.{branchesIn};
 ghost use Rattle.volume.specs.Recover.{imageView, numberIn, targetWaits, targetsRead};
 ghost use Rattle.signed.specs.Signed.{isSigned, signedAt};
-ghost use Rattle.targets.specs.Waiting.{Known, walkOf, Waits};
+ghost use Rattle.targets.specs.Waiting.{Known, walkOf, mayWait, Waits};
 use geometry::Geometry;
-use log_tables::live;
 
 // Whether sector k is signed. That is found when it is first seen, and kept.
 fn is_signed(seen: &mut [u8], good: &mut [u8], image: &[u8], g: Geometry, k: u32) -> bool
@@ -33,28 +30,20 @@ fn is_signed(seen: &mut [u8], good: &mut [u8], image: &[u8], g: Geometry, k: u32
     true
 }
 
-// A signed target waits if it is lower in number than the holder, of a piece not done, and newer than what waits for the piece.
-fn offer(
-    waiting: &mut [u32],
-    numbers: &mut [u32],
-    taken: &[u32],
-    holder: u32,
-    target: u32,
-    number: u32,
-    p: usize,
-)
-    requires { ⌜ p < length (now waiting) ⌝ }
-    requires { ⌜ p < length (now numbers) ⌝ }
+// Whether a signed target waits: it is lower in number than the holder, of a piece not done, and newer than what waits for the piece.
+fn may_wait(tree: &[u64], taken: &[u32], holder: u32, number: u32, p: usize) -> bool
+    requires { ⌜ length (now tree) ≡ 512 ⌝ }
+    requires { ⌜ length (now taken) ≤ 256 ⌝ }
     requires { ⌜ p < length (now taken) ⌝ }
-    ensures { λ _. ⌜ (now (waiting .exit) ≡ cond (ltb number holder && isZero (at (now (taken .entry)) p) && ltb (at (now (numbers .entry)) p) number) (set (now (waiting .entry)) p target) (now (waiting .entry))) × (now (numbers .exit) ≡ cond (ltb number holder && isZero (at (now (taken .entry)) p) && ltb (at (now (numbers .entry)) p) number) (set (now (numbers .entry)) p number) (now (numbers .entry))) ⌝ }
+    ensures { λ r. ⌜ r ≡ mayWait (now (tree .entry)) (now (taken .entry)) holder number p ⌝ }
 {
     if holder <= number {
-        return;
+        return false;
     }
     if taken[p] != 0 {
-        return;
+        return false;
     }
-    live::raise(waiting, numbers, p, target, number);
+    tournament::key_of(tree, taken.len(), p) < number as u64
 }
 
 // Reads a target.
@@ -62,7 +51,7 @@ fn read_target(
     seen: &mut [u8],
     good: &mut [u8],
     waiting: &mut [u32],
-    numbers: &mut [u32],
+    tree: &mut [u64],
     taken: &[u32],
     image: &[u8],
     g: Geometry,
@@ -73,22 +62,20 @@ fn read_target(
     requires { ⌜ 1 ≤ target ⌝ }
     requires { ⌜ target < g .n ⌝ }
     requires { ⌜ Known g (sectorAt (now image)) (now seen) (now good) ⌝ }
-    requires { ⌜ Waits (piecesFor (g .l)) (imageView g (sectorAt (now image))) (now waiting) (now numbers) (now taken) ⌝ }
-    ensures { λ _. ⌜ (walkOf (now (waiting .exit)) (now (taken .entry)) ≡ targetWaits (imageView g (sectorAt (now (image .entry)))) holder (walkOf (now (waiting .entry)) (now (taken .entry))) target (imageView g (sectorAt (now (image .entry))) target)) × Known g (sectorAt (now (image .entry))) (now (seen .exit)) (now (good .exit)) × Waits (piecesFor (g .l)) (imageView g (sectorAt (now (image .entry)))) (now (waiting .exit)) (now (numbers .exit)) (now (taken .entry)) ⌝ }
+    requires { ⌜ Waits (piecesFor (g .l)) (imageView g (sectorAt (now image))) (now waiting) (now tree) (now taken) ⌝ }
+    ensures { λ _. ⌜ (walkOf (now (waiting .exit)) (now (taken .entry)) ≡ targetWaits (imageView g (sectorAt (now (image .entry)))) holder (walkOf (now (waiting .entry)) (now (taken .entry))) target (imageView g (sectorAt (now (image .entry))) target)) × Known g (sectorAt (now (image .entry))) (now (seen .exit)) (now (good .exit)) × Waits (piecesFor (g .l)) (imageView g (sectorAt (now (image .entry)))) (now (waiting .exit)) (now (tree .exit)) (now (taken .entry)) ⌝ }
 {
     if !is_signed(seen, good, image, g, target) {
         return;
     }
     let s = images::sector(image, target as usize);
-    offer(
-        waiting,
-        numbers,
-        taken,
-        holder,
-        target,
-        map_sector::number_of(s),
-        map_sector::piece_of(s) as usize,
-    );
+    let number = map_sector::number_of(s);
+    let p = map_sector::piece_of(s) as usize;
+    if !may_wait(tree, taken, holder, number, p) {
+        return;
+    }
+    waiting[p] = target;
+    tournament::change(tree, taken.len(), p, number);
 }
 
 // Reads the branches of sector k, in their order.
@@ -96,7 +83,7 @@ pub fn read_targets(
     seen: &mut [u8],
     good: &mut [u8],
     waiting: &mut [u32],
-    numbers: &mut [u32],
+    tree: &mut [u64],
     taken: &[u32],
     image: &[u8],
     g: Geometry,
@@ -105,8 +92,8 @@ pub fn read_targets(
     requires { ⌜ length (now image) ≡ sectorBytes * g .n ⌝ }
     requires { ⌜ signedAt g (sectorAt (now image)) k ≡ true ⌝ }
     requires { ⌜ Known g (sectorAt (now image)) (now seen) (now good) ⌝ }
-    requires { ⌜ Waits (piecesFor (g .l)) (imageView g (sectorAt (now image))) (now waiting) (now numbers) (now taken) ⌝ }
-    ensures { λ _. ⌜ (walkOf (now (waiting .exit)) (now (taken .entry)) ≡ targetsRead (imageView g (sectorAt (now (image .entry)))) (numberIn (imageView g (sectorAt (now (image .entry))) k)) (walkOf (now (waiting .entry)) (now (taken .entry))) (branchesIn (imageView g (sectorAt (now (image .entry))) k))) × Known g (sectorAt (now (image .entry))) (now (seen .exit)) (now (good .exit)) × Waits (piecesFor (g .l)) (imageView g (sectorAt (now (image .entry)))) (now (waiting .exit)) (now (numbers .exit)) (now (taken .entry)) ⌝ }
+    requires { ⌜ Waits (piecesFor (g .l)) (imageView g (sectorAt (now image))) (now waiting) (now tree) (now taken) ⌝ }
+    ensures { λ _. ⌜ (walkOf (now (waiting .exit)) (now (taken .entry)) ≡ targetsRead (imageView g (sectorAt (now (image .entry)))) (numberIn (imageView g (sectorAt (now (image .entry))) k)) (walkOf (now (waiting .entry)) (now (taken .entry))) (branchesIn (imageView g (sectorAt (now (image .entry))) k))) × Known g (sectorAt (now (image .entry))) (now (seen .exit)) (now (good .exit)) × Waits (piecesFor (g .l)) (imageView g (sectorAt (now (image .entry)))) (now (waiting .exit)) (now (tree .exit)) (now (taken .entry)) ⌝ }
 {
     let s = images::sector(image, k as usize);
     let holder = map_sector::number_of(s);
@@ -114,17 +101,7 @@ pub fn read_targets(
     let mut i = 0;
     while i < count {
         let target = map_sector::branch_at(s, i);
-        read_target(
-            seen,
-            good,
-            waiting,
-            numbers,
-            taken,
-            image,
-            g,
-            holder,
-            target,
-        );
+        read_target(seen, good, waiting, tree, taken, image, g, holder, target);
         i += 1;
     }
 }

@@ -8,10 +8,10 @@ use native.Mathlib.Nat.{not-suc-le-zero}
 use native.Mathlib.Omega.{arith}
 use lib.ListN.{length, set, length-set}
 use lib.Seq.{getD-set-same, getD-set-other}
-use lib.Dec.{ltb}
-use borrow.Author.Tests.{lt-ltb, le-ltb}
-use Rattle.layout.specs.Bounded.{at, best}
-use Rattle.laws.proofs.Bounded.{lt?, eq?, best-most, best-below}
+use lib.Dec.{eqb, ltb}
+use borrow.Author.Tests.{lt-ltb, le-ltb, eq-eqb, ne-eqb}
+use Rattle.layout.specs.Bounded.{at, best, updated}
+use Rattle.laws.proofs.Bounded.{lt?, eq?, cond-true, cond-false, best-most, best-below}
 use Rattle.tournament.specs.Tournament.{greater, ranked, keyAt, firstStruck, below, Played, Tournament, Replayed, Keyed}
 
 -- The greater of two.
@@ -128,11 +128,52 @@ module _ (n : ℕ) (before : List ℕ) where
   pub descended-down : (t : List ℕ) (k : ℕ) → k ≤ 1 → Descended t k → Replayed n before t
   descended-down t k h c = record { played = λ i l b. c .done i l (omega arith) b; kept = c .kept }
 
--- The entry changed is the first one.
-pub struck-replay : (n q : ℕ) (t t′ : List ℕ) {t″ : List ℕ} → q ≡ best (keyAt n t) n → t′ ≡ set t (n + q) (ranked n q 0) → Replayed n t′ t″
-    → Replayed n (firstStruck n t) t″
-struck-replay n q t t′ {t″} e f r =
-    subst (λ (x : ℕ). Replayed n (set t (n + x) (ranked n x 0)) t″) e (subst (λ (x : List ℕ). Replayed n x t″) f r)
+-- One entry changed. Only the match that it plays first may be wrong then.
+pub others-played : (n q v : ℕ) (t t′ : List ℕ) → t′ ≡ set t (n + q) v → ((k : ℕ) → 1 ≤ k → k < n → Played t k)
+    → (k : ℕ) → 1 ≤ k → k < n → (k ≡ (n + q) / 2 → ⊥) → Played t′ k
+others-played n q v t t′ e played k l h d =
+    subst (λ (x : List ℕ). Played x k) (sym e) (played-still t (n + q) v k (λ (z : k ≡ n + q). omega arith) d (played k l h))
+
+pub changed-replay : (n q v : ℕ) (t t′ : List ℕ) {t″ : List ℕ} → t′ ≡ set t (n + q) v → Replayed n t′ t″ → Replayed n (set t (n + q) v) t″
+changed-replay n q v t t′ {t″} e r = subst (λ (x : List ℕ). Replayed n x t″) e r
+
+-- Its matches are played anew.
+module _ (n q k : ℕ) (t t′ : List ℕ) (few : n ≤ 256) (inside : q < n) (room : length t ≡ 512) (replayed : Replayed n (set t (n + q) (ranked n q k)) t′) where
+  changed-at : (r : ℕ) → ((r ≡ q) × (at t′ (n + r) ≡ ranked n q k)) ⊎ ((r ≡ q → ⊥) × (at t′ (n + r) ≡ at t (n + r)))
+  changed-at r =
+      let kept = replayed .kept (n + r) (omega arith) in
+      ⊎-elim (λ (z : r ≡ q).
+      inl (z, kept ∙ ap (λ (x : ℕ). at (set t (n + q) (ranked n q k)) (n + x)) z ∙ getD-set-same t (n + q) (ranked n q k) 0 (omega arith)))
+      (λ (z : r ≡ q → ⊥). inr (z, kept ∙ getD-set-other t (n + q) (n + r) (ranked n q k) 0 (λ (e : n + r ≡ n + q). z (omega arith))))
+      (eq? r q)
+
+  changed : (key : ℕ → ℕ) → Keyed n key t → Keyed n (updated key q k) t′
+  unfolding keyAt
+  changed key s =
+      record {
+        tournament = record {
+          played = replayed .played;
+          entered = λ r h.
+              ⊎-elim (λ w. let z = w .0 in let e = w .1 in omega arith)
+              (λ w. let e = w .1 in let b = s .tournament .entered r h in omega arith) (changed-at r);
+        };
+        keys = λ r h.
+            ⊎-elim (λ w.
+            let e = w .1 in
+            let x : at t′ (n + r) / 256 ≡ k = omega arith in
+            x ∙ sym (cond-true (eqb r q) k (key r) (eq-eqb r q (w .0))))
+            (λ w. ap (λ (x : ℕ). x / 256) (w .1) ∙ s .keys r h ∙ sym (cond-false (eqb r q) k (key r) (ne-eqb r q (w .0)))) (changed-at r);
+      }
+
+  pub changed-to : (key key′ : ℕ → ℕ) → Keyed n key t → ((r : ℕ) → r < n → updated key q k r ≡ key′ r) → Keyed n key′ t′
+  changed-to key key′ s same =
+      let c = changed key s in
+      record { tournament = c .tournament; keys = λ r h. c .keys r h ∙ same r h }
+
+-- It is the first one.
+pub struck-replay : (n q : ℕ) (t : List ℕ) {t′ : List ℕ} → q ≡ best (keyAt n t) n → Replayed n (set t (n + q) (ranked n q 0)) t′
+    → Replayed n (firstStruck n t) t′
+struck-replay n q t {t′} e r = subst (λ (x : ℕ). Replayed n (set t (n + x) (ranked n x 0)) t′) e r
 
 -- The greatest key, of equal ones the lowest.
 module _ (key : ℕ → ℕ) where
@@ -237,14 +278,8 @@ module _ (n : ℕ) (t : List ℕ) (few : n ≤ 256) (some : 0 < n) (tournament :
     struck-at : (r : ℕ) → r < n
         → ((r ≡ best (keyAt n t) n) × (at t′ (n + r) ≡ n - 1 - r)) ⊎ ((r ≡ best (keyAt n t) n → ⊥) × (at t′ (n + r) ≡ at t (n + r)))
     struck-at r h =
-        let q = best (keyAt n t) n in
-        let k = struck .kept (n + r) (omega arith) in
-        ⊎-elim (λ (z : r ≡ q).
-        let e = getD-set-same t (n + q) (ranked n q 0) 0 (omega arith) in
-        let s : at t′ (n + r) ≡ ranked n q 0 = k ∙ ap (at (set t (n + q) (ranked n q 0))) (ap (λ (x : ℕ). n + x) z) ∙ e in
-        inl (z, omega arith))
-        (λ (z : r ≡ q → ⊥). inr (z, k ∙ getD-set-other t (n + q) (n + r) (ranked n q 0) 0 (λ (e : n + r ≡ n + q). z (omega arith))))
-        (eq? r q)
+        ⊎-elim (λ w. let z = w .0 in let e = w .1 in inl (z, omega arith)) inr
+        (changed-at n (best (keyAt n t) n) 0 t t′ few (best-below (keyAt n t) n some) room struck r)
 
     still : Tournament n t′
     still =

@@ -1,5 +1,5 @@
 // Keys in falling order without a look at all of them for each: a tournament of at most 256 entries, in which the greater of two
-// goes on. When the first is struck out, only its own matches, at most eight, are played anew.
+// goes on. When an entry changes, only its own matches, at most eight, are played anew.
 ghost use mathlib.Core.Path.{_≡_};
 ghost use Prim.Native.Nat.{ℕ, _+_, _*_, _-_, _/_, _%_, _≤_, _<_};
 ghost use lib.ListN.{length, set};
@@ -72,6 +72,42 @@ pub fn enter(tree: &mut [u64], n: usize, q: usize, key: u32)
     tree[n + q] = 256 * (key as u64) + (n - 1 - q) as u64;
 }
 
+// Makes every key 0.
+pub fn start(tree: &mut [u64], n: usize)
+    requires { ⌜ length (now tree) ≡ 512 ⌝ }
+    requires { ⌜ n ≤ 256 ⌝ }
+    ensures { λ _. ⌜ Keyed n (λ _. 0) (now (tree .exit)) ⌝ }
+{
+    let mut q = 0;
+    while q < n {
+        enter(tree, n, q, 0);
+        q += 1;
+    }
+    play_all(tree, n);
+}
+
+// Makes entry q hold another key, and plays its matches anew.
+pub fn change(tree: &mut [u64], n: usize, q: usize, key: u32)
+    requires { ⌜ length (now tree) ≡ 512 ⌝ }
+    requires { ⌜ n ≤ 256 ⌝ }
+    requires { ⌜ q < n ⌝ }
+    requires { ⌜ Tournament n (now tree) ⌝ }
+    ensures { λ _. ⌜ Replayed n (set (now (tree .entry)) (n + q) (ranked n q key)) (now (tree .exit)) ⌝ }
+{
+    enter(tree, n, q, key);
+    replay(tree, n, q);
+}
+
+// The key that entry q holds.
+pub fn key_of(tree: &[u64], n: usize, q: usize) -> u64
+    requires { ⌜ length (now tree) ≡ 512 ⌝ }
+    requires { ⌜ n ≤ 256 ⌝ }
+    requires { ⌜ q < n ⌝ }
+    ensures { λ r. ⌜ r ≡ keyAt n (now (tree .entry)) q ⌝ }
+{
+    tree[n + q] / 256
+}
+
 // The entry with the greatest key, of equal ones the lowest.
 pub fn first(tree: &[u64], n: usize) -> usize
     requires { ⌜ length (now tree) ≡ 512 ⌝ }
@@ -92,8 +128,7 @@ fn strike_first(tree: &mut [u64], n: usize)
     ensures { λ _. ⌜ Replayed n (firstStruck n (now (tree .entry))) (now (tree .exit)) ⌝ }
 {
     let q = first(tree, n);
-    enter(tree, n, q, 0);
-    replay(tree, n, q);
+    change(tree, n, q, 0);
 }
 
 // Strikes out every entry whose key is not below the bound.

@@ -1,5 +1,5 @@
 -- The steps of a walk, and the sectors that it takes.
-use Prim.Native.Nat.{ℕ, zero, suc, _+_, _-_, _≤_, _<_}
+use Prim.Native.Nat.{ℕ, zero, suc, _+_, _≤_, _<_}
 use mathlib.Core.Path.{_≡_, refl, sym, _∙_, ap, subst, fun-ext}
 use mathlib.Core.Logic.{⊎-elim}
 use mathlib.Core.Bool.{Bool, true, false, cond, _&&_}
@@ -21,12 +21,14 @@ use Rattle.volume.specs.Commit.{branchesIn}
 use Rattle.volume.specs.Recover.{numberIn, pieceIn, imageView, Walk, waitingNumber, targetWaits, targetsRead, walkStep, walkedFor, walkFrom}
 use Rattle.laws.proofs.Filling.{zeros-get}
 use Rattle.laws.proofs.Bounded.{bool?, eq?, cond-true, cond-false, length-listFrom, best-below, at-set}
+use Rattle.tournament.specs.Tournament.{ranked, keyAt, Replayed, Keyed}
+use Rattle.tournament.proofs.TournamentLaws.{keyed-first}
 use Rattle.signed.specs.Signed.{below, isSigned, signedAt}
 use Rattle.signed.proofs.SignedLaws.{marks-none}
 use Rattle.signed.proofs.Newest.{listed}
 use Rattle.signed.proofs.ViewLaws.{view-signed, view-unsigned, signed-piece}
 use Rattle.targets.specs.Waiting.{Known, walkOf, Waits}
-use Rattle.targets.proofs.TargetLaws.{}
+use Rattle.targets.proofs.TargetLaws.{rekeyed}
 
 -- A sector with a number is signed.
 pub number-signed : (g : Geometry) (image : ℕ → List ℕ) (k : ℕ) → (numberIn (imageView g image k) ≡ 0 → ⊥) → signedAt g image k ≡ true
@@ -35,8 +37,8 @@ number-signed g image k d =
     ⊎-elim (λ (z : signedAt g image k ≡ true). z)
     (λ (z : signedAt g image k ≡ false). absurd (d (ap numberIn (view-unsigned g image k z)))) (bool? (signedAt g image k))
 
-module _ (g : Geometry) (image : ℕ → List ℕ) (waiting numbers taken : List ℕ) (w : Waits (piecesFor (g .l)) (imageView g image) waiting numbers taken) (pos : 0 < piecesFor (g .l))
-    (p : ℕ) (newest : p ≡ best (at numbers) (length numbers)) where
+module _ (g : Geometry) (image : ℕ → List ℕ) (waiting tree taken : List ℕ) (w : Waits (piecesFor (g .l)) (imageView g image) waiting tree taken) (pos : 0 < piecesFor (g .l))
+    (p : ℕ) (newest : p ≡ best (keyAt (length taken) tree) (length taken)) (number : ℕ) (key : number ≡ keyAt (length taken) tree p) where
   abbrev view : View
   view = imageView g image
 
@@ -44,13 +46,13 @@ module _ (g : Geometry) (image : ℕ → List ℕ) (waiting numbers taken : List
   now = walkOf waiting taken
 
   p-is : p ≡ best (waitingNumber view now) (piecesFor (g .l))
-  p-is = newest ∙ ap (best (at numbers)) (w .numbersLong) ∙ ap (λ (f : ℕ → ℕ). best f (piecesFor (g .l))) (w .keys)
+  p-is = newest ∙ ap (λ (n : ℕ). best (keyAt n tree) n) (w .takenLong) ∙ keyed-first (piecesFor (g .l)) (waitingNumber view now) tree (w .keyed) pos
 
-  pub newest-inside : p < piecesFor (g .l)
+  newest-inside : p < piecesFor (g .l)
   newest-inside = subst (λ (x : ℕ). x < piecesFor (g .l)) (sym p-is) (best-below (waitingNumber view now) (piecesFor (g .l)) pos)
 
-  key-is : at numbers p ≡ waitingNumber view now p
-  key-is = ap (λ (f : ℕ → ℕ). f p) (w .keys)
+  key-is : number ≡ waitingNumber view now p
+  key-is = key ∙ ap (λ (n : ℕ). keyAt n tree p) (w .takenLong) ∙ w .keyed .keys p newest-inside
 
   after : ℕ → Walk
   after q =
@@ -61,38 +63,41 @@ module _ (g : Geometry) (image : ℕ → List ℕ) (waiting numbers taken : List
   unfolding walkStep after
   step-is = ap (λ (q : ℕ). cond (isZero (waitingNumber view now q)) now (after q)) (sym p-is)
 
-  pub step-none : at numbers p ≡ 0 → now ≡ walkStep (piecesFor (g .l)) view now
+  pub step-none : number ≡ 0 → now ≡ walkStep (piecesFor (g .l)) view now
   step-none z = sym (step-is ∙ cond-true (isZero (waitingNumber view now p)) now (after p) (eq-eqb (waitingNumber view now p) 0 (sym key-is ∙ z)))
 
   -- What waits as the newest, and its number.
-  module _ (d : at numbers p ≡ 0 → ⊥) where
+  module _ (d : number ≡ 0 → ⊥) where
     waits : at waiting p ≡ 0 → ⊥
     waits z = d (key-is ∙ cond-true (isZero (at waiting p)) 0 (numberIn (view (at waiting p))) (eq-eqb (at waiting p) 0 z))
 
-    number-is : at numbers p ≡ numberIn (view (at waiting p))
+    number-is : number ≡ numberIn (view (at waiting p))
     number-is = key-is ∙ cond-false (isZero (at waiting p)) 0 (numberIn (view (at waiting p))) (ne-eqb (at waiting p) 0 waits)
 
     pub newest-signed : signedAt g image (at waiting p) ≡ true
     newest-signed = number-signed g image (at waiting p) (λ (z : numberIn (view (at waiting p)) ≡ 0). d (number-is ∙ z))
 
     -- Once taken, it no longer waits.
-    pub done-waits : Waits (piecesFor (g .l)) view (set waiting p 0) (set numbers p 0) (set taken p (at waiting p))
-    done-waits =
+    pub done-waits : (tree′ : List ℕ) → length tree′ ≡ length tree
+        → Replayed (length taken) (set tree (length taken + p) (ranked (length taken) p 0)) tree′
+        → Waits (piecesFor (g .l)) view (set waiting p 0) tree′ (set taken p (at waiting p))
+    done-waits tree′ long replayed =
         let i = newest-inside in
         let a = w .waitingLong in
-        let b = w .numbersLong in
         record {
+          few = w .few;
           waitingLong = length-set waiting p 0 ∙ a;
-          numbersLong = length-set numbers p 0 ∙ b;
+          treeLong = long ∙ w .treeLong;
           takenLong = length-set taken p (at waiting p) ∙ w .takenLong;
-          keys = at-set numbers p 0 (omega arith)
-              ∙ fun-ext (λ j.
+          keyed = rekeyed (length taken) (piecesFor (g .l)) p 0 (waitingNumber view now) (waitingNumber view (walkOf (set waiting p 0) (set taken p (at waiting p))))
+              tree tree′ (w .takenLong) (w .few) i (w .treeLong) (w .keyed) replayed
+              (λ j h.
               ⊎-elim (λ (z : j ≡ p).
-              cond-true (eqb j p) 0 (at numbers j) (eq-eqb j p z)
+              cond-true (eqb j p) 0 (waitingNumber view now j) (eq-eqb j p z)
               ∙ sym (cond-true (isZero (at (set waiting p 0) j)) 0 (numberIn (view (at (set waiting p 0) j)))
               (eq-eqb (at (set waiting p 0) j) 0 (ap (at (set waiting p 0)) z ∙ getD-set-same waiting p 0 0 (omega arith)))))
               (λ (z : j ≡ p → ⊥).
-              cond-false (eqb j p) 0 (at numbers j) (ne-eqb j p z) ∙ ap (λ (f : ℕ → ℕ). f j) (w .keys)
+              cond-false (eqb j p) 0 (waitingNumber view now j) (ne-eqb j p z)
               ∙ ap (λ (x : ℕ). cond (isZero x) 0 (numberIn (view x))) (sym (getD-set-other waiting p j 0 0 z))) (eq? j p));
         }
 
@@ -127,8 +132,7 @@ module _ (g : Geometry) (image : ℕ → List ℕ) (tail : ℕ) (low : 1 ≤ tai
   pub tail-inside : p < piecesFor (g .l)
   tail-inside = let h = signed-piece g image tail e in let f = piece ∙ ap (λ (x : List ℕ). at (wordsOf x) 4) is in omega arith
 
-  module _ (waiting numbers taken : List ℕ) (none-waits : waiting ≡ replicate (piecesFor (g .l)) 0) (no-number : numbers ≡ replicate (piecesFor (g .l)) 0)
-      (none-taken : taken ≡ replicate (piecesFor (g .l)) 0) where
+  module _ (waiting taken : List ℕ) (none-waits : waiting ≡ replicate (piecesFor (g .l)) 0) (none-taken : taken ≡ replicate (piecesFor (g .l)) 0) where
     zeros-long : (xs : List ℕ) → xs ≡ replicate (piecesFor (g .l)) 0 → length xs ≡ piecesFor (g .l)
     zeros-long xs f = ap length f ∙ length-replicate (piecesFor (g .l)) 0
 
@@ -153,14 +157,18 @@ module _ (g : Geometry) (image : ℕ → List ℕ) (tail : ℕ) (low : 1 ≤ tai
         num ∙ ap (λ (x : List ℕ). at (wordsOf x) 2) is ∙ sym (ap numberIn (view-signed g image tail e))
         ∙ sym (cond-false (isZero tail) 0 (numberIn (imageView g image tail)) (ne-eqb tail 0 (λ (y : tail ≡ 0). omega arith)))
 
-    pub start-waits : Waits (piecesFor (g .l)) (imageView g image) (set waiting p tail) (set numbers p number) taken
-    start-waits =
+    pub start-waits : (tree tree′ : List ℕ) → piecesFor (g .l) ≤ 256 → length tree ≡ 512 → Keyed (piecesFor (g .l)) (λ _. 0) tree → length tree′ ≡ length tree
+        → Replayed (length taken) (set tree (length taken + p) (ranked (length taken) p number)) tree′
+        → Waits (piecesFor (g .l)) (imageView g image) (set waiting p tail) tree′ taken
+    start-waits tree tree′ few room none-keyed long replayed =
         record {
+          few = few;
           waitingLong = length-set waiting p tail ∙ zeros-long waiting none-waits;
-          numbersLong = length-set numbers p number ∙ zeros-long numbers no-number;
+          treeLong = long ∙ room;
           takenLong = zeros-long taken none-taken;
-          keys = only numbers no-number number
-              ∙ fun-ext (λ j.
+          keyed = rekeyed (length taken) (piecesFor (g .l)) p number (λ _. 0) (waitingNumber (imageView g image) (walkOf (set waiting p tail) taken))
+              tree tree′ (zeros-long taken none-taken) few tail-inside room none-keyed replayed
+              (λ j h.
               ⊎-elim (λ (z : j ≡ p).
               cond-true (eqb j p) number 0 (eq-eqb j p z) ∙ tail-number
               ∙ ap (λ (x : ℕ). cond (isZero x) 0 (numberIn (imageView g image x)))
@@ -187,6 +195,9 @@ pub zeros-part : (n m : ℕ) → n ≤ m → take n (replicate {A = ℕ} m 0) �
 zeros-part zero m h = refl
 zeros-part (suc n) zero h = absurd (omega arith)
 zeros-part (suc n) (suc m) h = ap (λ (xs : List ℕ). 0 ∷ xs) (zeros-part n m (omega arith))
+
+pub keyed-for : {n m : ℕ} {key : ℕ → ℕ} {t : List ℕ} → n ≡ m → Keyed n key t → Keyed m key t
+keyed-for {key = key} {t = t} e s = subst (λ (x : ℕ). Keyed x key t) e s
 
 -- Nothing is seen yet.
 off : (b : Bool) → (b && false) ≡ false

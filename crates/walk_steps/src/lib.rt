@@ -1,12 +1,13 @@
 // The steps of a walk from its tail.
 ghost use mathlib.Core.Path.{_≡_};
 ghost use mathlib.Core.Bool.{true};
-ghost use Prim.Native.Nat.{_+_, _*_, _≤_, _<_};
+ghost use Prim.Native.Nat.{_*_, _≤_, _<_};
 ghost use lib.ListN.{length, replicate};
 ghost use Rattle.geometry.specs.Geometry.{sectorBytes, piecesFor, geometryFits};
 ghost use Rattle.layout.specs.Bounded.{listFrom};
 ghost use Rattle.volume.specs.Tables.{sectorAt};
 ghost use Rattle.volume.specs.Recover.{imageView, walkStep, walkedFor, walkFrom};
+ghost use Rattle.tournament.specs.Tournament.{Keyed};
 ghost use Rattle.signed.specs.Signed.{signedAt};
 ghost use Rattle.targets.specs.Waiting.{Known, walkOf, Waits};
 use geometry::Geometry;
@@ -16,7 +17,7 @@ fn walk_step(
     seen: &mut [u8],
     good: &mut [u8],
     waiting: &mut [u32],
-    numbers: &mut [u32],
+    tree: &mut [u64],
     taken: &mut [u32],
     image: &[u8],
     g: Geometry,
@@ -24,18 +25,19 @@ fn walk_step(
     requires { ⌜ length (now image) ≡ sectorBytes * g .n ⌝ }
     requires { ⌜ 0 < piecesFor (g .l) ⌝ }
     requires { ⌜ Known g (sectorAt (now image)) (now seen) (now good) ⌝ }
-    requires { ⌜ Waits (piecesFor (g .l)) (imageView g (sectorAt (now image))) (now waiting) (now numbers) (now taken) ⌝ }
-    ensures { λ _. ⌜ (walkOf (now (waiting .exit)) (now (taken .exit)) ≡ walkStep (piecesFor (g .l)) (imageView g (sectorAt (now (image .entry)))) (walkOf (now (waiting .entry)) (now (taken .entry)))) × Known g (sectorAt (now (image .entry))) (now (seen .exit)) (now (good .exit)) × Waits (piecesFor (g .l)) (imageView g (sectorAt (now (image .entry)))) (now (waiting .exit)) (now (numbers .exit)) (now (taken .exit)) ⌝ }
+    requires { ⌜ Waits (piecesFor (g .l)) (imageView g (sectorAt (now image))) (now waiting) (now tree) (now taken) ⌝ }
+    ensures { λ _. ⌜ (walkOf (now (waiting .exit)) (now (taken .exit)) ≡ walkStep (piecesFor (g .l)) (imageView g (sectorAt (now (image .entry)))) (walkOf (now (waiting .entry)) (now (taken .entry)))) × Known g (sectorAt (now (image .entry))) (now (seen .exit)) (now (good .exit)) × Waits (piecesFor (g .l)) (imageView g (sectorAt (now (image .entry)))) (now (waiting .exit)) (now (tree .exit)) (now (taken .exit)) ⌝ }
 {
-    let p = numbers::newest(numbers);
-    if numbers[p] == 0 {
+    let pieces = taken.len();
+    let p = tournament::first(tree, pieces);
+    if tournament::key_of(tree, pieces, p) == 0 {
         return;
     }
     let k = waiting[p];
     waiting[p] = 0;
-    numbers[p] = 0;
+    tournament::change(tree, pieces, p, 0);
     taken[p] = k;
-    targets::read_targets(seen, good, waiting, numbers, taken, image, g, k);
+    targets::read_targets(seen, good, waiting, tree, taken, image, g, k);
 }
 
 // So many steps from where the tail waits.
@@ -43,7 +45,7 @@ fn walk_steps(
     seen: &mut [u8],
     good: &mut [u8],
     waiting: &mut [u32],
-    numbers: &mut [u32],
+    tree: &mut [u64],
     taken: &mut [u32],
     image: &[u8],
     g: Geometry,
@@ -51,42 +53,44 @@ fn walk_steps(
     requires { ⌜ length (now image) ≡ sectorBytes * g .n ⌝ }
     requires { ⌜ 0 < piecesFor (g .l) ⌝ }
     requires { ⌜ Known g (sectorAt (now image)) (now seen) (now good) ⌝ }
-    requires { ⌜ Waits (piecesFor (g .l)) (imageView g (sectorAt (now image))) (now waiting) (now numbers) (now taken) ⌝ }
+    requires { ⌜ Waits (piecesFor (g .l)) (imageView g (sectorAt (now image))) (now waiting) (now tree) (now taken) ⌝ }
     ensures { λ _. ⌜ walkOf (now (waiting .exit)) (now (taken .exit)) ≡ walkedFor (piecesFor (g .l)) (imageView g (sectorAt (now (image .entry)))) (walkOf (now (waiting .entry)) (now (taken .entry))) (piecesFor (g .l)) ⌝ }
 {
     let pieces = Geometry::pieces_for(g.l);
     let mut step: u32 = 0;
     while step < pieces {
-        walk_step(seen, good, waiting, numbers, taken, image, g);
+        walk_step(seen, good, waiting, tree, taken, image, g);
         step += 1;
     }
 }
 
-// A walk from the tail, in arrays of zeros.
+// A walk from the tail, where nothing waits and nothing is taken yet.
 fn walk_waiting(
     seen: &mut [u8],
     good: &mut [u8],
     waiting: &mut [u32],
-    numbers: &mut [u32],
+    tree: &mut [u64],
     taken: &mut [u32],
     image: &[u8],
     g: Geometry,
     tail: u32,
 )
+    requires { ⌜ piecesFor (g .l) ≤ 256 ⌝ }
     requires { ⌜ length (now image) ≡ sectorBytes * g .n ⌝ }
     requires { ⌜ 1 ≤ tail ⌝ }
     requires { ⌜ signedAt g (sectorAt (now image)) tail ≡ true ⌝ }
     requires { ⌜ Known g (sectorAt (now image)) (now seen) (now good) ⌝ }
     requires { ⌜ now waiting ≡ replicate (piecesFor (g .l)) 0 ⌝ }
-    requires { ⌜ now numbers ≡ replicate (piecesFor (g .l)) 0 ⌝ }
+    requires { ⌜ length (now tree) ≡ 512 ⌝ }
+    requires { ⌜ Keyed (piecesFor (g .l)) (λ _. 0) (now tree) ⌝ }
     requires { ⌜ now taken ≡ replicate (piecesFor (g .l)) 0 ⌝ }
     ensures { λ _. ⌜ now (taken .exit) ≡ listFrom (walkFrom (piecesFor (g .l)) (imageView g (sectorAt (now (image .entry)))) tail) 0 (piecesFor (g .l)) ⌝ }
 {
     let s = images::sector(image, tail as usize);
     let p = map_sector::piece_of(s) as usize;
     waiting[p] = tail;
-    numbers[p] = map_sector::number_of(s);
-    walk_steps(seen, good, waiting, numbers, taken, image, g);
+    tournament::change(tree, taken.len(), p, map_sector::number_of(s));
+    walk_steps(seen, good, waiting, tree, taken, image, g);
 }
 
 // The sector that a walk from the tail takes for each piece, 0 for none.
@@ -101,13 +105,14 @@ pub fn walk_from(taken: &mut [u32], image: &[u8], g: Geometry, tail: u32)
     let mut seen = [0u8; 8192];
     let mut good = [0u8; 8192];
     let mut waiting = [0u32; 256];
-    let mut numbers = [0u32; 256];
+    let mut tree = [0u64; 512];
     let pieces = Geometry::pieces_for(g.l) as usize;
+    tournament::start(&mut tree, pieces);
     walk_waiting(
         &mut seen,
         &mut good,
         &mut waiting[..pieces],
-        &mut numbers[..pieces],
+        &mut tree,
         taken,
         image,
         g,

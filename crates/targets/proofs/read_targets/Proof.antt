@@ -16,13 +16,13 @@ use Rattle.targets.proofs.read_targets.Statement.{statement}
 use Rattle.targets.proofs.read_targets.Tie as tie
 
 abbrev Inv-loop : tie.InvT-loop
-Inv-loop seen₀ good₀ waiting₀ numbers₀ taken image g k s holder count i₀ seen good waiting numbers i =
+Inv-loop seen₀ good₀ waiting₀ tree₀ taken image g k s holder count i₀ seen good waiting tree i =
     (i ≤ count) × (length seen ≡ length seen₀) × (length good ≡ length good₀) × Known g (sectorAt image) seen good
-    × Waits (piecesFor (g .l)) (imageView g (sectorAt image)) waiting numbers taken
+    × Waits (piecesFor (g .l)) (imageView g (sectorAt image)) waiting tree taken
     × Reading (imageView g (sectorAt image)) (numberIn (imageView g (sectorAt image) k)) (branchesIn (imageView g (sectorAt image) k)) (walkOf waiting₀ taken) (walkOf waiting taken) i
 
 abbrev μ-loop : tie.MeasureT-loop
-μ-loop seen₀ good₀ waiting₀ numbers₀ taken image g k s holder count i₀ seen good waiting numbers i =
+μ-loop seen₀ good₀ waiting₀ tree₀ taken image g k s holder count i₀ seen good waiting tree i =
     count - i
 
 sector-requires : tie.Need-sector-requires Inv-loop μ-loop
@@ -139,7 +139,7 @@ same-length-3 c =
 same-length-4 : tie.Need-same-length-4 Inv-loop μ-loop
 same-length-4 c =
     let the-pre = c .before .before .before .before .before .before .before .before .before .before .before .pre in
-    c .before .loop .inv .4 .numbersLong ∙ sym (the-pre .1 .1 .1 .numbersLong)
+    c .before .loop .inv .4 .treeLong ∙ sym (the-pre .1 .1 .1 .treeLong)
 
 returns : tie.Need-returns Inv-loop μ-loop
 returns c =

@@ -1,12 +1,12 @@
--- Arrays of zeros, as long as there are pieces.
-use Prim.Native.Nat.{ℕ, _-_}
+-- Nothing waits and nothing is taken yet, in arrays as long as there are pieces.
+use Prim.Native.Nat.{ℕ}
 use mathlib.Core.Path.{sym, _∙_, ap}
 use native.Mathlib.Omega.{arith}
-use lib.ListN.{replicate}
+use lib.ListN.{replicate, length-replicate}
 use lib.Seq.{length-take-le}
 use Rattle.volume.specs.Tables.{sectorAt}
 use Rattle.soundness.proofs.Sounding.{blocks-most, sectors-most}
-use Rattle.walk_steps.proofs.WalkLaws.{known-none, zeros-part}
+use Rattle.walk_steps.proofs.WalkLaws.{known-none, zeros-part, keyed-for}
 use borrow.Author.Needs.{needs}
 use Rattle.walk_steps.proofs.walk_from.Statement.{statement}
 use Rattle.walk_steps.proofs.walk_from.Tie as tie
@@ -17,6 +17,18 @@ pieces-for-requires c κs = search needs
 cast-pieces : tie.Need-cast-pieces
 cast-pieces c = search needs
 
+slice-aggregate-start : tie.Need-slice-aggregate-start
+slice-aggregate-start c = search needs
+
+start-requires : tie.Need-start-requires
+start-requires c κs =
+    let the-pieces-for = c .before .pieces-for in
+    let a = c .before .before .before .before .args in
+    let the-pre = c .before .before .before .before .pre in
+    let m = blocks-most (a .g) (the-pre .0) in
+    let q = the-pieces-for .ensures in
+    (length-replicate {A = ℕ} 512 0, omega arith)
+
 slice-aggregate-walk-waiting : tie.Need-slice-aggregate-walk-waiting
 slice-aggregate-walk-waiting c = search needs
 
@@ -25,43 +37,47 @@ slice-aggregate-walk-waiting-2 c = search needs
 
 array-borrow-prefix-waiting : tie.Need-array-borrow-prefix-waiting
 array-borrow-prefix-waiting c =
-    let the-pre = c .before .before .before .before .before .pre in
-    let a = c .before .before .before .before .before .args in
+    let the-pieces-for = c .before .before .before .before .before .pieces-for in
+    let a = c .before .before .before .before .before .before .before .before .args in
+    let the-pre = c .before .before .before .before .before .before .before .before .pre in
     let m = blocks-most (a .g) (the-pre .0) in
+    let q = the-pieces-for .ensures in
     omega arith
 
 slice-aggregate-walk-waiting-3 : tie.Need-slice-aggregate-walk-waiting-3
 slice-aggregate-walk-waiting-3 c =
-    let the-pieces-for = c .before .before .before .pieces-for in
-    let the-pre = c .before .before .before .before .before .before .pre in
-    let a = c .before .before .before .before .before .before .args in
+    let the-pieces-for = c .before .before .before .before .before .before .pieces-for in
+    let a = c .before .before .before .before .before .before .before .before .before .args in
+    let the-pre = c .before .before .before .before .before .before .before .before .before .pre in
     let m = blocks-most (a .g) (the-pre .0) in
-    let q = the-pieces-for .ensures in sym (length-take-le (the-pieces-for .result) (replicate {A = ℕ} 256 0) (omega arith))
-
-array-borrow-prefix-numbers : tie.Need-array-borrow-prefix-numbers
-array-borrow-prefix-numbers c =
-    let the-pre = c .before .before .before .before .before .before .pre in
-    let a = c .before .before .before .before .before .before .args in
-    let m = blocks-most (a .g) (the-pre .0) in
-    omega arith
+    let q = the-pieces-for .ensures in
+    sym (length-take-le (the-pieces-for .result) (replicate {A = ℕ} 256 0) (omega arith))
 
 slice-aggregate-walk-waiting-4 : tie.Need-slice-aggregate-walk-waiting-4
-slice-aggregate-walk-waiting-4 c =
-    let the-pieces-for = c .before .before .before .before .pieces-for in
-    let the-pre = c .before .before .before .before .before .before .before .pre in
-    let a = c .before .before .before .before .before .before .before .args in
-    let m = blocks-most (a .g) (the-pre .0) in
-    let q = the-pieces-for .ensures in sym (length-take-le (the-pieces-for .result) (replicate {A = ℕ} 256 0) (omega arith))
+slice-aggregate-walk-waiting-4 c = search needs
 
 walk-waiting-requires : tie.Need-walk-waiting-requires
 walk-waiting-requires c κs =
-    let the-pieces-for = c .before .before .before .before .before .pieces-for in
-    let the-pre = c .before .before .before .before .before .before .before .before .pre in
-    let a = c .before .before .before .before .before .before .before .before .args in
+    let the-start = c .before .before .before .before .before .before .start in
+    let the-pieces-for = c .before .before .before .before .before .before .before .before .pieces-for in
+    let a = c .before .before .before .before .before .before .before .before .before .before .before .args in
+    let the-pre = c .before .before .before .before .before .before .before .before .before .before .before .pre in
     let m = blocks-most (a .g) (the-pre .0) in
     let q = the-pieces-for .ensures in
     let z = zeros-part (the-pieces-for .result) 256 (omega arith) ∙ ap (λ (x : ℕ). replicate {A = ℕ} x 0) q in
-    (the-pre .1 .0, (the-pre .1 .1 .0, (the-pre .1 .1 .1 .0, (known-none (a .g) (sectorAt (a .image .now)) (sectors-most (a .g) (the-pre .0)), (z, (z, the-pre .1 .1 .1 .1))))))
+    let keyed = keyed-for q (the-start .ensures) in (
+      omega arith,
+      (
+        the-pre .1 .0,
+        (
+          the-pre .1 .1 .0,
+          (
+            the-pre .1 .1 .1 .0,
+            (known-none (a .g) (sectorAt (a .image .now)) (sectors-most (a .g) (the-pre .0)), (z, (the-start .kept .0 ∙ length-replicate {A = ℕ} 512 0, (keyed, the-pre .1 .1 .1 .1)))),
+          ),
+        ),
+      ),
+    )
 
 same-length : tie.Need-same-length
 same-length c = search needs
@@ -75,11 +91,12 @@ walk-from-spec =
     (tie.spec
     pieces-for-requires
     cast-pieces
+    slice-aggregate-start
+    start-requires
     slice-aggregate-walk-waiting
     slice-aggregate-walk-waiting-2
     array-borrow-prefix-waiting
     slice-aggregate-walk-waiting-3
-    array-borrow-prefix-numbers
     slice-aggregate-walk-waiting-4
     walk-waiting-requires
     same-length

@@ -13,13 +13,13 @@ use Rattle.walk_steps.proofs.walk_steps.Statement.{statement}
 use Rattle.walk_steps.proofs.walk_steps.Tie as tie
 
 abbrev Inv-loop : tie.InvT-loop
-Inv-loop seen₀ good₀ waiting₀ numbers₀ taken₀ image g pieces step₀ seen good waiting numbers taken step =
+Inv-loop seen₀ good₀ waiting₀ tree₀ taken₀ image g pieces step₀ seen good waiting tree taken step =
     (step ≤ pieces) × (length seen ≡ length seen₀) × (length good ≡ length good₀) × Known g (sectorAt image) seen good
-    × Waits (piecesFor (g .l)) (imageView g (sectorAt image)) waiting numbers taken
+    × Waits (piecesFor (g .l)) (imageView g (sectorAt image)) waiting tree taken
     × (walkOf waiting taken ≡ walkedFor (piecesFor (g .l)) (imageView g (sectorAt image)) (walkOf waiting₀ taken₀) step)
 
 abbrev μ-loop : tie.MeasureT-loop
-μ-loop seen₀ good₀ waiting₀ numbers₀ taken₀ image g pieces step₀ seen good waiting numbers taken step =
+μ-loop seen₀ good₀ waiting₀ tree₀ taken₀ image g pieces step₀ seen good waiting tree taken step =
     pieces - step
 
 pieces-for-requires : tie.Need-pieces-for-requires Inv-loop μ-loop
@@ -71,7 +71,7 @@ same-length-3 c =
 same-length-4 : tie.Need-same-length-4 Inv-loop μ-loop
 same-length-4 c =
     let the-pre = c .before .before .before .before .before .before .before .before .before .pre in
-    c .before .loop .inv .4 .numbersLong ∙ sym (the-pre .1 .1 .1 .numbersLong)
+    c .before .loop .inv .4 .treeLong ∙ sym (the-pre .1 .1 .1 .treeLong)
 
 same-length-5 : tie.Need-same-length-5 Inv-loop μ-loop
 same-length-5 c =
