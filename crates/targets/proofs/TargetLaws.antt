@@ -18,7 +18,7 @@ use Rattle.layout.specs.Word.{wordsOf}
 use Rattle.layout.specs.MapSector.{View, branchWords, fields}
 use Rattle.volume.specs.Commit.{branchesIn}
 use Rattle.volume.specs.Recover.{numberIn, imageView, Walk, waitingNumber, targetWaits, targetsRead}
-use Rattle.laws.proofs.Bounded.{eq?, and-l, and-r, cond-true, cond-false, at-set, all-at}
+use Rattle.laws.proofs.Bounded.{bool?, eq?, and-l, and-r, cond-true, cond-false, at-set, all-at}
 use Rattle.laws.proofs.Words.{length-wordsOf}
 use Rattle.signed.specs.Signed.{isSigned, signedAt, below}
 use Rattle.signed.proofs.ViewLaws.{view-signed, view-unsigned, signed-piece, signed-count, signed-branches}
@@ -28,17 +28,22 @@ use Rattle.targets.specs.Waiting.{walkOf, mayWait, Waits}
 
 -- The tests of a target, one after the other.
 module _ (tree taken : List ℕ) (holder number p : ℕ) where
-  pub late-left : holder ≤ number → false ≡ mayWait tree taken holder number p
+  pub piece-left : length taken ≤ p → false ≡ mayWait tree taken holder number p
   unfolding mayWait
-  late-left h = rw (le-ltb number holder h) refl
+  piece-left b = rw (le-ltb p (length taken) b) refl
 
-  pub done-left : number < holder → (at taken p ≡ 0 → ⊥) → false ≡ mayWait tree taken holder number p
-  unfolding mayWait
-  done-left h d = rw (lt-ltb number holder h, ne-eqb (at taken p) 0 d) refl
+  module _ (b : p < length taken) where
+    pub late-left : holder ≤ number → false ≡ mayWait tree taken holder number p
+    unfolding mayWait
+    late-left h = rw (lt-ltb p (length taken) b, le-ltb number holder h) refl
 
-  pub newer-waits : number < holder → at taken p ≡ 0 → (v : ℕ) → v ≡ keyAt (length taken) tree p → ltb v number ≡ mayWait tree taken holder number p
-  unfolding mayWait
-  newer-waits h z v e = rw (lt-ltb number holder h, eq-eqb (at taken p) 0 z) (ap (λ (x : ℕ). ltb x number) e)
+    pub done-left : number < holder → (at taken p ≡ 0 → ⊥) → false ≡ mayWait tree taken holder number p
+    unfolding mayWait
+    done-left h d = rw (lt-ltb p (length taken) b, lt-ltb number holder h, ne-eqb (at taken p) 0 d) refl
+
+    pub newer-waits : number < holder → at taken p ≡ 0 → (v : ℕ) → v ≡ keyAt (length taken) tree p → ltb v number ≡ mayWait tree taken holder number p
+    unfolding mayWait
+    newer-waits h z v e = rw (lt-ltb p (length taken) b, lt-ltb number holder h, eq-eqb (at taken p) 0 z) (ap (λ (x : ℕ). ltb x number) e)
 
 -- The tournament has an entry for each piece.
 pub tournament-of : {pieces : ℕ} {view : View} {waiting tree taken : List ℕ} → Waits pieces view waiting tree taken → Tournament (length taken) tree
@@ -65,66 +70,73 @@ module _ (g : Geometry) (image : ℕ → List ℕ) (holder : ℕ) (waiting tree 
   unfolding targetWaits
   target-unsigned e = sym (ap (targetWaits view holder (walkOf waiting taken) target) (view-unsigned g image target e))
 
-  -- A signed target.
-  module _ (low : 1 ≤ target) (e : signedAt g image target ≡ true) (s : List ℕ) (is : s ≡ image target) (number p : ℕ) (num : number ≡ at (wordsOf s) 2)
-      (piece : p ≡ at (wordsOf s) 4) where
-    pub piece-inside : p < piecesFor (g .l)
-    piece-inside = let h = signed-piece g image target e in let f = piece ∙ ap (λ (x : List ℕ). at (wordsOf x) 4) is in omega arith
-
-    says : view target ≡ some (fields (wordsOf s))
-    says = view-signed g image target e ∙ ap (λ (x : List ℕ). some (fields (wordsOf x))) (sym is)
-
+  -- What its header says.
+  module _ (s : List ℕ) (is : s ≡ image target) (number p : ℕ) (num : number ≡ at (wordsOf s) 2) (piece : p ≡ at (wordsOf s) 4) (r : Bool)
+      (judged : r ≡ mayWait tree taken holder number p) where
     abbrev waits? : Bool
     waits? = mayWait tree taken holder number p
 
     next : Walk
     next = record { waiting = updated (at waiting) p target; taken = at taken }
 
-    before-is : keyAt (length taken) tree p ≡ waitingNumber view (walkOf waiting taken) p
-    before-is = ap (λ (n : ℕ). keyAt n tree p) (w .takenLong) ∙ w .keyed .keys p piece-inside
+    -- Where it is signed.
+    module _ (e : signedAt g image target ≡ true) where
+      pub piece-inside : p < piecesFor (g .l)
+      piece-inside = let h = signed-piece g image target e in let f = piece ∙ ap (λ (x : List ℕ). at (wordsOf x) 4) is in omega arith
 
-    read-is : targetWaits view holder (walkOf waiting taken) target (view target) ≡ cond waits? next (walkOf waiting taken)
-    unfolding targetWaits next mayWait
-    read-is =
-        ap (targetWaits view holder (walkOf waiting taken) target) says
-        ∙ rw (sym num, sym piece, sym before-is) refl
+      says : view target ≡ some (fields (wordsOf s))
+      says = view-signed g image target e ∙ ap (λ (x : List ℕ). some (fields (wordsOf x))) (sym is)
 
-    pub target-left : (r : Bool) → r ≡ waits? → r ≡ false → walkOf waiting taken ≡ targetWaits view holder (walkOf waiting taken) target (view target)
-    target-left r f t = sym (read-is ∙ cond-false waits? next (walkOf waiting taken) (sym f ∙ t))
+      before-is : keyAt (length taken) tree p ≡ waitingNumber view (walkOf waiting taken) p
+      before-is = ap (λ (n : ℕ). keyAt n tree p) (w .takenLong) ∙ w .keyed .keys p piece-inside
 
-    number-is : numberIn (view target) ≡ number
-    unfolding numberIn
-    number-is = ap numberIn says ∙ sym num
+      read-is : targetWaits view holder (walkOf waiting taken) target (view target) ≡ cond waits? next (walkOf waiting taken)
+      unfolding targetWaits next mayWait
+      read-is =
+          let i = piece-inside in
+          let tl = w .takenLong in
+          ap (targetWaits view holder (walkOf waiting taken) target) says
+          ∙ rw (sym num, sym piece, sym before-is, lt-ltb p (length taken) (omega arith)) refl
 
-    -- The numbers of what waits, with the target in its place.
-    keys-next : (j : ℕ) → updated (waitingNumber view (walkOf waiting taken)) p number j ≡ waitingNumber view next j
-    unfolding next
-    keys-next j =
-        ⊎-elim (λ (z : j ≡ p).
-        rw (eq-eqb j p z, ne-eqb target 0 (λ (y : target ≡ 0). omega arith)) (sym number-is))
-        (λ (d : j ≡ p → ⊥). rw (ne-eqb j p d) refl) (eq? j p)
+      number-is : numberIn (view target) ≡ number
+      unfolding numberIn
+      number-is = ap numberIn says ∙ sym num
 
-    pub target-put : (r : Bool) → r ≡ waits? → r ≡ true → (tree′ : List ℕ) → length tree′ ≡ length tree
-        → Replayed (length taken) (set tree (length taken + p) (ranked (length taken) p number)) tree′
-        → (walkOf (set waiting p target) taken ≡ targetWaits view holder (walkOf waiting taken) target (view target))
-        × Waits (piecesFor (g .l)) view (set waiting p target) tree′ taken
-    unfolding next
-    target-put r f t tree′ long replayed =
-        let i = piece-inside in
-        let wl = w .waitingLong in
-        let same : walkOf (set waiting p target) taken ≡ next =
-        ap (λ (h : ℕ → ℕ). record { waiting = h; taken = at taken }) (at-set waiting p target (omega arith)) in (
-          same ∙ sym (read-is ∙ cond-true waits? next (walkOf waiting taken) (sym f ∙ t)),
-          record {
-            few = w .few;
-            waitingLong = length-set waiting p target ∙ wl;
-            treeLong = long ∙ w .treeLong;
-            takenLong = w .takenLong;
-            keyed = rekeyed (length taken) (piecesFor (g .l)) p number (waitingNumber view (walkOf waiting taken)) (waitingNumber view (walkOf (set waiting p target) taken))
-                tree tree′ (w .takenLong) (w .few) i (w .treeLong) (w .keyed) replayed
-                (λ j h. keys-next j ∙ ap (λ (x : Walk). waitingNumber view x j) (sym same));
-          },
-        )
+      -- The numbers of what waits, with the target in its place.
+      keys-next : 1 ≤ target → (j : ℕ) → updated (waitingNumber view (walkOf waiting taken)) p number j ≡ waitingNumber view next j
+      unfolding next
+      keys-next low j =
+          ⊎-elim (λ (z : j ≡ p).
+          rw (eq-eqb j p z, ne-eqb target 0 (λ (y : target ≡ 0). omega arith)) (sym number-is))
+          (λ (d : j ≡ p → ⊥). rw (ne-eqb j p d) refl) (eq? j p)
+
+      pub target-put : 1 ≤ target → r ≡ true → (tree′ : List ℕ) → length tree′ ≡ length tree
+          → Replayed (length taken) (set tree (length taken + p) (ranked (length taken) p number)) tree′
+          → (walkOf (set waiting p target) taken ≡ targetWaits view holder (walkOf waiting taken) target (view target))
+          × Waits (piecesFor (g .l)) view (set waiting p target) tree′ taken
+      unfolding next
+      target-put low t tree′ long replayed =
+          let i = piece-inside in
+          let wl = w .waitingLong in
+          let same : walkOf (set waiting p target) taken ≡ next =
+          ap (λ (h : ℕ → ℕ). record { waiting = h; taken = at taken }) (at-set waiting p target (omega arith)) in (
+            same ∙ sym (read-is ∙ cond-true waits? next (walkOf waiting taken) (sym judged ∙ t)),
+            record {
+              few = w .few;
+              waitingLong = length-set waiting p target ∙ wl;
+              treeLong = long ∙ w .treeLong;
+              takenLong = w .takenLong;
+              keyed = rekeyed (length taken) (piecesFor (g .l)) p number (waitingNumber view (walkOf waiting taken)) (waitingNumber view (walkOf (set waiting p target) taken))
+                  tree tree′ (w .takenLong) (w .few) i (w .treeLong) (w .keyed) replayed
+                  (λ j h. keys-next low j ∙ ap (λ (x : Walk). waitingNumber view x j) (sym same));
+            },
+          )
+
+    -- One that would not wait changes nothing, signed or not.
+    pub target-left : r ≡ false → walkOf waiting taken ≡ targetWaits view holder (walkOf waiting taken) target (view target)
+    target-left t =
+        ⊎-elim (λ (e : signedAt g image target ≡ true). sym (read-is e ∙ cond-false waits? next (walkOf waiting taken) (sym judged ∙ t)))
+        (λ (e : signedAt g image target ≡ false). target-unsigned e) (bool? (signedAt g image target))
 
 -- The branches of a signed sector.
 module _ (g : Geometry) (image : ℕ → List ℕ) (k : ℕ) (e : signedAt g image k ≡ true) (size : length (image k) ≡ 512) (s : List ℕ) (is : s ≡ image k) where

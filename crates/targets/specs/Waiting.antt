@@ -23,9 +23,10 @@ pub record Known (g : Geometry) (image : ℕ → List ℕ) (seen good : List ℕ
 abbrev pub walkOf : List ℕ → List ℕ → Walk
 walkOf waiting taken = record { waiting = at waiting; taken = at taken }
 
--- Whether a signed target of this number and piece waits, the numbers of what waits being the keys of a tournament.
+-- Whether a target with this number and piece waits if it is signed. The numbers of what waits are the keys of a tournament.
 unfoldable pub mayWait : List ℕ → List ℕ → ℕ → ℕ → ℕ → Bool
-mayWait tree taken holder number p = ltb number holder && isZero (at taken p) && ltb (keyAt (length taken) tree p) number
+mayWait tree taken holder number p =
+    ltb p (length taken) && ltb number holder && isZero (at taken p) && ltb (keyAt (length taken) tree p) number
 
 -- With what waits stands a tournament of its numbers.
 pub record Waits (pieces : ℕ) (view : View) (waiting tree taken : List ℕ) : Type 0 where

@@ -30,13 +30,15 @@ fn is_signed(seen: &mut [u8], good: &mut [u8], image: &[u8], g: Geometry, k: u32
     true
 }
 
-// Whether a signed target waits: it is lower in number than the holder, of a piece not done, and newer than what waits for the piece.
+// Whether a target waits if it is signed: it is lower in number than the holder, of a piece not done, and newer than what waits for the piece.
 fn may_wait(tree: &[u64], taken: &[u32], holder: u32, number: u32, p: usize) -> bool
     requires { ⌜ length (now tree) ≡ 512 ⌝ }
     requires { ⌜ length (now taken) ≤ 256 ⌝ }
-    requires { ⌜ p < length (now taken) ⌝ }
     ensures { λ r. ⌜ r ≡ mayWait (now (tree .entry)) (now (taken .entry)) holder number p ⌝ }
 {
+    if taken.len() <= p {
+        return false;
+    }
     if holder <= number {
         return false;
     }
@@ -46,7 +48,7 @@ fn may_wait(tree: &[u64], taken: &[u32], holder: u32, number: u32, p: usize) -> 
     tournament::key_of(tree, taken.len(), p) < number as u64
 }
 
-// Reads a target.
+// Reads a target. One that would not wait is not summed: it changes nothing, signed or not.
 fn read_target(
     seen: &mut [u8],
     good: &mut [u8],
@@ -65,13 +67,13 @@ fn read_target(
     requires { ⌜ Waits (piecesFor (g .l)) (imageView g (sectorAt (now image))) (now waiting) (now tree) (now taken) ⌝ }
     ensures { λ _. ⌜ (walkOf (now (waiting .exit)) (now (taken .entry)) ≡ targetWaits (imageView g (sectorAt (now (image .entry)))) holder (walkOf (now (waiting .entry)) (now (taken .entry))) target (imageView g (sectorAt (now (image .entry))) target)) × Known g (sectorAt (now (image .entry))) (now (seen .exit)) (now (good .exit)) × Waits (piecesFor (g .l)) (imageView g (sectorAt (now (image .entry)))) (now (waiting .exit)) (now (tree .exit)) (now (taken .entry)) ⌝ }
 {
-    if !is_signed(seen, good, image, g, target) {
-        return;
-    }
     let s = images::sector(image, target as usize);
     let number = map_sector::number_of(s);
     let p = map_sector::piece_of(s) as usize;
     if !may_wait(tree, taken, holder, number, p) {
+        return;
+    }
+    if !is_signed(seen, good, image, g, target) {
         return;
     }
     waiting[p] = target;
