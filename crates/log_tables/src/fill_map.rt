@@ -1,5 +1,7 @@
 // The map that the live map sectors hold.
 ghost use mathlib.Core.Path.{_≡_};
+ghost use mathlib.Core.Logic.{_⊎_};
+ghost use mathlib.Core.List.{List};
 ghost use Prim.Native.Nat.{ℕ, _+_, _*_, _≤_, _<_};
 ghost use lib.ListN.{length};
 ghost use Rattle.geometry.specs.Geometry.{sectorBytes, pieceOf, indexOf};
@@ -7,17 +9,30 @@ ghost use Rattle.layout.specs.Bounded.{at, listFrom};
 ghost use Rattle.layout.specs.Word.{wordsOf};
 ghost use Rattle.layout.specs.MapSector.{entryWords};
 ghost use Rattle.volume.specs.Tables.{sectorAt};
-use geometry::Geometry;
+ghost use Rattle.laws.proofs.Filling.{Filled};
 
-// The entry of a block: it stands in the live sector of the block's piece.
-fn entry_in(image: &[u8], places: &[u32], block: usize) -> u32
-    requires { ⌜ pieceOf block < length (now places) ⌝ }
-    requires { ⌜ sectorBytes * at (now places) (pieceOf block) + sectorBytes ≤ length (now image) ⌝ }
-    ensures { λ r. ⌜ r ≡ at (entryWords (wordsOf (sectorAt (now (image .entry)) (at (now (places .entry)) (pieceOf block))))) (indexOf block) ⌝ }
+// How many of the entries that are left stand in one piece.
+fn piece_count(left: usize) -> usize
+    ensures { λ r. ⌜ (r ≤ 96) × (r ≤ left) × ((r ≡ left) ⊎ (r ≡ 96)) ⌝ }
 {
-    let entries = Geometry::ENTRIES as usize;
-    let s = images::sector(image, places[block / entries] as usize);
-    map_sector::entry_at(s, block % entries)
+    if left < 96 {
+        return left;
+    }
+    96
+}
+
+// The entries of one piece, from block `first` on, as the sector s has them.
+fn fill_piece(s: &[u8], map: &mut [u32], first: usize, count: usize)
+    requires { ⌜ length (now s) ≡ sectorBytes ⌝ }
+    requires { ⌜ count ≤ 96 ⌝ }
+    requires { ⌜ first + count ≤ length (now map) ⌝ }
+    ensures { λ _. ⌜ ((f : ℕ → ℕ) (old : List ℕ) → Filled f old first (now (map .entry)) → ((i : ℕ) → i < count → f (first + i) ≡ at (entryWords (wordsOf (now (s .entry)))) i) → Filled f old (first + count) (now (map .exit))) ⌝ }
+{
+    let mut i = 0;
+    while i < count {
+        map[first + i] = map_sector::entry_at(s, i);
+        i += 1;
+    }
 }
 
 pub fn fill_map(image: &[u8], places: &[u32], map: &mut [u32])
@@ -25,9 +40,13 @@ pub fn fill_map(image: &[u8], places: &[u32], map: &mut [u32])
     requires { ⌜ ((p : ℕ) → p < length (now places) → sectorBytes * at (now places) p + sectorBytes ≤ length (now image)) ⌝ }
     ensures { λ _. ⌜ now (map .exit) ≡ listFrom (λ b. at (entryWords (wordsOf (sectorAt (now (image .entry)) (at (now (places .entry)) (pieceOf b))))) (indexOf b)) 0 (length (now (map .entry))) ⌝ }
 {
-    let mut b = 0;
-    while b < map.len() {
-        map[b] = entry_in(image, places, b);
-        b += 1;
+    let mut first = 0;
+    let mut p = 0;
+    while first < map.len() {
+        let s = images::sector(image, places[p] as usize);
+        let count = piece_count(map.len() - first);
+        fill_piece(s, map, first, count);
+        first += count;
+        p += 1;
     }
 }
