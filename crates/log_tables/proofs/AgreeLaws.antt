@@ -2,20 +2,20 @@
 use Prim.Native.Nat.{ℕ, _+_, _*_, _-_, _/_, _%_, _^_, _≤_, _<_}
 use mathlib.Core.Path.{_≡_, refl, sym, _∙_, ap, fun-ext}
 use mathlib.Core.Logic.{⊎-elim}
-use mathlib.Core.Bool.{Bool, true, false, not, Bool·beq, true≢false}
+use mathlib.Core.Bool.{Bool, true, false, not, _&&_, Bool·beq, true≢false}
 use mathlib.Core.List.{List, []}
 use native.Mathlib.Omega.{arith}
 use lib.ListN.{length}
 use lib.Dec.{eqb, leb}
-use borrow.Author.Tests.{le-leb, lt-leb, not-true, not-false}
+use borrow.Author.Tests.{eqb-true, eq-eqb, not-true, not-false}
 use Rattle.geometry.specs.declared.Geometry.{Geometry}
 use Rattle.geometry.specs.Geometry.{within, piecesFor, usedBytes}
 use Rattle.layout.specs.Bounded.{at, allBelow, best, all, distinct, always, gathered, listFrom}
 use Rattle.volume.specs.Tables.{bitAt, namedBy, usedBy, freeSectors, consistent}
-use Rattle.laws.proofs.Bounded.{lt?, allBelow-is, length-listFrom, listFrom-at, past-end}
+use Rattle.laws.proofs.Bounded.{lt?, eq?, and-l, and-r, allBelow-is, length-listFrom, listFrom-at, past-end}
 use Rattle.names.proofs.Marking.{Left, zero-bit, unnamed}
 use Rattle.names.proofs.Counting.{named-twice, named-once}
-use Rattle.soundness.proofs.Sounding.{inside-fails, once-fails, room-fails-here, rest-decides}
+use Rattle.soundness.proofs.Sounding.{inside-fails, once-fails, room-fails-here, rest-decides, second}
 use Rattle.numbers.proofs.Numbering.{Agree}
 use Rattle.log_tables.specs.LogTables.{tablesNamed}
 
@@ -80,27 +80,28 @@ module _ (g : Geometry) (map places numbers : List ℕ) (tail number : ℕ) wher
       free-is : free ≡ freeSectors (g .n) (usedBy Names)
       free-is = counted ∙ ap (freeSectors (g .n)) made
 
-      pub twice-fails : (free + count + 1 ≡ g .n → ⊥) → (bits : ℕ → Bool) → Agrees false bits
-      unfolding consistent
-      twice-fails d bits = (once-fails Inside Once Bits Room D E F G inside (named-twice (g .n) some Names inside free count free-is (h .1 yes .1) d), no-claim bits)
-
-      module _ (total : free + count + 1 ≡ g .n) (p : ℕ) (pieces : p ≡ piecesFor (g .l)) where
-        once : Once ≡ true
-        once = named-once (g .n) some Names inside free count free-is (h .1 yes .1) total
-
-        pub room-fails : free < p → (bits : ℕ → Bool) → Agrees false bits
+      module _ (o : Bool) (w : o ≡ (eqb (free + count + 1) (g .n) && leb (piecesFor (g .l)) free)) where
+        pub room-fails : not o ≡ true → (bits : ℕ → Bool) → Agrees false bits
         unfolding consistent
-        room-fails y bits =
-            let w = free-is in
-            (room-fails-here Inside Once Bits Room D E F G inside once bits-same (lt-leb (piecesFor (g .l)) (freeSectors (g .n) (usedBy Names)) (omega arith)), no-claim bits)
+        room-fails z bits = (
+          ⊎-elim (λ (q : free + count + 1 ≡ g .n).
+              room-fails-here Inside Once Bits Room D E F G inside (named-once (g .n) some Names inside free count free-is (h .1 yes .1) q) bits-same
+              (ap (leb (piecesFor (g .l))) (sym free-is) ∙ second (eqb (free + count + 1) (g .n)) (leb (piecesFor (g .l)) free) (eq-eqb (free + count + 1) (g .n) q) (sym w ∙ not-true o z)))
+              (λ (d : free + count + 1 ≡ g .n → ⊥).
+              once-fails Inside Once Bits Room D E F G inside (named-twice (g .n) some Names inside free count free-is (h .1 yes .1) d))
+              (eq? (free + count + 1) (g .n)),
+          no-claim bits,
+        )
 
-        module _ (y : p ≤ free) (u : Bool) (m : ℕ) (same : m ≡ piecesFor (g .l)) (v : u ≡ Agree (at places) (at numbers) m tail number) where
+        module _ (y : not o ≡ false) (u : Bool) (m : ℕ) (same : m ≡ piecesFor (g .l)) (v : u ≡ Agree (at places) (at numbers) m tail number) where
           decided : u ≡ consistent g (tablesNamed (g .l) map places numbers) tail number
           unfolding consistent
           decided =
-              let w = free-is in
+              let both = sym w ∙ not-false o y in
+              let total = eqb-true (free + count + 1) (g .n) (and-l (eqb (free + count + 1) (g .n)) (leb (piecesFor (g .l)) free) both) in
               v ∙ ap (λ (x : ℕ). Agree (at places) (at numbers) x tail number) same
-              ∙ rest-decides Inside Once Bits Room D E F G inside once bits-same (le-leb (piecesFor (g .l)) (freeSectors (g .n) (usedBy Names)) (omega arith))
+              ∙ rest-decides Inside Once Bits Room D E F G inside (named-once (g .n) some Names inside free count free-is (h .1 yes .1) total) bits-same
+              (ap (leb (piecesFor (g .l))) (sym free-is) ∙ and-r (eqb (free + count + 1) (g .n)) (leb (piecesFor (g .l)) free) both)
 
           pub numbers-fail : not u ≡ true → (bits : ℕ → Bool) → Agrees false bits
           numbers-fail z bits = (sym (not-true u z) ∙ decided, no-claim bits)

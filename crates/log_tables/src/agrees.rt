@@ -21,8 +21,7 @@ fn take_marks(used: &mut [u8], marks: &[u8])
     }
 }
 
-// Marks the sectors that the tables name in the used map, and says whether the tables are then sound. No sector is named twice where as
-// many are used as there are names, and sector 0.
+// Marks the sectors that the tables name in the used map, and says whether the tables are then sound.
 pub fn log_agrees(
     g: Geometry,
     map: &[u32],
@@ -45,10 +44,7 @@ pub fn log_agrees(
         return false;
     }
     let free = bits::count_free(&marks, g.n);
-    if free + named.count + 1 != g.n {
-        return false;
-    }
-    if free < Geometry::pieces_for(g.l) {
+    if !soundness::once_with_room(g, named.count, free) {
         return false;
     }
     if !numbers::numbers_agree(places, numbers, tail, number) {

@@ -16,6 +16,7 @@ use Rattle.geometry.specs.Geometry.{within, piecesFor}
 use Rattle.layout.specs.Bounded.{at, allBelow, all, elem, always, gathered, updated}
 use Rattle.volume.specs.Tables.{bitAt, namedBy, usedBy}
 use Rattle.layout.specs.Entry.{isEmpty, sectorOf}
+use Rattle.names.specs.Marked.{withEntries, EntriesMarked}
 use Rattle.laws.proofs.Lists.{within-below}
 use Rattle.laws.proofs.Bounded.{bool?, and-r, and-i, not-of, all-elem, allBelow-at, gathered-hit, gathered-miss}
 
@@ -185,59 +186,35 @@ zeros-marked bits us m e h =
     ∙ ap (λ (x : ℕ). eqb (x / 2 ^ (k % 8) % 2) 1) (zero-at m (k / 8)) ∙ zero-bit (k % 8) (omega arith))
     ∙ only (eqb k 0))
 
--- All that tables name: the live places, then the sectors of the entries below i that are not zero.
-module _ (g : Geometry) (entry place : ℕ → ℕ) where
+-- Others, then the sectors of the entries below i that are not zero.
+module _ (n : ℕ) (entry : ℕ → ℕ) (others : List ℕ) where
   taken : ℕ → Bool
   taken b = not (isEmpty (entry b))
 
   sector : ℕ → ℕ
   sector b = sectorOf (entry b)
 
-  places : List ℕ
-  places = gathered always place [] (piecesFor (g .l))
-
   pub Entries : ℕ → (ℕ → Bool) → ℕ → Type 0
-  Entries i bits count = Marked (g .n) (gathered taken sector places i) bits × (count ≡ length (gathered taken sector places i))
+  Entries i bits count = Marked n (gathered taken sector others i) bits × (count + length others ≡ length (gathered taken sector others i))
 
-  abbrev Named : List ℕ
-  Named = namedBy (g .l) entry place
+  with-is : (m : ℕ) → withEntries entry m others ≡ gathered taken sector others m
+  unfolding taken sector
+  with-is m = refl
 
-  named-is : Named ≡ gathered taken sector places (g .l)
-  unfolding namedBy taken sector places
-  named-is = refl
-
-  gathered-length : (m : ℕ) → m ≡ length (gathered always place [] m)
-  unfolding gathered
-  gathered-length zero = refl
-  gathered-length (suc m) = ap suc (gathered-length m)
-
-  module _ (len : ℕ) (same : len ≡ piecesFor (g .l)) (bits : ℕ → Bool) (r : Bool)
-      (h : (r ≡ Inside (g .n) (gathered always place [] len)) × (r ≡ true → bits ≡ usedBy (gathered always place [] len))) where
-    pub entries-start : not r ≡ false → Entries 0 bits len
-    unfolding Entries places gathered
-    entries-start e =
-        let yes = not-false r e in
-        let all : Marked (g .n) (gathered always place [] len) bits = record { range = sym (h .0) ∙ yes; marks = h .1 yes } in
-        (subst (λ (x : ℕ). Marked (g .n) (gathered always place [] x) bits) same all, gathered-length len ∙ ap (λ (x : ℕ). length (gathered always place [] x)) same)
-
-    pub places-refused : not r ≡ true → (after : ℕ → Bool) (count : ℕ) → Left (g .n) Named false after count
-    unfolding places gathered
-    places-refused e after count =
-        subst (λ (xs : List ℕ). Left (g .n) xs false after count) (sym named-is)
-        (left-refused (g .n) (gathered taken sector places (g .l)) after count
-        (inside-longer (g .n) taken sector places 0 (g .l) (omega arith)
-        (subst (λ (x : ℕ). Inside (g .n) (gathered always place [] x) ≡ false) same (sym (h .0) ∙ not-of r e))))
+  pub entries-start : (bits : ℕ → Bool) → all (within 1 (n - 1)) others ≡ true → bits ≡ usedBy others → Entries 0 bits 0
+  unfolding Entries gathered
+  entries-start bits range marks = (record { range = range; marks = marks }, omega arith)
 
   pub entries-skip : (i : ℕ) (bits : ℕ → Bool) (count : ℕ) → entry i ≡ 0 → Entries i bits count → Entries (i + 1) bits count
   unfolding Entries taken
   entries-skip i bits count e m =
       let no : not (isEmpty (entry i)) ≡ false = ap not (eq-eqb (entry i) 0 e) in
-      (marking-skips (g .n) taken sector places i bits no (m .0), marking-passes (g .n) taken sector places i count no (m .1))
+      (marking-skips n taken sector others i bits no (m .0), marking-passes n taken sector others i (count + length others) no (m .1))
 
-  module _ (i k : ℕ) (r : Bool) (e : entry i ≡ 0 → ⊥) (s : k ≡ sectorOf (entry i)) (f : r ≡ within 1 (g .n - 1) k) where
-    told : r ≡ within 1 (g .n - 1) (sector i)
+  module _ (i k : ℕ) (r : Bool) (e : entry i ≡ 0 → ⊥) (s : k ≡ sectorOf (entry i)) (f : r ≡ within 1 (n - 1) k) where
+    told : r ≡ within 1 (n - 1) (sector i)
     unfolding sector
-    told = f ∙ ap (within 1 (g .n - 1)) s
+    told = f ∙ ap (within 1 (n - 1)) s
 
     is-taken : taken i ≡ true
     unfolding taken
@@ -246,18 +223,57 @@ module _ (g : Geometry) (entry place : ℕ → ℕ) where
     pub entry-marks : (bits after : ℕ → Bool) (count : ℕ) → Entries i bits count → not r ≡ false → after ≡ updated bits k true → Entries (i + 1) after (count + 1)
     unfolding Entries sector
     entry-marks bits after count m z u = (
-      marking-marks (g .n) taken sector places i is-taken r told bits after (m .0) z (u ∙ ap (λ (x : ℕ). updated bits x true) s),
-      marking-counts (g .n) taken sector places i is-taken r told count (m .1),
+      marking-marks n taken sector others i is-taken r told bits after (m .0) z (u ∙ ap (λ (x : ℕ). updated bits x true) s),
+      (let w = marking-counts n taken sector others i is-taken r told (count + length others) (m .1) in omega arith),
     )
 
-    pub entry-refused : i < g .l → not r ≡ true → (after : ℕ → Bool) (count : ℕ) → Left (g .n) Named false after count
-    entry-refused b z after count =
-        subst (λ (xs : List ℕ). Left (g .n) xs false after count) (sym named-is)
-        (left-refused (g .n) (gathered taken sector places (g .l)) after count (marking-refused (g .n) taken sector places i is-taken r told (g .l) b z))
+    pub entry-refused : (m : ℕ) → i < m → not r ≡ true → (after : ℕ → Bool) (count : ℕ) → EntriesMarked n entry m others false after count
+    entry-refused m b z after count =
+        subst (λ (xs : List ℕ). (false ≡ Inside n xs) × (false ≡ true → (after ≡ usedBy xs) × (count + length others ≡ length xs))) (sym (with-is m))
+        (sym (marking-refused n taken sector others i is-taken r told m b z), λ (y : false ≡ true). absurd (true≢false (sym y)))
 
-  pub entries-end : (i : ℕ) (bits : ℕ → Bool) (count : ℕ) → i ≡ g .l → Entries i bits count → Left (g .n) Named true bits count
+  pub entries-end : (i m : ℕ) (bits : ℕ → Bool) (count : ℕ) → i ≡ m → Entries i bits count → EntriesMarked n entry m others true bits count
   unfolding Entries
-  entries-end i bits count e m =
-      subst (λ (xs : List ℕ). Left (g .n) xs true bits count) (sym named-is)
-      (let all = subst (λ (x : ℕ). Marked (g .n) (gathered taken sector places x) bits × (count ≡ length (gathered taken sector places x))) e m in
+  entries-end i m bits count e h =
+      subst (λ (xs : List ℕ). (true ≡ Inside n xs) × (true ≡ true → (bits ≡ usedBy xs) × (count + length others ≡ length xs))) (sym (with-is m))
+      (let all = subst (λ (x : ℕ). Marked n (gathered taken sector others x) bits × (count + length others ≡ length (gathered taken sector others x))) e h in
       (sym (all .0 .range), λ (z : true ≡ true). (all .0 .marks, all .1)))
+
+-- All that tables name: the live places, then the sectors of the entries.
+module _ (g : Geometry) (entry place : ℕ → ℕ) where
+  places : List ℕ
+  places = gathered always place [] (piecesFor (g .l))
+
+  abbrev Named : List ℕ
+  Named = namedBy (g .l) entry place
+
+  named-is : Named ≡ withEntries entry (g .l) places
+  unfolding namedBy places
+  named-is = refl
+
+  gathered-length : (m : ℕ) → length (gathered always place [] m) ≡ m
+  unfolding gathered
+  gathered-length zero = refl
+  gathered-length (suc m) = ap suc (gathered-length m)
+
+  module _ (len : ℕ) (same : len ≡ piecesFor (g .l)) (bits : ℕ → Bool) (r : Bool)
+      (h : (r ≡ Inside (g .n) (gathered always place [] len)) × (r ≡ true → bits ≡ usedBy (gathered always place [] len))) where
+    pub places-refused : not r ≡ true → (after : ℕ → Bool) (count : ℕ) → Left (g .n) Named false after count
+    unfolding places gathered
+    places-refused e after count =
+        subst (λ (xs : List ℕ). Left (g .n) xs false after count) (sym named-is)
+        (left-refused (g .n) (withEntries entry (g .l) places) after count
+        (inside-longer (g .n) (λ b. not (isEmpty (entry b))) (λ b. sectorOf (entry b)) places 0 (g .l) (omega arith)
+        (subst (λ (x : ℕ). Inside (g .n) (gathered always place [] x) ≡ false) same (sym (h .0) ∙ not-of r e))))
+
+    pub names-marked : not r ≡ false → (m : ℕ) → m ≡ g .l → (inside : Bool) (after : ℕ → Bool) (count : ℕ)
+        → ((others : List ℕ) → all (within 1 (g .n - 1)) others ≡ true → bits ≡ usedBy others → EntriesMarked (g .n) entry m others inside after count)
+        → Left (g .n) Named inside after (len + count)
+    unfolding places
+    names-marked e m all inside after count f =
+        let yes = not-false r e in
+        let live : Inside (g .n) (gathered always place [] (piecesFor (g .l))) ≡ true = subst (λ (x : ℕ). Inside (g .n) (gathered always place [] x) ≡ true) same (sym (h .0) ∙ yes) in
+        let marked : bits ≡ usedBy (gathered always place [] (piecesFor (g .l))) = h .1 yes ∙ ap (λ (x : ℕ). usedBy (gathered always place [] x)) same in
+        let told = subst (λ (x : ℕ). EntriesMarked (g .n) entry x places inside after count) all (f places live marked) in
+        subst (λ (xs : List ℕ). Left (g .n) xs inside after (len + count)) (sym named-is)
+        (told .0, λ z. (told .1 z .0, (let w = told .1 z .1 in let q = gathered-length (piecesFor (g .l)) in omega arith)))

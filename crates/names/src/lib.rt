@@ -1,13 +1,14 @@
 // The sectors that tables name, marked in a bit map. That none is named twice shows in how many bits are then set.
 ghost use mathlib.Core.Path.{_≡_};
 ghost use mathlib.Core.Bool.{true, cond};
-ghost use mathlib.Core.List.{[]};
+ghost use mathlib.Core.List.{List, []};
 ghost use Prim.Native.Nat.{ℕ, _*_, _-_, _/_, _%_, _^_, _≤_, _<_};
 ghost use lib.ListN.{length, replicate};
 ghost use lib.Dec.{eqb};
 ghost use Rattle.geometry.specs.Geometry.{within, mostBlocks, mostSectors, piecesFor};
 ghost use Rattle.layout.specs.Bounded.{at, all, always, gathered};
 ghost use Rattle.volume.specs.Tables.{bitAt, namedBy, usedBy};
+ghost use Rattle.names.specs.Marked.{EntriesMarked};
 use geometry::Geometry;
 
 // Whether every named sector is one from 1 to n - 1, and then how many names there are.
@@ -52,26 +53,16 @@ fn mark_places(marks: &mut [u8], n: u32, places: &[u32]) -> bool
     true
 }
 
-// Marks sector 0 and every sector that the tables name: the live places, then the sectors of all non-zero entries. The word of 64
-// bits at hand is kept apart from the map while one name after the other falls into it.
-pub fn mark_names(marks: &mut [u8], g: Geometry, map: &[u32], places: &[u32]) -> Names
-    requires { ⌜ 1 ≤ g .n ⌝ }
-    requires { ⌜ g .n ≤ mostSectors ⌝ }
+// Marks the sectors of all non-zero entries, in a map in which others are marked. The word of 64 bits at hand is kept apart from the
+// map while one name after the other falls into it.
+fn mark_entries(marks: &mut [u8], n: u32, map: &[u32]) -> Names
+    requires { ⌜ 1 ≤ n ⌝ }
+    requires { ⌜ n ≤ mostSectors ⌝ }
     requires { ⌜ length (now marks) ≡ 8192 ⌝ }
-    requires { ⌜ g .l ≤ mostBlocks ⌝ }
-    requires { ⌜ length (now map) ≡ g .l ⌝ }
-    requires { ⌜ length (now places) ≡ piecesFor (g .l) ⌝ }
-    requires { ⌜ now marks ≡ replicate (length (now marks)) 0 ⌝ }
-    ensures { λ r. ⌜ (r .inside ≡ all (within 1 (g .n - 1)) (namedBy (g .l) (at (now (map .entry))) (at (now (places .entry))))) × (r .inside ≡ true → (bitAt (now (marks .exit)) ≡ usedBy (namedBy (g .l) (at (now (map .entry))) (at (now (places .entry))))) × (r .count ≡ length (namedBy (g .l) (at (now (map .entry))) (at (now (places .entry)))))) × (r .count ≤ 24832) ⌝ }
+    requires { ⌜ length (now map) ≤ mostBlocks ⌝ }
+    ensures { λ r. ⌜ ((others : List ℕ) → all (within 1 (n - 1)) others ≡ true → bitAt (now (marks .entry)) ≡ usedBy others → EntriesMarked n (at (now (map .entry))) (length (now (map .entry))) others (r .inside) (bitAt (now (marks .exit))) (r .count)) × (r .count ≤ mostBlocks) ⌝ }
 {
-    bits::set_bit(marks, 0);
-    if !mark_places(marks, g.n, places) {
-        return Names {
-            inside: false,
-            count: 0,
-        };
-    }
-    let mut count = places.len() as u32;
+    let mut count: u32 = 0;
     let mut hand = 0;
     let mut held = bits::word_at(marks, 0);
     let mut i = 0;
@@ -82,7 +73,7 @@ pub fn mark_names(marks: &mut [u8], g: Geometry, map: &[u32], places: &[u32]) ->
             continue 'entries;
         }
         let k = blocks::sector_of(entry);
-        if !is_inside(g.n, k) {
+        if !is_inside(n, k) {
             return Names {
                 inside: false,
                 count: 0,
@@ -102,6 +93,32 @@ pub fn mark_names(marks: &mut [u8], g: Geometry, map: &[u32], places: &[u32]) ->
     bits::put_word(marks, hand, held);
     Names {
         inside: true,
+        count,
+    }
+}
+
+// Marks sector 0 and every sector that the tables name: the live places, then the sectors of all non-zero entries.
+pub fn mark_names(marks: &mut [u8], g: Geometry, map: &[u32], places: &[u32]) -> Names
+    requires { ⌜ 1 ≤ g .n ⌝ }
+    requires { ⌜ g .n ≤ mostSectors ⌝ }
+    requires { ⌜ length (now marks) ≡ 8192 ⌝ }
+    requires { ⌜ g .l ≤ mostBlocks ⌝ }
+    requires { ⌜ length (now map) ≡ g .l ⌝ }
+    requires { ⌜ length (now places) ≡ piecesFor (g .l) ⌝ }
+    requires { ⌜ now marks ≡ replicate (length (now marks)) 0 ⌝ }
+    ensures { λ r. ⌜ (r .inside ≡ all (within 1 (g .n - 1)) (namedBy (g .l) (at (now (map .entry))) (at (now (places .entry))))) × (r .inside ≡ true → (bitAt (now (marks .exit)) ≡ usedBy (namedBy (g .l) (at (now (map .entry))) (at (now (places .entry))))) × (r .count ≡ length (namedBy (g .l) (at (now (map .entry))) (at (now (places .entry)))))) × (r .count ≤ 24832) ⌝ }
+{
+    bits::set_bit(marks, 0);
+    if !mark_places(marks, g.n, places) {
+        return Names {
+            inside: false,
+            count: 0,
+        };
+    }
+    let entries = mark_entries(marks, g.n, map);
+    let count = places.len() as u32 + entries.count;
+    Names {
+        inside: entries.inside,
         count,
     }
 }

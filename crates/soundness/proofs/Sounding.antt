@@ -1,16 +1,17 @@
 -- Sound tables: what each test of the code says of the whole, in the code's order.
 use Prim.Native.Nat.{ℕ, _+_, _*_, _-_, _≤_, _<_}
 use mathlib.Core.Path.{_≡_, refl, sym, _∙_, ap}
-use mathlib.Core.Bool.{Bool, true, false, not, _&&_, Bool·beq}
+use mathlib.Core.Logic.{⊎-elim}
+use mathlib.Core.Bool.{Bool, true, false, not, _&&_, Bool·beq, true≢false}
 use mathlib.Core.List.{List, []}
 use native.Mathlib.Omega.{arith}
 use lib.Dec.{eqb, leb}
-use borrow.Author.Tests.{leb-true, le-leb, lt-leb}
+use borrow.Author.Tests.{leb-true, eqb-true, eq-eqb, ne-eqb}
 use Rattle.geometry.specs.declared.Geometry.{Geometry}
 use Rattle.geometry.specs.Geometry.{within, piecesFor, mostBlocks, mostSectors, usedBytes, geometryFits}
 use Rattle.layout.specs.Bounded.{at, allBelow, best, all, distinct, always, gathered}
 use Rattle.volume.specs.Tables.{tablesOf, bitAt, namedBy, usedBy, freeSectors, consistent}
-use Rattle.laws.proofs.Bounded.{and-l, and-r, not-of, allBelow-at, count-le, count-same}
+use Rattle.laws.proofs.Bounded.{eq?, and-l, and-r, not-of, allBelow-at, count-le, count-same}
 use Rattle.laws.proofs.Names.{beq-true}
 use Rattle.names.proofs.Counting.{named-twice, named-once}
 use Rattle.names.proofs.Marking.{Left, not-false}
@@ -20,6 +21,16 @@ use Rattle.numbers.proofs.Numbering.{Agree}
 never : (x : Bool) → (x && false) ≡ false
 never true = refl
 never false = refl
+
+pub second : (a b : Bool) → a ≡ true → (a && b) ≡ false → b ≡ false
+second true b e f = f
+second false b e f = absurd (true≢false (sym e))
+
+pub twice : (free count n p : ℕ) → (free + count + 1 ≡ n → ⊥) → false ≡ (eqb (free + count + 1) n && leb p free)
+twice free count n p d = rw (ne-eqb (free + count + 1) n d) refl
+
+pub once-then : (free count n p q : ℕ) → free + count + 1 ≡ n → q ≡ p → leb q free ≡ (eqb (free + count + 1) n && leb p free)
+once-then free count n p q e f = rw (eq-eqb (free + count + 1) n e, f) refl
 
 module _ (a b c d e f g h : Bool) where
   pub inside-fails : a ≡ false → false ≡ (a && b && c && d && e && f && g && h)
@@ -128,21 +139,22 @@ module _ (g : Geometry) (map places numbers used : List ℕ) (tail number : ℕ)
             (λ k b. ap not (beq-true (bitAt used k) (usedBy Names k)
             (allBelow-at (λ k. Bool·beq (bitAt used k) (usedBy Names k)) (8 * usedBytes (g .n)) bits k (omega arith))))
 
-        pub twice-fails : (free + count + 1 ≡ g .n → ⊥) → false ≡ Whole
-        unfolding consistent
-        twice-fails d = once-fails Inside Once Bits Room D E F G inside (named-twice (g .n) some Names inside free count free-is (h .1 yes .1) d)
-
-        module _ (total : free + count + 1 ≡ g .n) (p : ℕ) (pieces : p ≡ piecesFor (g .l)) where
-          once : Once ≡ true
-          once = named-once (g .n) some Names inside free count free-is (h .1 yes .1) total
-
-          pub room-fails : free < p → false ≡ Whole
+        module _ (u : Bool) (w : u ≡ (eqb (free + count + 1) (g .n) && leb (piecesFor (g .l)) free)) where
+          pub room-fails : not u ≡ true → false ≡ Whole
           unfolding consistent
-          room-fails w =
-              room-fails-here Inside Once Bits Room D E F G inside once bits (lt-leb (piecesFor (g .l)) (freeSectors (g .n) (bitAt used)) (omega arith))
+          room-fails z =
+              ⊎-elim (λ (q : free + count + 1 ≡ g .n).
+              room-fails-here Inside Once Bits Room D E F G inside (named-once (g .n) some Names inside free count free-is (h .1 yes .1) q) bits
+              (ap (leb (piecesFor (g .l))) (sym counted) ∙ second (eqb (free + count + 1) (g .n)) (leb (piecesFor (g .l)) free) (eq-eqb (free + count + 1) (g .n) q) (sym w ∙ not-of u z)))
+              (λ (d : free + count + 1 ≡ g .n → ⊥).
+              once-fails Inside Once Bits Room D E F G inside (named-twice (g .n) some Names inside free count free-is (h .1 yes .1) d))
+              (eq? (free + count + 1) (g .n))
 
-          pub numbers-decide : p ≤ free → (u : Bool) (m : ℕ) → m ≡ piecesFor (g .l) → u ≡ Agree (at places) (at numbers) m tail number → u ≡ Whole
+          pub numbers-decide : not u ≡ false → (v : Bool) (m : ℕ) → m ≡ piecesFor (g .l) → v ≡ Agree (at places) (at numbers) m tail number → v ≡ Whole
           unfolding consistent
-          numbers-decide w u m same v =
-              v ∙ ap (λ (x : ℕ). Agree (at places) (at numbers) x tail number) same
-              ∙ rest-decides Inside Once Bits Room D E F G inside once bits (le-leb (piecesFor (g .l)) (freeSectors (g .n) (bitAt used)) (omega arith))
+          numbers-decide z v m same k =
+              let both = sym w ∙ not-false u z in
+              let total = eqb-true (free + count + 1) (g .n) (and-l (eqb (free + count + 1) (g .n)) (leb (piecesFor (g .l)) free) both) in
+              k ∙ ap (λ (x : ℕ). Agree (at places) (at numbers) x tail number) same
+              ∙ rest-decides Inside Once Bits Room D E F G inside (named-once (g .n) some Names inside free count free-is (h .1 yes .1) total) bits
+              (ap (leb (piecesFor (g .l))) (sym counted) ∙ and-r (eqb (free + count + 1) (g .n)) (leb (piecesFor (g .l)) free) both)

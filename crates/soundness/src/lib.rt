@@ -1,9 +1,9 @@
 // Sound tables ("consistent"), as a call checks them before it changes anything.
 ghost use mathlib.Core.Path.{_≡_};
 ghost use mathlib.Core.Bool.{true, _&&_, Bool·beq};
-ghost use Prim.Native.Nat.{_*_, _≤_};
+ghost use Prim.Native.Nat.{_+_, _*_, _≤_};
 ghost use lib.ListN.{length};
-ghost use lib.Dec.{eqb};
+ghost use lib.Dec.{eqb, leb};
 ghost use Rattle.geometry.specs.Geometry.{piecesFor, usedBytes, geometryFits};
 ghost use Rattle.layout.specs.Bounded.{allBelow};
 ghost use Rattle.volume.specs.Tables.{bitAt, tablesOf, freeSectors, consistent};
@@ -33,8 +33,21 @@ fn bits_agree(used: &[u8], marks: &[u8]) -> bool
     good
 }
 
+// Whether no sector is named twice, and P are free. Names that are all different take as many sectors as they are, and sector 0 is one
+// more.
+pub fn once_with_room(g: Geometry, count: u32, free: u32) -> bool
+    requires { ⌜ count ≤ 24832 ⌝ }
+    requires { ⌜ free ≤ 65536 ⌝ }
+    ensures { λ r. ⌜ r ≡ (eqb (free + count + 1) (g .n) && leb (piecesFor (g .l)) free) ⌝ }
+{
+    if free + count + 1 != g.n {
+        return false;
+    }
+    Geometry::pieces_for(g.l) <= free
+}
+
 // Whether the tables are sound, in a used map with so many free sectors. The sectors that they name are marked in a map of their own,
-// which is then compared; no sector is named twice where as many are used as there are names, and sector 0.
+// which is then compared.
 pub fn is_consistent(
     g: Geometry,
     map: &[u32],
@@ -61,10 +74,7 @@ pub fn is_consistent(
     if !bits_agree(used, &marks) {
         return false;
     }
-    if free + named.count + 1 != g.n {
-        return false;
-    }
-    if free < Geometry::pieces_for(g.l) {
+    if !once_with_room(g, named.count, free) {
         return false;
     }
     numbers::numbers_agree(places, numbers, tail, number)

@@ -1,305 +1,91 @@
--- The live places and the entries below i are marked, with the word at hand put back.
-use Prim.Native.Nat.{ℕ, _+_, _-_, _/_, _≤_, _<_}
-use mathlib.Core.Path.{_≡_, refl, sym, _∙_, ap, subst}
-use mathlib.Core.Bool.{Bool, true}
+-- The places are marked, and then the entries.
+use mathlib.Core.Path.{_∙_}
 use native.Mathlib.Omega.{arith}
 use lib.ListN.{length}
 use borrow.Author.Needs.{needs}
-use Rattle.layout.specs.Bounded.{at, updated}
-use Rattle.volume.specs.Tables.{bitAt}
-use Rattle.bits.proofs.WordLaws.{Back, back-same, back-set}
-use Rattle.names.proofs.Marking.{Entries, zeros-marked, entries-start, places-refused, entries-skip, entry-marks, entry-refused, entries-end, inside-below}
+use Rattle.names.proofs.Marking.{zeros-marked, places-refused, names-marked}
 use Rattle.names.proofs.mark_names.Statement.{statement}
 use Rattle.names.proofs.mark_names.Tie as tie
 
-abbrev Inv-entries : tie.InvT-entries
-Inv-entries marks₀ g map places count₀ hand₀ held₀ i₀ marks count hand held i =
-    (i ≤ length map) × (length marks ≡ length marks₀) × (hand < 1024) × (count ≤ length places + i)
-    × Entries g (at map) (at places) i (Back hand held (bitAt marks)) count
+set-bit-requires : tie.Need-set-bit-requires
+set-bit-requires c κs =
+    let the-pre = c .before .before .before .before .pre in
+    let size = the-pre .1 .1 .0 in
+    omega arith
 
-abbrev μ-entries : tie.MeasureT-entries
-μ-entries marks₀ g map places count₀ hand₀ held₀ i₀ marks count hand held i = length map - i
-
-set-bit-requires : tie.Need-set-bit-requires Inv-entries μ-entries
-set-bit-requires c κs = omega arith
-
-mark-places-requires : tie.Need-mark-places-requires Inv-entries μ-entries
+mark-places-requires : tie.Need-mark-places-requires
 mark-places-requires c κs =
-    let a = c .before .before .before .before .before .before .before .before .args in
+    let the-set-bit = c .before .before .before .set-bit in
     let p = c .before .before .before .before .before .before .before .before .pre in
-    let b = c .before .before .before .set-bit in
-    let e = b .kept .0 in
+    let a = c .before .before .before .before .before .before .before .before .args in
+    let e = the-set-bit .kept .0 in
     let h = p .1 .0 in
     let size = p .1 .1 .0 in
-    (p .0, (omega arith, zeros-marked _ (a .marks .now) (length (a .marks .now)) (p .1 .1 .1 .1 .1 .1) (b .ensures)))
+    (p .0, (omega arith, zeros-marked _ (a .marks .now) (length (a .marks .now)) (p .1 .1 .1 .1 .1 .1) (the-set-bit .ensures)))
 
-same-length : tie.Need-same-length Inv-entries μ-entries
-same-length c =
-    let the-mark-places = c .before .before .before .mark-places in
-    let the-set-bit = c .before .before .before .before .before .before .before .set-bit in
-    the-mark-places .kept .0 ∙ the-set-bit .kept .0
+same-length : tie.Need-same-length
+same-length c = search needs
 
-returns : tie.Need-returns Inv-entries μ-entries
+returns : tie.Need-returns
 returns c =
-    let a = c .before .before .before .before .before .before .before .before .before .before .before .before .args in
-    let the-pre = c .before .before .before .before .before .before .before .before .before .before .before .before .pre in
     let m = c .before .before .before .mark-places in
-    let left = places-refused (a .g) _ _ _ (the-pre .1 .1 .1 .1 .1 .0) _ (m .result) (m .ensures) (c .if1 .taken) _ _ in
+    let p = c .before .before .before .before .before .before .before .before .before .before .before .before .pre in
+    let a = c .before .before .before .before .before .before .before .before .before .before .before .before .args in
+    let left = places-refused (a .g) _ _ _ (p .1 .1 .1 .1 .1 .0) _ (m .result) (m .ensures) (c .if1 .taken) _ _ in
     (left .0, left .1, omega arith)
 
-cast-count : tie.Need-cast-count Inv-entries μ-entries
-cast-count c =
-    let the-pre = c .before .before .before .before .before .before .before .before .before .before .before .before .pre in
-    omega arith
-
-word-at-requires : tie.Need-word-at-requires Inv-entries μ-entries
-word-at-requires c κs =
-    let the-mark-places = c .before .before .before .before .mark-places in
+mark-entries-requires : tie.Need-mark-entries-requires
+mark-entries-requires c κs =
+    let m = c .before .before .before .before .mark-places in
     let the-set-bit = c .before .before .before .before .before .before .before .before .set-bit in
-    let the-pre = c .before .before .before .before .before .before .before .before .before .before .before .before .before .pre in
-    let size = the-pre .1 .1 .0 in
-    let e = the-mark-places .kept .0 in
-    let f = the-set-bit .kept .0 in
+    let p = c .before .before .before .before .before .before .before .before .before .before .before .before .before .pre in
+    let map = p .1 .1 .1 .1 .0 in
+    let few = p .1 .1 .1 .0 in
+    (p .0, (p .1 .0, (m .kept .0 ∙ the-set-bit .kept .0 ∙ p .1 .1 .0, omega arith)))
+
+cast-count : tie.Need-cast-count
+cast-count c =
+    let p = c .before .before .before .before .before .before .before .before .before .before .before .before .before .before .before .before .pre in
+    let few = p .1 .1 .1 .0 in
+    let size = p .1 .1 .1 .1 .1 .0 in
     omega arith
 
-entries-holds : tie.Need-entries-holds Inv-entries μ-entries
-entries-holds c =
-    let the-if1 = c .before .before .if1 in
-    let the-word-at = c .word-at in
-    let m = c .before .before .before .before .before .mark-places in
-    let the-pre = c .before .before .before .before .before .before .before .before .before .before .before .before .before .before .pre in
-    let a = c .before .before .before .before .before .before .before .before .before .before .before .before .before .before .args in
-    let same = back-same 0 (the-word-at .result) (bitAt (m .last .0)) (the-word-at .ensures) in (
-      omega arith,
-      refl,
-      omega arith,
-      omega arith,
-      subst (λ (bits : ℕ → Bool). Entries (a .g) (at (a .map .now)) (at (a .places .now)) 0 bits (length (a .places .now))) (sym same)
-          (entries-start (a .g) _ _ _ (the-pre .1 .1 .1 .1 .1 .0) _ (m .result) (m .ensures) (the-if1 .left)),
-    )
-
-mul-entry : tie.Need-mul-entry Inv-entries μ-entries
-mul-entry c = omega arith
-
-shared-slice-read-entry : tie.Need-shared-slice-read-entry Inv-entries μ-entries
-shared-slice-read-entry c = omega arith
-
-add-i : tie.Need-add-i Inv-entries μ-entries
-add-i c = omega arith
-
-entries-less : tie.Need-entries-less Inv-entries μ-entries
-entries-less c = omega arith
-
-entries-again : tie.Need-entries-again Inv-entries μ-entries
-entries-again c =
-    let l = c .before .before .before .entries in
-    let a = c .before .before .before .before .before .before .before .before .before .before .before .before .before .before .before .before .before .before .args in
-    let few = l .inv .3 in (
-      omega arith,
-      l .inv .1,
-      l .inv .2,
-      omega arith,
-      entries-skip (a .g) (at (a .map .now)) (at (a .places .now)) (l .i) _ (l .count) (c .if2 .taken) (l .inv .4),
-    )
-
-sector-of-requires : tie.Need-sector-of-requires Inv-entries μ-entries
-sector-of-requires c κs = search needs
-
-is-inside-requires : tie.Need-is-inside-requires Inv-entries μ-entries
-is-inside-requires c κs =
-    let the-pre = c .before .before .before .before .before .before .before .before .before .before .before .before .before .before .before .before .before .before .before .pre in
-    the-pre .0
-
-same-length-2 : tie.Need-same-length-2 Inv-entries μ-entries
-same-length-2 c =
-    let l = c .before .before .before .before .before .before .entries in
-    let the-mark-places = c .before .before .before .before .before .before .before .before .before .before .before .before .mark-places in
-    let the-set-bit = c .before .before .before .before .before .before .before .before .before .before .before .before .before .before .before .before .set-bit in
-    l .inv .1 ∙ the-mark-places .kept .0 ∙ the-set-bit .kept .0
-
-returns-2 : tie.Need-returns-2 Inv-entries μ-entries
-returns-2 c =
-    let the-is-inside = c .before .is-inside in
-    let the-sector-of = c .before .before .sector-of in
-    let the-if2 = c .before .before .before .if2 in
-    let the-entries-test = c .before .before .before .before .before .entries-test in
-    let l = c .before .before .before .before .before .before .entries in
-    let the-pre = c .before .before .before .before .before .before .before .before .before .before .before .before .before .before .before .before .before .before .before .before .before .pre in
-    let a = c .before .before .before .before .before .before .before .before .before .before .before .before .before .before .before .before .before .before .before .before .before .args in
-    let left = entry-refused (a .g) (at (a .map .now)) (at (a .places .now)) (l .i) (the-sector-of .result) (the-is-inside .result) (the-if2 .left) (the-sector-of .ensures) (the-is-inside .ensures)
-    (subst (λ (x : ℕ). l .i < x) (the-pre .1 .1 .1 .1 .0) (the-entries-test .taken)) (c .if3 .taken) _ _ in
-    (left .0, left .1, omega arith)
-
-cast-q : tie.Need-cast-q Inv-entries μ-entries
-cast-q c = search needs
-
-add-count : tie.Need-add-count Inv-entries μ-entries
+add-count : tie.Need-add-count
 add-count c =
-    let l = c .before .before .before .before .before .before .entries in
-    let the-pre = c .before .before .before .before .before .before .before .before .before .before .before .before .before .before .before .before .before .before .before .before .before .pre in
-    let few = l .inv .3 in
+    let the-mark-entries = c .before .before .before .mark-entries in
+    let p = c .before .before .before .before .before .before .before .before .before .before .before .before .before .before .before .before .before .pre in
+    let few = p .1 .1 .1 .0 in
+    let size = p .1 .1 .1 .1 .1 .0 in
+    let most = the-mark-entries .ensures .1 in
     omega arith
 
-add-i-2 : tie.Need-add-i-2 Inv-entries μ-entries
-add-i-2 c = omega arith
+same-length-2 : tie.Need-same-length-2
+same-length-2 c = search needs
 
-with-bit-requires : tie.Need-with-bit-requires Inv-entries μ-entries
-with-bit-requires c κs = search needs
-
-entries-less-2 : tie.Need-entries-less-2 Inv-entries μ-entries
-entries-less-2 c = omega arith
-
-entries-again-2 : tie.Need-entries-again-2 Inv-entries μ-entries
-entries-again-2 c =
-    let the-with-bit = c .with-bit in
-    let the-if4 = c .before .if4 in
-    let the-if3 = c .before .before .if3 in
-    let the-is-inside = c .before .before .before .is-inside in
-    let the-sector-of = c .before .before .before .before .sector-of in
-    let the-if2 = c .before .before .before .before .before .if2 in
-    let l = c .before .before .before .before .before .before .before .before .entries in
-    let a = c .before .before .before .before .before .before .before .before .before .before .before .before .before .before .before .before .before .before .before .before .before .before .before .args in
-    let k = the-sector-of .result in
-    let few = l .inv .3 in (
-      omega arith,
-      l .inv .1,
-      l .inv .2,
-      omega arith,
-      entry-marks (a .g) (at (a .map .now)) (at (a .places .now)) (l .i) k (the-is-inside .result) (the-if2 .left) (the-sector-of .ensures) (the-is-inside .ensures) _ _ (l .count) (l .inv .4) (the-if3 .left)
-          (back-set (l .hand) (l .held) (the-with-bit .result) k (bitAt (l .marks)) (the-if4 .taken) (the-with-bit .ensures)),
-    )
-
-put-word-requires : tie.Need-put-word-requires Inv-entries μ-entries
-put-word-requires c κs =
-    let l = c .before .before .before .before .before .before .before .before .entries in
-    let the-mark-places = c .before .before .before .before .before .before .before .before .before .before .before .before .before .before .mark-places in
-    let the-set-bit = c .before .before .before .before .before .before .before .before .before .before .before .before .before .before .before .before .before .before .set-bit in
-    let the-pre = c .before .before .before .before .before .before .before .before .before .before .before .before .before .before .before .before .before .before .before .before .before .before .before .pre in
-    let size = the-pre .1 .1 .0 in
-    let e = l .inv .1 in
-    let f = the-mark-places .kept .0 in
-    let h = the-set-bit .kept .0 in
-    let low = l .inv .2 in
-    omega arith
-
-word-at-requires-2 : tie.Need-word-at-requires-2 Inv-entries μ-entries
-word-at-requires-2 c κs =
-    let the-put-word = c .before .before .before .put-word in
-    let the-if3 = c .before .before .before .before .before .before .if3 in
-    let the-is-inside = c .before .before .before .before .before .before .before .is-inside in
-    let the-sector-of = c .before .before .before .before .before .before .before .before .sector-of in
-    let l = c .before .before .before .before .before .before .before .before .before .before .before .before .entries in
-    let the-mark-places = c .before .before .before .before .before .before .before .before .before .before .before .before .before .before .before .before .before .before .mark-places in
-    let the-set-bit = c .before .before .before .before .before .before .before .before .before .before .before .before .before .before .before .before .before .before .before .before .before .before .set-bit in
-    let the-pre = c .before .before .before .before .before .before .before .before .before .before .before .before .before .before .before .before .before .before .before .before .before .before .before .before .before .before .before .pre in
-    let a = c .before .before .before .before .before .before .before .before .before .before .before .before .before .before .before .before .before .before .before .before .before .before .before .before .before .before .before .args in
-    let size = the-pre .1 .1 .0 in
-    let most = the-pre .1 .0 in
-    let e = l .inv .1 in
-    let f = the-mark-places .kept .0 in
-    let h = the-set-bit .kept .0 in
-    let kept = the-put-word .kept .0 in
-    let below = inside-below (a .g .n) (the-sector-of .result) (the-pre .0) (the-is-inside .result) (the-is-inside .ensures) (the-if3 .left) in
-    omega arith
-
-with-bit-requires-2 : tie.Need-with-bit-requires-2 Inv-entries μ-entries
-with-bit-requires-2 c κs = search needs
-
-entries-less-3 : tie.Need-entries-less-3 Inv-entries μ-entries
-entries-less-3 c = omega arith
-
-entries-again-3 : tie.Need-entries-again-3 Inv-entries μ-entries
-entries-again-3 c =
-    let the-with-bit2 = c .with-bit2 in
-    let the-word-at2 = c .before .word-at2 in
-    let the-put-word = c .before .before .before .before .before .put-word in
-    let the-if3 = c .before .before .before .before .before .before .before .before .if3 in
-    let the-is-inside = c .before .before .before .before .before .before .before .before .before .is-inside in
-    let the-sector-of = c .before .before .before .before .before .before .before .before .before .before .sector-of in
-    let the-if2 = c .before .before .before .before .before .before .before .before .before .before .before .if2 in
-    let l = c .before .before .before .before .before .before .before .before .before .before .before .before .before .before .entries in
-    let the-pre = c .before .before .before .before .before .before .before .before .before .before .before .before .before .before .before .before .before .before .before .before .before .before .before .before .before .before .before .before .before .pre in
-    let a = c .before .before .before .before .before .before .before .before .before .before .before .before .before .before .before .before .before .before .before .before .before .before .before .before .before .before .before .before .before .args in
-    let k = the-sector-of .result in
-    let few = l .inv .3 in
-    let most = the-pre .1 .0 in
-    let below = inside-below (a .g .n) k (the-pre .0) (the-is-inside .result) (the-is-inside .ensures) (the-if3 .left) in
-    let here = subst (λ (bits : ℕ → Bool). Entries (a .g) (at (a .map .now)) (at (a .places .now)) (l .i) bits (l .count)) (sym (the-put-word .ensures)) (l .inv .4) in
-    let same = back-same (k / 64) (the-word-at2 .result) (bitAt (the-put-word .last .0)) (the-word-at2 .ensures) in (
-      omega arith,
-      the-put-word .kept .0 ∙ l .inv .1,
-      omega arith,
-      omega arith,
-      entry-marks (a .g) (at (a .map .now)) (at (a .places .now)) (l .i) k (the-is-inside .result) (the-if2 .left) (the-sector-of .ensures) (the-is-inside .ensures) _ _ (l .count) here (the-if3 .left)
-          (back-set (k / 64) (the-word-at2 .result) (the-with-bit2 .result) k (bitAt (the-put-word .last .0)) refl (the-with-bit2 .ensures)
-          ∙ ap (λ (bits : ℕ → Bool). updated bits k true) same),
-    )
-
-put-word-requires-2 : tie.Need-put-word-requires-2 Inv-entries μ-entries
-put-word-requires-2 c κs =
-    let l = c .before .before .entries in
-    let the-mark-places = c .before .before .before .before .before .before .before .before .mark-places in
-    let the-set-bit = c .before .before .before .before .before .before .before .before .before .before .before .before .set-bit in
-    let the-pre = c .before .before .before .before .before .before .before .before .before .before .before .before .before .before .before .before .before .pre in
-    let size = the-pre .1 .1 .0 in
-    let e = l .inv .1 in
-    let f = the-mark-places .kept .0 in
-    let h = the-set-bit .kept .0 in
-    let low = l .inv .2 in
-    omega arith
-
-same-length-3 : tie.Need-same-length-3 Inv-entries μ-entries
-same-length-3 c =
-    let the-put-word2 = c .before .before .put-word2 in
-    let l = c .before .before .before .before .before .entries in
-    let the-mark-places = c .before .before .before .before .before .before .before .before .before .before .before .mark-places in
-    let the-set-bit = c .before .before .before .before .before .before .before .before .before .before .before .before .before .before .before .set-bit in
-    the-put-word2 .kept .0 ∙ l .inv .1 ∙ the-mark-places .kept .0 ∙ the-set-bit .kept .0
-
-returns-3 : tie.Need-returns-3 Inv-entries μ-entries
-returns-3 c =
-    let the-put-word2 = c .before .before .put-word2 in
-    let l = c .before .before .before .before .before .entries in
-    let the-pre = c .before .before .before .before .before .before .before .before .before .before .before .before .before .before .before .before .before .before .before .before .pre in
-    let a = c .before .before .before .before .before .before .before .before .before .before .before .before .before .before .before .before .before .before .before .before .args in
-    let few = l .inv .3 in
-    let here = subst (λ (bits : ℕ → Bool). Entries (a .g) (at (a .map .now)) (at (a .places .now)) (l .i) bits (l .count)) (sym (the-put-word2 .ensures)) (l .inv .4) in
-    let left = entries-end (a .g) (at (a .map .now)) (at (a .places .now)) (l .i) _ (l .count) (omega arith) here in
+returns-2 : tie.Need-returns-2
+returns-2 c =
+    let the-mark-entries = c .before .before .before .mark-entries in
+    let the-if1 = c .before .before .before .before .before .if1 in
+    let m = c .before .before .before .before .before .before .before .before .mark-places in
+    let p = c .before .before .before .before .before .before .before .before .before .before .before .before .before .before .before .before .before .pre in
+    let a = c .before .before .before .before .before .before .before .before .before .before .before .before .before .before .before .before .before .args in
+    let most = the-mark-entries .ensures .1 in
+    let few = p .1 .1 .1 .0 in
+    let size = p .1 .1 .1 .1 .1 .0 in
+    let left = names-marked (a .g) _ _ (length (a .places .now)) size _ (m .result) (m .ensures) (the-if1 .left) (length (a .map .now)) (p .1 .1 .1 .1 .0)
+    (the-mark-entries .result .inside) _ (the-mark-entries .result .count) (the-mark-entries .ensures .0) in
     (left .0, left .1, omega arith)
 
 pub mark-names-spec : {M : Type 1} → statement M
 mark-names-spec =
     tie.close
     (tie.spec
-    Inv-entries
-    μ-entries
     set-bit-requires
     mark-places-requires
     same-length
     returns
+    mark-entries-requires
     cast-count
-    word-at-requires
-    entries-holds
-    mul-entry
-    shared-slice-read-entry
-    add-i
-    entries-less
-    entries-again
-    sector-of-requires
-    is-inside-requires
-    same-length-2
-    returns-2
-    cast-q
     add-count
-    add-i-2
-    with-bit-requires
-    entries-less-2
-    entries-again-2
-    put-word-requires
-    word-at-requires-2
-    with-bit-requires-2
-    entries-less-3
-    entries-again-3
-    put-word-requires-2
-    same-length-3
-    returns-3)
+    same-length-2
+    returns-2)

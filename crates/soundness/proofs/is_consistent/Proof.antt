@@ -2,7 +2,7 @@
 use mathlib.Core.Path.{refl, sym, _∙_}
 use native.Mathlib.Omega.{arith}
 use lib.ListN.{length}
-use Rattle.soundness.proofs.Sounding.{blocks-some, blocks-most, sectors-some, sectors-most, names-fail, bits-fail, twice-fails, room-fails, numbers-decide, free-few}
+use Rattle.soundness.proofs.Sounding.{blocks-some, blocks-most, sectors-some, sectors-most, names-fail, bits-fail, room-fails, numbers-decide, free-few}
 use borrow.Author.Needs.{needs}
 use Rattle.soundness.proofs.is_consistent.Statement.{statement}
 use Rattle.soundness.proofs.is_consistent.Tie as tie
@@ -49,28 +49,43 @@ returns-2 c =
     _ (the-mark-names .result .inside) (the-mark-names .result .count) (the-mark-names .ensures .0, the-mark-names .ensures .1) (the-if1 .left)
     (the-bits-agree .result) (length (a .used .now)) (p .1 .1 .1 .1 .0) (the-bits-agree .ensures) (c .if2 .taken)
 
-add-if3 : tie.Need-add-if3
-add-if3 c =
-    let the-mark-names = c .before .before .before .before .before .before .before .mark-names in
-    let a = c .before .before .before .before .before .before .before .before .before .before .before .before .before .args in
-    let p = c .before .before .before .before .before .before .before .before .before .before .before .before .before .pre in
-    let few = the-mark-names .ensures .2 in
+once-with-room-requires : tie.Need-once-with-room-requires
+once-with-room-requires c κs =
+    let the-mark-names = c .before .before .before .before .before .before .mark-names in
+    let a = c .before .before .before .before .before .before .before .before .before .before .before .before .args in
+    let p = c .before .before .before .before .before .before .before .before .before .before .before .before .pre in
     let most = sectors-most (a .g) (p .0) in
-    let free = free-few (a .g .n) (a .free) _ (p .1 .1 .1 .1 .1) in
-    omega arith
-
-add-if3-2 : tie.Need-add-if3-2
-add-if3-2 c =
-    let the-mark-names = c .before .before .before .before .before .before .before .mark-names in
-    let a = c .before .before .before .before .before .before .before .before .before .before .before .before .before .args in
-    let p = c .before .before .before .before .before .before .before .before .before .before .before .before .before .pre in
-    let few = the-mark-names .ensures .2 in
-    let most = sectors-most (a .g) (p .0) in
-    let free = free-few (a .g .n) (a .free) _ (p .1 .1 .1 .1 .1) in
-    omega arith
+    let few = free-few (a .g .n) (a .free) _ (p .1 .1 .1 .1 .1) in
+    (the-mark-names .ensures .2, omega arith)
 
 returns-3 : tie.Need-returns-3
 returns-3 c =
+    let the-once-with-room = c .before .once-with-room in
+    let the-if2 = c .before .before .if2 in
+    let the-bits-agree = c .before .before .before .bits-agree in
+    let the-if1 = c .before .before .before .before .before .if1 in
+    let the-mark-names = c .before .before .before .before .before .before .before .before .mark-names in
+    let a = c .before .before .before .before .before .before .before .before .before .before .before .before .before .before .args in
+    let p = c .before .before .before .before .before .before .before .before .before .before .before .before .before .before .pre in
+    let some = sectors-some (a .g) (p .0) in
+    room-fails (a .g) (a .map .now) (a .places .now) (a .numbers .now) (a .used .now) (a .tail) (a .number)
+    _ (the-mark-names .result .inside) (the-mark-names .result .count) (the-mark-names .ensures .0, the-mark-names .ensures .1) (the-if1 .left)
+    (the-bits-agree .result) (length (a .used .now)) (p .1 .1 .1 .1 .0) (the-bits-agree .ensures) (the-if2 .left) (omega arith) (a .free) (p .1 .1 .1 .1 .1)
+    (the-once-with-room .result) (the-once-with-room .ensures) (c .if3 .taken)
+
+numbers-agree-requires : tie.Need-numbers-agree-requires
+numbers-agree-requires c κs =
+    let a = c .before .before .before .before .before .before .before .before .before .before .before .before .before .before .args in
+    let p = c .before .before .before .before .before .before .before .before .before .before .before .before .before .before .pre in
+    let some = blocks-some (a .g) (p .0) in
+    let e = p .1 .1 .1 .0 in
+    (omega arith, p .1 .1 .0 ∙ sym e)
+
+returns-4 : tie.Need-returns-4
+returns-4 c =
+    let the-numbers-agree = c .numbers-agree in
+    let the-if3 = c .before .if3 in
+    let the-once-with-room = c .before .before .once-with-room in
     let the-if2 = c .before .before .before .if2 in
     let the-bits-agree = c .before .before .before .before .bits-agree in
     let the-if1 = c .before .before .before .before .before .before .if1 in
@@ -78,54 +93,10 @@ returns-3 c =
     let a = c .before .before .before .before .before .before .before .before .before .before .before .before .before .before .before .args in
     let p = c .before .before .before .before .before .before .before .before .before .before .before .before .before .before .before .pre in
     let some = sectors-some (a .g) (p .0) in
-    twice-fails (a .g) (a .map .now) (a .places .now) (a .numbers .now) (a .used .now) (a .tail) (a .number)
-    _ (the-mark-names .result .inside) (the-mark-names .result .count) (the-mark-names .ensures .0, the-mark-names .ensures .1) (the-if1 .left)
-    (the-bits-agree .result) (length (a .used .now)) (p .1 .1 .1 .1 .0) (the-bits-agree .ensures) (the-if2 .left) (omega arith) (a .free) (p .1 .1 .1 .1 .1) (c .if3 .taken)
-
-pieces-for-requires : tie.Need-pieces-for-requires
-pieces-for-requires c κs = search needs
-
-returns-4 : tie.Need-returns-4
-returns-4 c =
-    let the-pieces-for = c .before .pieces-for in
-    let the-if3 = c .before .before .if3 in
-    let the-if2 = c .before .before .before .before .before .if2 in
-    let the-bits-agree = c .before .before .before .before .before .before .bits-agree in
-    let the-if1 = c .before .before .before .before .before .before .before .before .if1 in
-    let the-mark-names = c .before .before .before .before .before .before .before .before .before .before .before .mark-names in
-    let a = c .before .before .before .before .before .before .before .before .before .before .before .before .before .before .before .before .before .args in
-    let p = c .before .before .before .before .before .before .before .before .before .before .before .before .before .before .before .before .before .pre in
-    let some = sectors-some (a .g) (p .0) in
-    room-fails (a .g) (a .map .now) (a .places .now) (a .numbers .now) (a .used .now) (a .tail) (a .number)
-    _ (the-mark-names .result .inside) (the-mark-names .result .count) (the-mark-names .ensures .0, the-mark-names .ensures .1) (the-if1 .left)
-    (the-bits-agree .result) (length (a .used .now)) (p .1 .1 .1 .1 .0) (the-bits-agree .ensures) (the-if2 .left) (omega arith) (a .free) (p .1 .1 .1 .1 .1) (the-if3 .left)
-    (the-pieces-for .result) (the-pieces-for .ensures) (c .if4 .taken)
-
-numbers-agree-requires : tie.Need-numbers-agree-requires
-numbers-agree-requires c κs =
-    let a = c .before .before .before .before .before .before .before .before .before .before .before .before .before .before .before .before .before .args in
-    let p = c .before .before .before .before .before .before .before .before .before .before .before .before .before .before .before .before .before .pre in
-    let some = blocks-some (a .g) (p .0) in
-    let e = p .1 .1 .1 .0 in
-    (omega arith, p .1 .1 .0 ∙ sym e)
-
-returns-5 : tie.Need-returns-5
-returns-5 c =
-    let the-numbers-agree = c .numbers-agree in
-    let the-if4 = c .before .if4 in
-    let the-pieces-for = c .before .before .pieces-for in
-    let the-if3 = c .before .before .before .if3 in
-    let the-if2 = c .before .before .before .before .before .before .if2 in
-    let the-bits-agree = c .before .before .before .before .before .before .before .bits-agree in
-    let the-if1 = c .before .before .before .before .before .before .before .before .before .if1 in
-    let the-mark-names = c .before .before .before .before .before .before .before .before .before .before .before .before .mark-names in
-    let a = c .before .before .before .before .before .before .before .before .before .before .before .before .before .before .before .before .before .before .args in
-    let p = c .before .before .before .before .before .before .before .before .before .before .before .before .before .before .before .before .before .before .pre in
-    let some = sectors-some (a .g) (p .0) in
     numbers-decide (a .g) (a .map .now) (a .places .now) (a .numbers .now) (a .used .now) (a .tail) (a .number)
     _ (the-mark-names .result .inside) (the-mark-names .result .count) (the-mark-names .ensures .0, the-mark-names .ensures .1) (the-if1 .left)
-    (the-bits-agree .result) (length (a .used .now)) (p .1 .1 .1 .1 .0) (the-bits-agree .ensures) (the-if2 .left) (omega arith) (a .free) (p .1 .1 .1 .1 .1) (the-if3 .left)
-    (the-pieces-for .result) (the-pieces-for .ensures) (the-if4 .left)
+    (the-bits-agree .result) (length (a .used .now)) (p .1 .1 .1 .1 .0) (the-bits-agree .ensures) (the-if2 .left) (omega arith) (a .free) (p .1 .1 .1 .1 .1)
+    (the-once-with-room .result) (the-once-with-room .ensures) (the-if3 .left)
     (the-numbers-agree .result) (length (a .numbers .now)) (p .1 .1 .1 .0) (the-numbers-agree .ensures)
 
 pub is-consistent-spec : {M : Type 1} → statement M
@@ -138,10 +109,7 @@ is-consistent-spec =
     slice-aggregate-bits-agree
     bits-agree-requires
     returns-2
-    add-if3
-    add-if3-2
+    once-with-room-requires
     returns-3
-    pieces-for-requires
-    returns-4
     numbers-agree-requires
-    returns-5)
+    returns-4)

@@ -1,0 +1,2 @@
+-- How entries are marked.
+pub mod Marked
