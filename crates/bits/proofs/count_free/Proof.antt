@@ -41,7 +41,6 @@ cast-is-set c = omega arith
 
 is-set-requires : tie.Need-is-set-requires Inv-loop μ-loop
 is-set-requires c κs =
-    let the-pre = c .before .before .before .before .pre in
     omega arith
 
 add-free : tie.Need-add-free Inv-loop μ-loop
@@ -75,8 +74,6 @@ returns : tie.Need-returns Inv-loop μ-loop
 returns c =
     let a = c .before .before .before .before .args in
     let l = c .before .loop in
-    let i = l .inv .0 in
-    let t = c .loop-test .left in
     l .inv .1 ∙ ap (λ (x : ℕ). freeSectors x (bitAt (a .used .now))) (let e : l .k ≡ a .n = omega arith in e)
 
 pub count-free-spec : {M : Type 1} → statement M

@@ -52,7 +52,6 @@ returns : tie.Need-returns Inv-loop μ-loop
 returns c =
     let a = c .before .before .before .args in
     let the-loop = c .before .loop in
-    let the-loop-test = c .loop-test in
     let last : the-loop .w ≡ a .words = omega arith in
     the-loop .inv .1 ∙ ap (λ (x : ℕ). countBelow (bitAt (a .used .now)) (64 * x)) last
 

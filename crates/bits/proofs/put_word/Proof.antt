@@ -48,9 +48,7 @@ loop-again : tie.Need-loop-again Inv-loop μ-loop
 loop-again c =
     let the-loop-test = c .loop-test in
     let l = c .before .loop in
-    let the-pre = c .before .before .pre in
     let a = c .before .before .args in
-    let len = l .inv .1 in
     (omega arith, simp length-set (l .inv .1), part-more (l .used) (a .w) (a .x) (l .i) _ (bitAt (a .used .now)) (the-loop-test .taken) (omega arith) refl (l .inv .2))
 
 same-length : tie.Need-same-length Inv-loop μ-loop

@@ -30,22 +30,10 @@ cast-q c = omega arith
 
 mul-sector : tie.Need-mul-sector Inv-loop μ-loop
 mul-sector c =
-    let the-pieces-for = c .before .before .pieces-for in
-    let the-pre = c .before .before .before .before .before .before .before .pre in
-    let e = the-pre .1 .1 .1 .1 .0 in
-    let m = the-pre .1 .0 in
-    let t = c .loop-test .taken in
-    let q = the-pieces-for .ensures in
     omega arith
 
 shared-slice-read-sector : tie.Need-shared-slice-read-sector Inv-loop μ-loop
 shared-slice-read-sector c =
-    let the-pieces-for = c .before .before .before .pieces-for in
-    let the-pre = c .before .before .before .before .before .before .before .before .pre in
-    let e = the-pre .1 .1 .1 .1 .0 in
-    let m = the-pre .1 .0 in
-    let t = c .before .loop-test .taken in
-    let q = the-pieces-for .ensures in
     omega arith
 
 cast-sector : tie.Need-cast-sector Inv-loop μ-loop
@@ -67,37 +55,17 @@ sector-requires c κs =
 
 mul-says-piece : tie.Need-mul-says-piece Inv-loop μ-loop
 mul-says-piece c =
-    let the-loop-test = c .before .before .loop-test in
-    let the-pieces-for = c .before .before .before .before .pieces-for in
-    let the-pre = c .before .before .before .before .before .before .before .before .before .pre in
-    let e = the-pre .1 .1 .1 .1 .1 .0 in
-    let m = the-pre .1 .0 in
-    let t = the-loop-test .taken in
-    let q = the-pieces-for .ensures in
     omega arith
 
 shared-slice-read-says-piece : tie.Need-shared-slice-read-says-piece Inv-loop μ-loop
 shared-slice-read-says-piece c =
-    let the-loop-test = c .before .before .before .loop-test in
-    let the-pieces-for = c .before .before .before .before .before .pieces-for in
-    let the-pre = c .before .before .before .before .before .before .before .before .before .before .pre in
-    let e = the-pre .1 .1 .1 .1 .1 .0 in
-    let m = the-pre .1 .0 in
-    let t = the-loop-test .taken in
-    let q = the-pieces-for .ensures in
     omega arith
 
 says-piece-requires : tie.Need-says-piece-requires Inv-loop μ-loop
 says-piece-requires c κs =
-    let the-loop-test = c .before .before .before .loop-test in
     let the-loop = c .before .before .before .before .loop in
-    let the-pieces-for = c .before .before .before .before .before .pieces-for in
     let the-pre = c .before .before .before .before .before .before .before .before .before .before .pre in
     let a = c .before .before .before .before .before .before .before .before .before .before .args in
-    let e = the-pre .1 .1 .0 in
-    let m = the-pre .1 .0 in
-    let t = the-loop-test .taken in
-    let q = the-pieces-for .ensures in
     let p = the-loop .p in
     let b = the-pre .1 .1 .1 .1 .1 .1 p (omega arith) in (
       ap length (c .before .sector .ensures) ∙ sector-length (a .image .now) (at (a .places .now) p) (omega arith),
@@ -108,23 +76,13 @@ returns : tie.Need-returns Inv-loop μ-loop
 returns c =
     let the-says-piece = c .before .says-piece in
     let the-sector = c .before .before .before .sector in
-    let the-loop-test = c .before .before .before .before .before .loop-test in
     let the-loop = c .before .before .before .before .before .before .loop in
-    let the-pieces-for = c .before .before .before .before .before .before .before .pieces-for in
     let a = c .before .before .before .before .before .before .before .before .before .before .before .before .args in
-    let q = the-pieces-for .ensures in
-    let t = the-loop-test .taken in
     live-fails (a .g) (a .image .now) (a .map .now) (a .places .now) (a .numbers .now) (the-loop .p)
     _ (the-sector .ensures) (the-says-piece .result) (the-says-piece .ensures) (omega arith) (c .if1 .taken)
 
 add-p : tie.Need-add-p Inv-loop μ-loop
 add-p c =
-    let the-loop-test = c .before .before .before .before .before .loop-test in
-    let the-pieces-for = c .before .before .before .before .before .before .before .pieces-for in
-    let the-pre = c .before .before .before .before .before .before .before .before .before .before .before .before .pre in
-    let t = the-loop-test .taken in
-    let q = the-pieces-for .ensures in
-    let m = the-pre .1 .0 in
     omega arith
 
 loop-less : tie.Need-loop-less Inv-loop μ-loop

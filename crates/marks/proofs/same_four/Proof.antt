@@ -18,14 +18,6 @@ returns c =
     let the-word-of = c .before .word-of in
     let f = c .before .before .fits in
     let a = c .before .before .args in
-    let fa = f .a in
-    let fb = f .b in
-    let fc = f .c in
-    let fd = f .d in
-    let fe = f .e in
-    let ff = f .f in
-    let fg = f .g in
-    let fh = f .h in
     ap₂ eqb (the-word-of .ensures) (c .word-of2 .ensures)
     ∙ same-word (a .a) (a .b) (a .c) (a .d) (a .e) (a .f) (a .g) (a .h) (omega arith) (omega arith) (omega arith) (omega arith) (omega arith) (omega arith) (omega arith) (omega arith)
 

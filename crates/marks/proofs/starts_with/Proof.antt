@@ -9,8 +9,6 @@ use Rattle.marks.proofs.starts_with.Tie as tie
 
 returns : tie.Need-returns
 returns c =
-    let the-pre = c .before .before .before .pre in
-    let t = c .if1 .taken in
     sym (starts-short _ _ (omega arith))
 
 shared-slice-read-same-four : tie.Need-shared-slice-read-same-four

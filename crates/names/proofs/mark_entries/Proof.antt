@@ -24,8 +24,6 @@ abbrev μ-entries : tie.MeasureT-entries
 
 word-at-requires : tie.Need-word-at-requires Inv-entries μ-entries
 word-at-requires c κs =
-    let the-pre = c .before .before .before .pre in
-    let size = the-pre .1 .1 .0 in
     omega arith
 
 entries-holds : tie.Need-entries-holds Inv-entries μ-entries
@@ -52,7 +50,6 @@ entries-again c =
     let the-if2 = c .if1 in
     let l = c .before .before .before .entries in
     let a = c .before .before .before .before .before .before .before .before .args in
-    let few = l .inv .3 in
     (omega arith, l .inv .1, l .inv .2, omega arith, λ others range marks. entries-skip (a .n) (at (a .map .now)) others (l .i) _ (l .count) (the-if2 .taken) (l .inv .4 others range marks))
 
 sector-of-requires : tie.Need-sector-of-requires Inv-entries μ-entries
@@ -87,9 +84,6 @@ cast-q c = search needs
 
 add-count : tie.Need-add-count Inv-entries μ-entries
 add-count c =
-    let l = c .before .before .before .before .before .before .entries in
-    let the-pre = c .before .before .before .before .before .before .before .before .before .before .before .pre in
-    let few = l .inv .3 in
     omega arith
 
 add-i-2 : tie.Need-add-i-2 Inv-entries μ-entries
@@ -124,11 +118,6 @@ entries-again-2 c =
 
 put-word-requires : tie.Need-put-word-requires Inv-entries μ-entries
 put-word-requires c κs =
-    let l = c .before .before .before .before .before .before .before .before .entries in
-    let the-pre = c .before .before .before .before .before .before .before .before .before .before .before .before .before .pre in
-    let size = the-pre .1 .1 .0 in
-    let e = l .inv .1 in
-    let low = l .inv .2 in
     omega arith
 
 word-at-requires-2 : tie.Need-word-at-requires-2 Inv-entries μ-entries
@@ -183,11 +172,6 @@ entries-again-3 c =
 
 put-word-requires-2 : tie.Need-put-word-requires-2 Inv-entries μ-entries
 put-word-requires-2 c κs =
-    let l = c .before .before .entries in
-    let the-pre = c .before .before .before .before .before .before .before .pre in
-    let size = the-pre .1 .1 .0 in
-    let e = l .inv .1 in
-    let low = l .inv .2 in
     omega arith
 
 same-length-2 : tie.Need-same-length-2 Inv-entries μ-entries
@@ -200,9 +184,7 @@ returns-2 : tie.Need-returns-2 Inv-entries μ-entries
 returns-2 c =
     let the-put-word2 = c .before .before .put-word2 in
     let l = c .before .before .before .before .before .entries in
-    let the-pre = c .before .before .before .before .before .before .before .before .before .before .pre in
     let a = c .before .before .before .before .before .before .before .before .before .before .args in
-    let few = l .inv .3 in
     let all : l .i ≡ length (a .map .now) = omega arith in (
       λ others range marks.
           entries-end (a .n) (at (a .map .now)) others (l .i) (length (a .map .now)) _ (l .count) all

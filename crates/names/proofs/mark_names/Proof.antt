@@ -9,8 +9,6 @@ use Rattle.names.proofs.mark_names.Tie as tie
 
 set-bit-requires : tie.Need-set-bit-requires
 set-bit-requires c κs =
-    let the-pre = c .before .before .before .before .pre in
-    let size = the-pre .1 .1 .0 in
     omega arith
 
 mark-places-requires : tie.Need-mark-places-requires
@@ -18,9 +16,6 @@ mark-places-requires c κs =
     let the-set-bit = c .before .before .before .set-bit in
     let p = c .before .before .before .before .before .before .before .before .pre in
     let a = c .before .before .before .before .before .before .before .before .args in
-    let e = the-set-bit .kept .0 in
-    let h = p .1 .0 in
-    let size = p .1 .1 .0 in
     (p .0, (omega arith, zeros-marked _ (a .marks .now) (length (a .marks .now)) (p .1 .1 .1 .1 .1 .1) (the-set-bit .ensures)))
 
 same-length : tie.Need-same-length
@@ -39,24 +34,14 @@ mark-entries-requires c κs =
     let m = c .before .before .before .before .mark-places in
     let the-set-bit = c .before .before .before .before .before .before .before .before .set-bit in
     let p = c .before .before .before .before .before .before .before .before .before .before .before .before .before .pre in
-    let map = p .1 .1 .1 .1 .0 in
-    let few = p .1 .1 .1 .0 in
     (p .0, (p .1 .0, (m .kept .0 ∙ the-set-bit .kept .0 ∙ p .1 .1 .0, omega arith)))
 
 cast-count : tie.Need-cast-count
 cast-count c =
-    let p = c .before .before .before .before .before .before .before .before .before .before .before .before .before .before .before .before .pre in
-    let few = p .1 .1 .1 .0 in
-    let size = p .1 .1 .1 .1 .1 .0 in
     omega arith
 
 add-count : tie.Need-add-count
 add-count c =
-    let the-mark-entries = c .before .before .before .mark-entries in
-    let p = c .before .before .before .before .before .before .before .before .before .before .before .before .before .before .before .before .before .pre in
-    let few = p .1 .1 .1 .0 in
-    let size = p .1 .1 .1 .1 .1 .0 in
-    let most = the-mark-entries .ensures .1 in
     omega arith
 
 same-length-2 : tie.Need-same-length-2
@@ -69,8 +54,6 @@ returns-2 c =
     let m = c .before .before .before .before .before .before .before .before .mark-places in
     let p = c .before .before .before .before .before .before .before .before .before .before .before .before .before .before .before .before .before .pre in
     let a = c .before .before .before .before .before .before .before .before .before .before .before .before .before .before .before .before .before .args in
-    let most = the-mark-entries .ensures .1 in
-    let few = p .1 .1 .1 .0 in
     let size = p .1 .1 .1 .1 .1 .0 in
     let left = names-marked (a .g) _ _ (length (a .places .now)) size _ (m .result) (m .ensures) (the-if1 .left) (length (a .map .now)) (p .1 .1 .1 .1 .0)
     (the-mark-entries .result .inside) _ (the-mark-entries .result .count) (the-mark-entries .ensures .0) in

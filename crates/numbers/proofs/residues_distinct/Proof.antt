@@ -38,8 +38,6 @@ slice-aggregate-is-set c = search needs
 
 is-set-requires : tie.Need-is-set-requires Inv-loop μ-loop
 is-set-requires c κs =
-    let l = c .before .before .before .loop in
-    let e = l .inv .1 in
     omega arith
 
 returns : tie.Need-returns Inv-loop μ-loop
@@ -50,8 +48,6 @@ slice-aggregate-set-bit c = search needs
 
 set-bit-requires : tie.Need-set-bit-requires Inv-loop μ-loop
 set-bit-requires c κs =
-    let l = c .before .before .before .before .before .before .loop in
-    let e = l .inv .1 in
     omega arith
 
 add-i : tie.Need-add-i Inv-loop μ-loop

@@ -41,7 +41,6 @@ loop-again c =
     let the-word-at = c .before .word-at in
     let the-loop-test = c .before .before .loop-test in
     let l = c .before .before .before .loop in
-    let the-pre = c .before .before .before .before .before .pre in
     let a = c .before .before .before .before .before .args in
     let ws = wordsOf (a .s .now) in
     let bound : a .end ≤ length ws = omega (arith, length-wordsOf (a .s .now)) in (
@@ -53,7 +52,6 @@ loop-again c =
 returns : tie.Need-returns Inv-loop μ-loop
 returns c =
     let l = c .before .loop in
-    let the-pre = c .before .before .before .pre in
     let a = c .before .before .before .args in
     let ws = wordsOf (a .s .now) in
     let bound : a .end ≤ length ws = omega (arith, length-wordsOf (a .s .now)) in
