@@ -3,12 +3,9 @@
 ghost use mathlib.Core.Path.{_≡_};
 ghost use mathlib.Core.Bool.{true, false, not};
 ghost use mathlib.Core.List.{[]};
-ghost use Prim.Native.Nat.{ℕ, _+_, _*_, _≤_, _<_};
+ghost use Prim.Native.Nat.{ℕ, _+_, _≤_, _<_};
 ghost use lib.ListN.{length, drop};
-ghost use Rattle.geometry.specs.Geometry.{sectorBytes};
 ghost use Rattle.layout.specs.Bounded.{at, distinct, gathered, isZero};
-ghost use Rattle.volume.specs.Tables.{sectorAt, bitAt};
-ghost use Rattle.signed.specs.Signed.{numberAt};
 ghost use Rattle.distinct.specs.Chains.{groupOf, lastIn, Back, Linked, Apart};
 
 // Whether no two numbers agree in their lower 16 bits: then they are all different. If two do, they may be different all the same.
@@ -111,17 +108,16 @@ fn words_distinct(xs: &[u32]) -> bool
     chains_distinct(xs)
 }
 
-// Gathers the numbers of the marked sectors at the end of xs, the last sector's first, and says where they begin.
-fn gather(image: &[u8], n: u32, marks: &[u8], xs: &mut [u32]) -> usize
-    requires { ⌜ length (now image) ≡ sectorBytes * n ⌝ }
-    requires { ⌜ n ≤ 8 * length (now marks) ⌝ }
+// Gathers the numbers that are not 0 at the end of xs, the last first, and says where they begin.
+fn gather(numbers: &[u32], n: u32, xs: &mut [u32]) -> usize
+    requires { ⌜ n ≤ length (now numbers) ⌝ }
     requires { ⌜ n ≤ length (now xs) ⌝ }
-    ensures { λ r. ⌜ (r ≤ length (now (xs .exit))) × (drop r (now (xs .exit)) ≡ gathered (λ k. not (isZero (numberAt (bitAt (now (marks .entry))) (sectorAt (now (image .entry))) k))) (numberAt (bitAt (now (marks .entry))) (sectorAt (now (image .entry)))) [] n) ⌝ }
+    ensures { λ r. ⌜ (r ≤ length (now (xs .exit))) × (drop r (now (xs .exit)) ≡ gathered (λ k. not (isZero (at (now (numbers .entry)) k))) (at (now (numbers .entry))) [] n) ⌝ }
 {
     let mut from = xs.len();
     let mut k: u32 = 0;
     'sectors: while k < n {
-        let number = signed::number_at(image, marks, k);
+        let number = numbers[k as usize];
         if number == 0 {
             k += 1;
             continue 'sectors;
@@ -133,14 +129,13 @@ fn gather(image: &[u8], n: u32, marks: &[u8], xs: &mut [u32]) -> usize
     from
 }
 
-// Whether no two marked sectors have one number.
-pub fn numbers_distinct(image: &[u8], n: u32, marks: &[u8]) -> bool
-    requires { ⌜ length (now image) ≡ sectorBytes * n ⌝ }
-    requires { ⌜ n ≤ 8 * length (now marks) ⌝ }
-    requires { ⌜ n ≤ 65536 ⌝ }
-    ensures { λ r. ⌜ r ≡ distinct (gathered (λ k. not (isZero (numberAt (bitAt (now (marks .entry))) (sectorAt (now (image .entry))) k))) (numberAt (bitAt (now (marks .entry))) (sectorAt (now (image .entry)))) [] n) ⌝ }
+// Whether no two of the n sectors have one number; 0 stands for none. The numbers are gathered in xs.
+pub fn numbers_distinct(numbers: &[u32], n: u32, xs: &mut [u32]) -> bool
+    requires { ⌜ n ≤ length (now numbers) ⌝ }
+    requires { ⌜ n ≤ length (now xs) ⌝ }
+    requires { ⌜ length (now xs) ≤ 65536 ⌝ }
+    ensures { λ r. ⌜ r ≡ distinct (gathered (λ k. not (isZero (at (now (numbers .entry)) k))) (at (now (numbers .entry))) [] n) ⌝ }
 {
-    let mut xs = [0u32; 65536];
-    let from = gather(image, n, marks, &mut xs);
+    let from = gather(numbers, n, xs);
     words_distinct(&xs[from..])
 }

@@ -1,25 +1,24 @@
 -- The tables of a log that was found, in the arrays that were lent.
 use Prim.Native.Nat.{ℕ}
-use mathlib.Core.Bool.{Bool}
 use mathlib.Core.List.{List}
 use Rattle.geometry.specs.Geometry.{pieceOf, indexOf}
 use Rattle.layout.specs.Bounded.{at, best, listFrom}
 use Rattle.layout.specs.Word.{wordsOf}
 use Rattle.layout.specs.MapSector.{entryWords}
 use Rattle.volume.specs.Tables.{Tables, namedBy, usedBy}
-use Rattle.signed.specs.Signed.{pieceAt}
+use Rattle.signed.specs.Signed.{pieceKey}
 
 -- The tables of these words, places and numbers: used are sector 0 and the sectors that they name.
 abbrev pub tablesNamed : ℕ → List ℕ → List ℕ → List ℕ → Tables
 tablesNamed l map places numbers =
     record { entry = at map; place = at places; number = at numbers; isUsed = usedBy (namedBy l (at map) (at places)) }
 
--- The live sectors of the pieces, up to number c, and their numbers.
-unfoldable pub livePlaces : (ℕ → Bool) → (ℕ → List ℕ) → ℕ → ℕ → ℕ → List ℕ
-livePlaces bits image c n pieces = listFrom (λ p. best (pieceAt bits image c p) n) 0 pieces
+-- The live sectors of the pieces, up to number c, and their numbers, by number and piece of each sector.
+unfoldable pub livePlaces : List ℕ → List ℕ → ℕ → ℕ → ℕ → List ℕ
+livePlaces numbers ofPiece c n pieces = listFrom (λ p. best (pieceKey numbers ofPiece c p) n) 0 pieces
 
-unfoldable pub liveNumbers : (ℕ → Bool) → (ℕ → List ℕ) → ℕ → ℕ → ℕ → List ℕ
-liveNumbers bits image c n pieces = listFrom (λ p. pieceAt bits image c p (best (pieceAt bits image c p) n)) 0 pieces
+unfoldable pub liveNumbers : List ℕ → List ℕ → ℕ → ℕ → ℕ → List ℕ
+liveNumbers numbers ofPiece c n pieces = listFrom (λ p. pieceKey numbers ofPiece c p (best (pieceKey numbers ofPiece c p) n)) 0 pieces
 
 -- The map that live sectors hold.
 unfoldable pub mapFrom : (ℕ → List ℕ) → List ℕ → ℕ → List ℕ

@@ -1,9 +1,9 @@
--- The scan's tables: found with the bits of the signed sectors, and as the definition finds them.
+-- The scan's tables: found by what was read of the signed sectors, and as the definition finds them.
 use Prim.Native.Nat.{ℕ, _≤_, _<_}
 use mathlib.Core.Path.{_≡_, refl, sym, _∙_, ap, subst}
 use mathlib.Core.Logic.{⊎-elim}
 use mathlib.Core.Bool.{Bool, true, false, cond, not, _||_, true≢false}
-use mathlib.Core.List.{List, []}
+use mathlib.Core.List.{List}
 use mathlib.Core.Option.{none, some}
 use native.Mathlib.Omega.{arith}
 use lib.Dec.{ltb}
@@ -12,20 +12,20 @@ use Rattle.geometry.specs.declared.Geometry.{Geometry}
 use Rattle.geometry.specs.Geometry.{piecesFor, pieceOf, indexOf}
 use Rattle.answer.specs.declared.Answer.the-variants.{Scanned}
 use Rattle.answer.specs.declared.Loss.the-variants.{NoLog, DamagedLog}
-use Rattle.layout.specs.Bounded.{at, anyBelow, best, distinct, isZero, listFrom, tabled, gathered}
+use Rattle.layout.specs.Bounded.{at, anyBelow, best, distinct, isZero, listFrom, tabled}
 use Rattle.layout.specs.Word.{wordsOf}
 use Rattle.layout.specs.MapSector.{View, entryWords, fields}
 use Rattle.volume.specs.Tables.{Tables, tablesOf, namedBy, usedBy, bitAt, consistent}
 use Rattle.volume.specs.Recover.{numberIn, entryIn, pieceNumber, tablesFrom, imageView, newestClosing, scanPlace, signedNumbers, isConsistent, scannedLog, scanDamaged, scanStores, scanFinding, closedUpTo, closingNumber, Finding, found, missing}
 use Rattle.laws.proofs.Bounded.{bool?, clash, anyBelow-at, anyBelow-is, listFrom-same, best-below, cond-true, cond-false}
 use Rattle.laws.proofs.Names.{sound}
-use Rattle.signed.specs.Signed.{below, signedAt, numberAt, closingAt, pieceAt}
+use Rattle.signed.specs.Signed.{below, Read, Closings, closingKey, pieceKey}
 use Rattle.log_tables.specs.LogTables.{tablesNamed, livePlaces, liveNumbers, mapFrom}
 use Rattle.scan.specs.Scanned.{scanFound, scanAbove}
 use Rattle.scan.specs.declared.Found.{Found}
 use Rattle.scan.specs.declared.Found.the-variants.{Log, Missing}
 use Rattle.signed.proofs.Newest.{listed}
-use Rattle.signed.proofs.ViewLaws.{closing-view, closings-view, above-view, piece-view, pieces-view, numbers-view, piece-signed, piece-number}
+use Rattle.signed.proofs.ViewLaws.{closing-view, closings-view, above-view, piece-view, pieces-view, piece-signed, piece-number}
 
 -- Tables with the same words, places and numbers are the same.
 pub tables-same : (l : ℕ) (entry entry′ place place′ number number′ : ℕ → ℕ) → entry ≡ entry′ → place ≡ place′ → number ≡ number′
@@ -92,33 +92,33 @@ module _ (d a c : Bool) where
       twice true = refl
       twice false = refl
 
-module _ (g : Geometry) (image : ℕ → List ℕ) (bits : ℕ → Bool) (marked : bits ≡ signedAt g image) (c : ℕ) where
+module _ (g : Geometry) (image : ℕ → List ℕ) (numbered ofPiece : List ℕ) (read : Read (imageView g image) numbered ofPiece) (c : ℕ) where
   abbrev view : View
   view = imageView g image
 
   abbrev live : ℕ → ℕ
   live p = scanPlace (g .n) view c p
 
-  place-view : (p : ℕ) → best (pieceAt bits image c p) (g .n) ≡ live p
+  place-view : (p : ℕ) → best (pieceKey numbered ofPiece c p) (g .n) ≡ live p
   unfolding scanPlace
-  place-view p = ap (λ (f : ℕ → ℕ). best f (g .n)) (pieces-view g image bits marked c p)
+  place-view p = ap (λ (f : ℕ → ℕ). best f (g .n)) (pieces-view g image numbered ofPiece read c p)
 
   -- A piece has no sector.
   Lost : Bool
   Lost = anyBelow (λ p. isZero (pieceNumber c p (view (live p)))) (piecesFor (g .l))
 
-  module _ (map places numbers : List ℕ) (p : places ≡ livePlaces bits image c (g .n) (piecesFor (g .l))) (q : numbers ≡ liveNumbers bits image c (g .n) (piecesFor (g .l)))
+  module _ (map places numbers : List ℕ) (p : places ≡ livePlaces numbered ofPiece c (g .n) (piecesFor (g .l))) (q : numbers ≡ liveNumbers numbered ofPiece c (g .n) (piecesFor (g .l)))
       (m : map ≡ mapFrom image places (g .l)) where
     places-are : places ≡ listFrom live 0 (piecesFor (g .l))
     unfolding livePlaces
     places-are =
-        p ∙ listFrom-same (λ p. best (pieceAt bits image c p) (g .n)) live 0 (piecesFor (g .l)) (λ k a b. place-view k)
+        p ∙ listFrom-same (λ p. best (pieceKey numbered ofPiece c p) (g .n)) live 0 (piecesFor (g .l)) (λ k a b. place-view k)
 
     numbers-are : numbers ≡ listFrom (λ p. pieceNumber c p (view (live p))) 0 (piecesFor (g .l))
     unfolding liveNumbers
     numbers-are =
-        q ∙ listFrom-same (λ p. pieceAt bits image c p (best (pieceAt bits image c p) (g .n))) (λ p. pieceNumber c p (view (live p))) 0 (piecesFor (g .l))
-        (λ k a b. ap (pieceAt bits image c k) (place-view k) ∙ piece-view g image bits marked c k (live k))
+        q ∙ listFrom-same (λ p. pieceKey numbered ofPiece c p (best (pieceKey numbered ofPiece c p) (g .n))) (λ p. pieceNumber c p (view (live p))) 0 (piecesFor (g .l))
+        (λ k a b. ap (pieceKey numbered ofPiece c k) (place-view k) ∙ piece-view g image numbered ofPiece read c k (live k))
 
     at-number : (k : ℕ) → k < piecesFor (g .l) → at numbers k ≡ pieceNumber c k (view (live k))
     at-number k h = ap (λ (xs : List ℕ). at xs k) numbers-are ∙ listed (λ p. pieceNumber c p (view (live p))) (piecesFor (g .l)) k h
@@ -151,18 +151,15 @@ module _ (g : Geometry) (image : ℕ → List ℕ) (bits : ℕ → Bool) (marked
         (numbers-are ∙ listFrom-same (λ p. pieceNumber c p (view (live p))) (at numbers) 0 (piecesFor (g .l)) (λ k a b. sym (at-number k (omega arith))))
         (λ k h. piece-signed g image c k (live k) (whole e k h))
 
-    module _ (d : Bool) (same : d ≡ distinct (gathered (λ k. not (isZero (numberAt bits image k))) (numberAt bits image) [] (g .n))) (tail : ℕ)
+    module _ (d : Bool) (same : d ≡ distinct (signedNumbers view (g .n))) (tail : ℕ)
         (newest : tail ≡ newestClosing (g .n) view) where
       abbrev Damaged : Bool
       Damaged = scanDamaged g view c (scannedLog g view c)
 
-      distinct-is : d ≡ distinct (signedNumbers view (g .n))
-      distinct-is = same ∙ ap distinct (numbers-view g image bits marked (g .n))
-
       module _ (used : List ℕ) (r : Bool) (e : not d ≡ false) (f : r ≡ consistent g Tabled tail c)
           (u : r ≡ true → bitAt used ≡ usedBy (namedBy (g .l) (at map) (at places))) where
         sure : distinct (signedNumbers view (g .n)) ≡ true
-        sure = sym distinct-is ∙ not-false d e
+        sure = sym same ∙ not-false d e
 
         answer : r ≡ not Damaged
         unfolding scanDamaged Lost scannedLog
@@ -182,31 +179,31 @@ module _ (g : Geometry) (image : ℕ → List ℕ) (bits : ℕ → Bool) (marked
               ∙ ⊎-elim (λ (y : Lost ≡ true). clash r z (f ∙ lost-fails tail y)) whole-tables (bool? Lost),
         )
 
-  pub distinct-fails : (d : Bool) → d ≡ distinct (gathered (λ k. not (isZero (numberAt bits image k))) (numberAt bits image) [] (g .n)) → not d ≡ true → (t : Tables)
+  pub distinct-fails : (d : Bool) → d ≡ distinct (signedNumbers view (g .n)) → not d ≡ true → (t : Tables)
       → (false ≡ not (scanDamaged g view c (scannedLog g view c))) × (false ≡ true → t ≡ scannedLog g view c .tables)
   unfolding scanDamaged
   distinct-fails d e f t = (
     not-distinct (distinct (signedNumbers view (g .n))) (anyBelow (λ p. isZero (pieceNumber c p (view (scanPlace (g .n) view c p)))) (piecesFor (g .l)))
-        (isConsistent g (scannedLog g view c)) (ap distinct (sym (numbers-view g image bits marked (g .n))) ∙ sym e ∙ not-true d f),
+        (isConsistent g (scannedLog g view c)) (sym e ∙ not-true d f),
     λ z. absurd (true≢false (sym z)),
   )
 
-  pub place-inside : (p : ℕ) (places : List ℕ) → 0 < g .n → places ≡ livePlaces bits image c (g .n) (piecesFor (g .l)) → p < piecesFor (g .l) → at places p < g .n
+  pub place-inside : (p : ℕ) (places : List ℕ) → 0 < g .n → places ≡ livePlaces numbered ofPiece c (g .n) (piecesFor (g .l)) → p < piecesFor (g .l) → at places p < g .n
   unfolding livePlaces
   place-inside p places pos e h =
-      subst (λ (x : ℕ). x < g .n) (sym (ap (λ (xs : List ℕ). at xs p) e ∙ listed (λ p. best (pieceAt bits image c p) (g .n)) (piecesFor (g .l)) p h))
-      (best-below (pieceAt bits image c p) (g .n) pos)
+      subst (λ (x : ℕ). x < g .n) (sym (ap (λ (xs : List ℕ). at xs p) e ∙ listed (λ p. best (pieceKey numbered ofPiece c p) (g .n)) (piecesFor (g .l)) p h))
+      (best-below (pieceKey numbered ofPiece c p) (g .n) pos)
 
   -- What the code leaves, under the names of the definition.
-  pub are-places : (m : ℕ) (places : List ℕ) → m ≡ piecesFor (g .l) → places ≡ listFrom (λ p. best (pieceAt bits image c p) (g .n)) 0 m
-      → places ≡ livePlaces bits image c (g .n) (piecesFor (g .l))
+  pub are-places : (m : ℕ) (places : List ℕ) → m ≡ piecesFor (g .l) → places ≡ listFrom (λ p. best (pieceKey numbered ofPiece c p) (g .n)) 0 m
+      → places ≡ livePlaces numbered ofPiece c (g .n) (piecesFor (g .l))
   unfolding livePlaces
-  are-places m places e f = f ∙ ap (listFrom (λ p. best (pieceAt bits image c p) (g .n)) 0) e
+  are-places m places e f = f ∙ ap (listFrom (λ p. best (pieceKey numbered ofPiece c p) (g .n)) 0) e
 
-  pub are-numbers : (m : ℕ) (numbers : List ℕ) → m ≡ piecesFor (g .l) → numbers ≡ listFrom (λ p. pieceAt bits image c p (best (pieceAt bits image c p) (g .n))) 0 m
-      → numbers ≡ liveNumbers bits image c (g .n) (piecesFor (g .l))
+  pub are-numbers : (m : ℕ) (numbers : List ℕ) → m ≡ piecesFor (g .l) → numbers ≡ listFrom (λ p. pieceKey numbered ofPiece c p (best (pieceKey numbered ofPiece c p) (g .n))) 0 m
+      → numbers ≡ liveNumbers numbered ofPiece c (g .n) (piecesFor (g .l))
   unfolding liveNumbers
-  are-numbers m numbers e f = f ∙ ap (listFrom (λ p. pieceAt bits image c p (best (pieceAt bits image c p) (g .n))) 0) e
+  are-numbers m numbers e f = f ∙ ap (listFrom (λ p. pieceKey numbered ofPiece c p (best (pieceKey numbered ofPiece c p) (g .n))) 0) e
 
 pub is-map : (image : ℕ → List ℕ) (places map : List ℕ) (m l : ℕ) → m ≡ l
     → map ≡ listFrom (λ b. at (entryWords (wordsOf (image (at places (pieceOf b))))) (indexOf b)) 0 m → map ≡ mapFrom image places l
@@ -214,18 +211,18 @@ unfolding mapFrom
 is-map image places map m l e f = f ∙ ap (listFrom (λ b. at (entryWords (wordsOf (image (at places (pieceOf b))))) (indexOf b)) 0) e
 
 -- What the scan answers.
-module _ (g : Geometry) (image : ℕ → List ℕ) (bits : ℕ → Bool) (marked : bits ≡ signedAt g image) (tail c : ℕ)
-    (newest : tail ≡ best (closingAt bits image) (g .n)) (number : c ≡ closingAt bits image tail) where
+module _ (g : Geometry) (image : ℕ → List ℕ) (numbered ofPiece : List ℕ) (read : Read (imageView g image) numbered ofPiece) (closing : List ℕ)
+    (kinds : Closings (imageView g image) closing) (tail c : ℕ) (newest : tail ≡ best (closingKey numbered closing) (g .n)) (number : c ≡ closingKey numbered closing tail) where
   abbrev seen : View
   seen = imageView g image
 
   pub tail-newest : tail ≡ newestClosing (g .n) seen
   unfolding newestClosing
-  tail-newest = newest ∙ ap (λ (f : ℕ → ℕ). best f (g .n)) (closings-view g image bits marked)
+  tail-newest = newest ∙ ap (λ (f : ℕ → ℕ). best f (g .n)) (closings-view g image numbered ofPiece read closing kinds)
 
   c-is : closedUpTo (g .n) seen ≡ c
   unfolding closedUpTo
-  c-is = ap (λ (k : ℕ). closingNumber (seen k)) (sym tail-newest) ∙ sym (closing-view g image bits marked tail) ∙ sym number
+  c-is = ap (λ (k : ℕ). closingNumber (seen k)) (sym tail-newest) ∙ sym (closing-view g image numbered ofPiece read closing kinds tail) ∙ sym number
 
   abbrev Whole : ℕ → Finding
   Whole c = found (scannedLog g seen c) (Scanned (g .n)) (scanStores (g .n) seen (image 0) c)
@@ -261,12 +258,12 @@ module _ (g : Geometry) (image : ℕ → List ℕ) (bits : ℕ → Bool) (marked
       refl,
     )
 
-    pub scan-finds : not r ≡ false → (above : ℕ → Bool) → above ≡ below (λ k. ltb c (numberAt bits image k)) (g .n) → Answered (Log tail c) t above
+    pub scan-finds : not r ≡ false → (above : ℕ → Bool) → above ≡ below (λ k. ltb c (at numbered k)) (g .n) → Answered (Log tail c) t above
     unfolding scanFound scanAbove scannedLog
     scan-finds f above u = (
       ap (λ (x : Tables). found (record { tables = x; tail = tail; number = c }) (Scanned (g .n)) (scanStores (g .n) seen (image 0) c)) (e .1 (not-false r f))
           ∙ ap (λ (k : ℕ). found (record { tables = scannedLog g seen c .tables; tail = k; number = c }) (Scanned (g .n)) (scanStores (g .n) seen (image 0) c)) tail-newest
           ∙ sym (judged-is ∙ cond-false (scanDamaged g seen c (scannedLog g seen c)) (missing DamagedLog) (Whole c)
           (not-true (scanDamaged g seen c (scannedLog g seen c)) (sym (e .0) ∙ not-false r f))),
-      u ∙ above-view g image bits marked c,
+      u ∙ above-view g image numbered ofPiece read c,
     )

@@ -4,9 +4,10 @@ ghost use mathlib.Core.Bool.{true, not};
 ghost use Prim.Native.Nat.{_*_, _≤_};
 ghost use lib.ListN.{length, replicate};
 ghost use Rattle.geometry.specs.Geometry.{sectorBytes, piecesFor, usedBytes, geometryFits};
+ghost use Rattle.layout.specs.Bounded.{distinct};
 ghost use Rattle.volume.specs.Tables.{sectorAt, bitAt, tablesOf};
-ghost use Rattle.volume.specs.Recover.{newestClosing, scannedLog, scanDamaged, scanFinding, imageView};
-ghost use Rattle.signed.specs.Signed.{signedAt};
+ghost use Rattle.volume.specs.Recover.{newestClosing, signedNumbers, scannedLog, scanDamaged, scanFinding, imageView};
+ghost use Rattle.signed.specs.Signed.{Read, Closings};
 ghost use Rattle.log_tables.specs.LogTables.{livePlaces, liveNumbers, mapFrom};
 ghost use Rattle.scan.specs.Scanned.{scanFound, scanAbove};
 use answer::Loss;
@@ -21,11 +22,38 @@ pub enum Found {
     Missing(Loss),
 }
 
+// Reads what the signed sectors say into arrays of zeros, and says whether their numbers are all different. The scratch is for
+// the latter alone.
+fn read_apart(
+    image: &[u8],
+    g: Geometry,
+    numbered: &mut [u32],
+    pieces: &mut [u8],
+    closing: &mut [u8],
+    scratch: &mut [u32],
+) -> bool
+    requires { ⌜ geometryFits g ≡ true ⌝ }
+    requires { ⌜ length (now image) ≡ sectorBytes * g .n ⌝ }
+    requires { ⌜ g .n ≤ length (now numbered) ⌝ }
+    requires { ⌜ g .n ≤ length (now pieces) ⌝ }
+    requires { ⌜ g .n ≤ length (now closing) ⌝ }
+    requires { ⌜ g .n ≤ length (now scratch) ⌝ }
+    requires { ⌜ length (now scratch) ≤ 65536 ⌝ }
+    requires { ⌜ now numbered ≡ replicate (length (now numbered)) 0 ⌝ }
+    requires { ⌜ now pieces ≡ replicate (length (now pieces)) 0 ⌝ }
+    requires { ⌜ now closing ≡ replicate (length (now closing)) 0 ⌝ }
+    ensures { λ r. ⌜ (r ≡ distinct (signedNumbers (imageView g (sectorAt (now (image .entry)))) (g .n))) × Read (imageView g (sectorAt (now (image .entry)))) (now (numbered .exit)) (now (pieces .exit)) × Closings (imageView g (sectorAt (now (image .entry)))) (now (closing .exit)) ⌝ }
+{
+    signed::read_signed(image, g, numbered, pieces, closing);
+    distinct::numbers_distinct(numbered, g.n, scratch)
+}
+
 // The live sectors of the pieces up to number c, and the map that they hold.
 fn scan_live(
     image: &[u8],
     g: Geometry,
-    marks: &[u8],
+    numbered: &[u32],
+    pieces: &[u8],
     c: u32,
     map: &mut [u32],
     places: &mut [u32],
@@ -33,16 +61,17 @@ fn scan_live(
 )
     requires { ⌜ 1 ≤ g .n ⌝ }
     requires { ⌜ length (now image) ≡ sectorBytes * g .n ⌝ }
-    requires { ⌜ g .n ≤ 8 * length (now marks) ⌝ }
-    requires { ⌜ bitAt (now marks) ≡ signedAt g (sectorAt (now image)) ⌝ }
+    requires { ⌜ g .n ≤ length (now numbered) ⌝ }
+    requires { ⌜ g .n ≤ length (now pieces) ⌝ }
+    requires { ⌜ Read (imageView g (sectorAt (now image))) (now numbered) (now pieces) ⌝ }
     requires { ⌜ length (now map) ≡ g .l ⌝ }
     requires { ⌜ length (now places) ≡ piecesFor (g .l) ⌝ }
     requires { ⌜ length (now numbers) ≡ piecesFor (g .l) ⌝ }
-    ensures { λ _. ⌜ (now (places .exit) ≡ livePlaces (bitAt (now (marks .entry))) (sectorAt (now (image .entry))) c (g .n) (piecesFor (g .l))) × (now (numbers .exit) ≡ liveNumbers (bitAt (now (marks .entry))) (sectorAt (now (image .entry))) c (g .n) (piecesFor (g .l))) × (now (map .exit) ≡ mapFrom (sectorAt (now (image .entry))) (now (places .exit)) (g .l)) ⌝ }
+    ensures { λ _. ⌜ (now (places .exit) ≡ livePlaces (now (numbered .entry)) (now (pieces .entry)) c (g .n) (piecesFor (g .l))) × (now (numbers .exit) ≡ liveNumbers (now (numbered .entry)) (now (pieces .entry)) c (g .n) (piecesFor (g .l))) × (now (map .exit) ≡ mapFrom (sectorAt (now (image .entry))) (now (places .exit)) (g .l)) ⌝ }
 {
     fill::zero_words(places);
     fill::zero_words(numbers);
-    live::find_live(image, g.n, marks, c, places, numbers);
+    live::find_live(numbered, pieces, g.n, c, places, numbers);
     fill_map::fill_map(image, places, map);
 }
 
@@ -51,7 +80,9 @@ fn scan_live(
 fn scan_tables(
     image: &[u8],
     g: Geometry,
-    marks: &[u8],
+    apart: bool,
+    numbered: &[u32],
+    pieces: &[u8],
     tail: u32,
     c: u32,
     map: &mut [u32],
@@ -61,8 +92,10 @@ fn scan_tables(
 ) -> bool
     requires { ⌜ geometryFits g ≡ true ⌝ }
     requires { ⌜ length (now image) ≡ sectorBytes * g .n ⌝ }
-    requires { ⌜ g .n ≤ 8 * length (now marks) ⌝ }
-    requires { ⌜ bitAt (now marks) ≡ signedAt g (sectorAt (now image)) ⌝ }
+    requires { ⌜ apart ≡ distinct (signedNumbers (imageView g (sectorAt (now image))) (g .n)) ⌝ }
+    requires { ⌜ g .n ≤ length (now numbered) ⌝ }
+    requires { ⌜ g .n ≤ length (now pieces) ⌝ }
+    requires { ⌜ Read (imageView g (sectorAt (now image))) (now numbered) (now pieces) ⌝ }
     requires { ⌜ tail ≡ newestClosing (g .n) (imageView g (sectorAt (now image))) ⌝ }
     requires { ⌜ length (now map) ≡ g .l ⌝ }
     requires { ⌜ length (now places) ≡ piecesFor (g .l) ⌝ }
@@ -70,18 +103,22 @@ fn scan_tables(
     requires { ⌜ length (now used) ≡ usedBytes (g .n) ⌝ }
     ensures { λ r. ⌜ (r ≡ not (scanDamaged g (imageView g (sectorAt (now (image .entry)))) c (scannedLog g (imageView g (sectorAt (now (image .entry)))) c))) × (r ≡ true → tablesOf (now (map .exit)) (now (places .exit)) (now (numbers .exit)) (now (used .exit)) ≡ scannedLog g (imageView g (sectorAt (now (image .entry)))) c .tables) ⌝ }
 {
-    if !distinct::numbers_distinct(image, g.n, marks) {
+    if !apart {
         return false;
     }
-    scan_live(image, g, marks, c, map, places, numbers);
+    scan_live(image, g, numbered, pieces, c, map, places, numbers);
     agrees::log_agrees(g, map, places, numbers, used, tail, c)
 }
 
-// The scan, given the signed sectors. That there is no closing sector is judged before what is damaged.
+// The scan, given what the signed sectors say, and whether their numbers are all different. That there is no closing sector is
+// judged before what is damaged.
 fn scan_signed(
     image: &[u8],
     g: Geometry,
-    marks: &[u8],
+    apart: bool,
+    numbered: &[u32],
+    pieces: &[u8],
+    closing: &[u8],
     map: &mut [u32],
     places: &mut [u32],
     numbers: &mut [u32],
@@ -90,8 +127,12 @@ fn scan_signed(
 ) -> Found
     requires { ⌜ geometryFits g ≡ true ⌝ }
     requires { ⌜ length (now image) ≡ sectorBytes * g .n ⌝ }
-    requires { ⌜ g .n ≤ 8 * length (now marks) ⌝ }
-    requires { ⌜ bitAt (now marks) ≡ signedAt g (sectorAt (now image)) ⌝ }
+    requires { ⌜ apart ≡ distinct (signedNumbers (imageView g (sectorAt (now image))) (g .n)) ⌝ }
+    requires { ⌜ g .n ≤ length (now numbered) ⌝ }
+    requires { ⌜ g .n ≤ length (now pieces) ⌝ }
+    requires { ⌜ g .n ≤ length (now closing) ⌝ }
+    requires { ⌜ Read (imageView g (sectorAt (now image))) (now numbered) (now pieces) ⌝ }
+    requires { ⌜ Closings (imageView g (sectorAt (now image))) (now closing) ⌝ }
     requires { ⌜ length (now map) ≡ g .l ⌝ }
     requires { ⌜ length (now places) ≡ piecesFor (g .l) ⌝ }
     requires { ⌜ length (now numbers) ≡ piecesFor (g .l) ⌝ }
@@ -100,13 +141,25 @@ fn scan_signed(
     requires { ⌜ now above ≡ replicate (length (now above)) 0 ⌝ }
     ensures { λ r. ⌜ (scanFound r (g .n) (imageView g (sectorAt (now (image .entry)))) (sectorAt (now (image .entry)) 0) (tablesOf (now (map .exit)) (now (places .exit)) (now (numbers .exit)) (now (used .exit))) ≡ scanFinding g (imageView g (sectorAt (now (image .entry)))) (sectorAt (now (image .entry)) 0)) × scanAbove r (imageView g (sectorAt (now (image .entry)))) (bitAt (now (above .exit))) ⌝ }
 {
-    let tail = signed::newest_closing(image, g.n, marks);
-    let c = signed::closing_at(image, marks, tail);
+    let tail = signed::newest_closing(numbered, closing, g.n);
+    let c = signed::closing_at(numbered, closing, tail);
     if c == 0 {
         return Found::Missing(Loss::NoLog);
     }
-    signed::mark_above(image, g.n, marks, c, above);
-    if !scan_tables(image, g, marks, tail, c, map, places, numbers, used) {
+    signed::mark_above(numbered, g.n, c, above);
+    if !scan_tables(
+        image,
+        g,
+        apart,
+        numbered,
+        pieces,
+        tail,
+        c,
+        map,
+        places,
+        numbers,
+        used,
+    ) {
         return Found::Missing(Loss::DamagedLog);
     }
     Found::Log { tail, number: c }
@@ -132,7 +185,29 @@ pub fn scan(
     requires { ⌜ now above ≡ replicate (length (now above)) 0 ⌝ }
     ensures { λ r. ⌜ (scanFound r (g .n) (imageView g (sectorAt (now (image .entry)))) (sectorAt (now (image .entry)) 0) (tablesOf (now (map .exit)) (now (places .exit)) (now (numbers .exit)) (now (used .exit))) ≡ scanFinding g (imageView g (sectorAt (now (image .entry)))) (sectorAt (now (image .entry)) 0)) × scanAbove r (imageView g (sectorAt (now (image .entry)))) (bitAt (now (above .exit))) ⌝ }
 {
-    let mut marks = [0u8; 8192];
-    signed::mark_signed(image, g, &mut marks);
-    scan_signed(image, g, &marks, map, places, numbers, used, above)
+    let mut numbered = [0u32; 65536];
+    let mut pieces = [0u8; 65536];
+    let mut closing = [0u8; 65536];
+    let mut scratch = [0u32; 65536];
+    let apart = read_apart(
+        image,
+        g,
+        &mut numbered,
+        &mut pieces,
+        &mut closing,
+        &mut scratch,
+    );
+    scan_signed(
+        image,
+        g,
+        apart,
+        &numbered,
+        &pieces,
+        &closing,
+        map,
+        places,
+        numbers,
+        used,
+        above,
+    )
 }

@@ -11,24 +11,19 @@ use lib.Seq.{ext-getD, getD-set-same, getD-set-other}
 use lib.Dec.{eqb, leb, ltb}
 use borrow.Author.Tests.{lt-ltb, le-ltb, eq-eqb, ne-eqb, le-leb, lt-leb}
 use Rattle.layout.specs.Bounded.{at, best, listFrom}
-use Rattle.layout.specs.Word.{wordsOf}
 use Rattle.laws.proofs.Filling.{zeros-get}
-use Rattle.laws.proofs.Bounded.{lt?, eq?, bool?, cond-true, cond-false, length-listFrom, listFrom-at}
-use Rattle.signed.specs.Signed.{numberAt, closingAt, pieceAt}
-use Rattle.signed.proofs.SignedLaws.{}
+use Rattle.laws.proofs.Bounded.{lt?, eq?, cond-true, cond-false, length-listFrom, listFrom-at}
+use Rattle.signed.specs.Signed.{closingKey, pieceKey}
 
--- What a sector says as a closing sector.
-module _ (bits : ℕ → Bool) (image : ℕ → List ℕ) (k : ℕ) (s : List ℕ) (e : s ≡ image k) (r : Bool) (f : r ≡ eqb (at (wordsOf s) 5) 1) where
-  is-closing : eqb (at (wordsOf (image k)) 5) 1 ≡ r
-  is-closing = ap (λ (x : List ℕ). eqb (at (wordsOf x) 5) 1) (sym e) ∙ sym f
+-- A sector's number, given by whether it is closing.
+module _ (numbers closing : List ℕ) (k : ℕ) where
+  pub closing-none : (at closing k ≡ 1 → ⊥) → 0 ≡ closingKey numbers closing k
+  unfolding closingKey
+  closing-none d = sym (cond-false (eqb (at closing k) 1) (at numbers k) 0 (ne-eqb (at closing k) 1 d))
 
-  pub closing-none : r ≡ false → 0 ≡ closingAt bits image k
-  unfolding closingAt
-  closing-none g = sym (cond-false (eqb (at (wordsOf (image k)) 5) 1) (numberAt bits image k) 0 (is-closing ∙ g))
-
-  pub closing-some : r ≡ true → (number : ℕ) → number ≡ numberAt bits image k → number ≡ closingAt bits image k
-  unfolding closingAt
-  closing-some g number h = h ∙ sym (cond-true (eqb (at (wordsOf (image k)) 5) 1) (numberAt bits image k) 0 (is-closing ∙ g))
+  pub closing-some : at closing k ≡ 1 → at numbers k ≡ closingKey numbers closing k
+  unfolding closingKey
+  closing-some e = sym (cond-true (eqb (at closing k) 1) (at numbers k) 0 (eq-eqb (at closing k) 1 e))
 
 module _ (key : ℕ → ℕ) where
   -- The greatest key below k, 0 for none.
@@ -157,37 +152,28 @@ module _ (key : ℕ → ℕ → ℕ) (pieces : ℕ) where
   )
 
 -- The keys of the pieces at one sector: only its own piece has one, and only where its number is up to c.
-module _ (bits : ℕ → Bool) (image : ℕ → List ℕ) (c k number : ℕ) (e : number ≡ numberAt bits image k) where
+module _ (numbers pieces : List ℕ) (c k : ℕ) where
   same-or : (b : Bool) (x : ℕ) → x ≡ 0 → cond b x 0 ≡ 0
   same-or true x z = z
   same-or false x z = refl
 
-  pub keys-zero : number ≡ 0 → (p : ℕ) → pieceAt bits image c p k ≡ 0
-  unfolding pieceAt
-  keys-zero z p = same-or (eqb (at (wordsOf (image k)) 4) p && leb (numberAt bits image k) c) (numberAt bits image k) (sym e ∙ z)
+  pub keys-zero : at numbers k ≡ 0 → (p : ℕ) → pieceKey numbers pieces c p k ≡ 0
+  unfolding pieceKey
+  keys-zero z p = same-or (eqb (at pieces k) p && leb (at numbers k) c) (at numbers k) z
 
-  pub keys-above : c < number → (p : ℕ) → pieceAt bits image c p k ≡ 0
-  unfolding pieceAt
-  keys-above h p = rw (lt-leb (numberAt bits image k) c (omega arith)) (off (eqb (at (wordsOf (image k)) 4) p))
+  pub keys-above : c < at numbers k → (p : ℕ) → pieceKey numbers pieces c p k ≡ 0
+  unfolding pieceKey
+  keys-above h p = rw (lt-leb (at numbers k) c h) (off (eqb (at pieces k) p))
     where
-      off : (b : Bool) → cond (b && false) (numberAt bits image k) 0 ≡ 0
+      off : (b : Bool) → cond (b && false) (at numbers k) 0 ≡ 0
       off true = refl
       off false = refl
 
-  module _ (s : List ℕ) (q : ℕ) (f : s ≡ image k) (g : q ≡ at (wordsOf s) 4) (h : number ≤ c) where
-    piece-is : at (wordsOf (image k)) 4 ≡ q
-    piece-is = ap (λ (x : List ℕ). at (wordsOf x) 4) (sym f) ∙ sym g
+  module _ (h : at numbers k ≤ c) where
+    pub key-own : pieceKey numbers pieces c (at pieces k) k ≡ at numbers k
+    unfolding pieceKey
+    key-own = rw (eq-eqb (at pieces k) (at pieces k) refl, le-leb (at numbers k) c h) refl
 
-    pub key-own : pieceAt bits image c q k ≡ number
-    unfolding pieceAt
-    key-own = rw (eq-eqb (at (wordsOf (image k)) 4) q piece-is, le-leb (numberAt bits image k) c (omega arith)) (sym e)
-
-    pub keys-other : (p : ℕ) → (p ≡ q → ⊥) → pieceAt bits image c p k ≡ 0
-    unfolding pieceAt
-    keys-other p d = rw (ne-eqb (at (wordsOf (image k)) 4) p (λ (z : at (wordsOf (image k)) 4 ≡ p). d (sym z ∙ piece-is))) refl
-
--- A marked sector's piece is one of the pieces.
-pub number-marked : (bits : ℕ → Bool) (image : ℕ → List ℕ) (k number : ℕ) → number ≡ numberAt bits image k → (number ≡ 0 → ⊥) → bits k ≡ true
-unfolding numberAt
-number-marked bits image k number e d =
-    ⊎-elim (λ (z : bits k ≡ true). z) (λ (z : bits k ≡ false). absurd (d (e ∙ cond-false (bits k) (at (wordsOf (image k)) 2) 0 z))) (bool? (bits k))
+    pub keys-other : (p : ℕ) → (p ≡ at pieces k → ⊥) → pieceKey numbers pieces c p k ≡ 0
+    unfolding pieceKey
+    keys-other p d = rw (ne-eqb (at pieces k) p (λ (z : at pieces k ≡ p). d (sym z))) refl

@@ -1,4 +1,4 @@
--- Bits set one after the other, and what marked sectors say.
+-- Bits set one after the other.
 use Prim.Native.Nat.{ℕ, suc, _+_, _/_, _%_, _^_, _≤_, _<_}
 use mathlib.Core.Path.{_≡_, refl, sym, _∙_, ap, fun-ext}
 use mathlib.Core.Logic.{⊎-elim}
@@ -11,13 +11,13 @@ use lib.ListN.{replicate}
 use lib.Dec.{eqb, ltb}
 use borrow.Author.Tests.{eq-eqb, ne-eqb, lt-ltb, le-ltb}
 use Rattle.geometry.specs.declared.Geometry.{Geometry}
-use Rattle.layout.specs.Bounded.{at, updated}
+use Rattle.layout.specs.Bounded.{updated}
 use Rattle.layout.specs.Word.{wordsOf}
 use Rattle.layout.specs.MapSector.{valid}
 use Rattle.volume.specs.Tables.{bitAt}
 use Rattle.laws.proofs.Filling.{zeros-get}
-use Rattle.laws.proofs.Bounded.{lt?, eq?, cond-true, cond-false}
-use Rattle.signed.specs.Signed.{below, isSigned, signedAt, numberAt}
+use Rattle.laws.proofs.Bounded.{lt?, eq?}
+use Rattle.signed.specs.Signed.{below, isSigned}
 
 module _ (test : ℕ → Bool) (k : ℕ) where
   other : (j : ℕ) → (j ≡ k → ⊥) → ltb j k ≡ ltb j (suc k)
@@ -61,16 +61,3 @@ marks-hit test k bits after e t u = u ∙ ap (λ (f : ℕ → Bool). updated f k
 pub is-signed : (g : Geometry) (image : ℕ → List ℕ) (k : ℕ) (s : List ℕ) (r v : Bool) → s ≡ image k → r ≡ valid g s (wordsOf s) → r ≡ v → isSigned g image k ≡ v
 unfolding isSigned
 is-signed g image k s r v e f u = ap (λ (x : List ℕ). valid g x (wordsOf x)) (sym e) ∙ sym f ∙ u
-
-pub signed-all : (g : Geometry) (image : ℕ → List ℕ) (k : ℕ) (bits : ℕ → Bool) → k ≡ g .n → bits ≡ below (isSigned g image) k → bits ≡ signedAt g image
-unfolding signedAt
-signed-all g image k bits e h = h ∙ ap (below (isSigned g image)) e
-
-module _ (bits : ℕ → Bool) (image : ℕ → List ℕ) (k : ℕ) (b : Bool) (e : b ≡ bits k) where
-  pub number-none : b ≡ false → 0 ≡ numberAt bits image k
-  unfolding numberAt
-  number-none f = sym (cond-false (bits k) (at (wordsOf (image k)) 2) 0 (sym e ∙ f))
-
-  pub number-some : b ≡ true → (s : List ℕ) (r : ℕ) → s ≡ image k → r ≡ at (wordsOf s) 2 → r ≡ numberAt bits image k
-  unfolding numberAt
-  number-some f s r g h = h ∙ ap (λ (x : List ℕ). at (wordsOf x) 2) g ∙ sym (cond-true (bits k) (at (wordsOf (image k)) 2) 0 (sym e ∙ f))

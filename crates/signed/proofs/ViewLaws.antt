@@ -1,4 +1,4 @@
--- The signed sectors as bits against the sectors as map sectors: both say the same.
+-- The signed sectors, as bits and as they were read, against the sectors as map sectors: all say the same.
 use Prim.Native.Nat.{ℕ, _*_, _-_, _≤_, _<_}
 use mathlib.Core.Path.{_≡_, refl, sym, _∙_, ap, fun-ext}
 use mathlib.Core.Logic.{⊎-elim}
@@ -14,10 +14,10 @@ use Rattle.geometry.specs.Geometry.{within, piecesFor, branchRoom, entriesPerPi
 use Rattle.layout.specs.Bounded.{at, all, isZero, gathered}
 use Rattle.layout.specs.Word.{wordsOf, wordSum, startsWith}
 use Rattle.layout.specs.MapSector.{MapSector, View, mapMark, branchesFit, branchWords, entryWords, valid, fields, decoded}
-use Rattle.volume.specs.Recover.{numberIn, closingNumber, pieceNumber, imageView, signedNumbers, isUncommitted}
+use Rattle.volume.specs.Recover.{numberIn, pieceIn, closingNumber, pieceNumber, imageView, signedNumbers, isUncommitted}
 use Rattle.laws.proofs.Bounded.{bool?, lt?, and-l, and-r, cond-true, cond-false, tabled-past}
 use Rattle.laws.proofs.Sizes.{view-at}
-use Rattle.signed.specs.Signed.{below, isSigned, signedAt, numberAt, closingAt, pieceAt}
+use Rattle.signed.specs.Signed.{below, isSigned, signedAt, closingMark, Read, Closings, closingKey, pieceKey}
 
 -- The fifth of ten tests.
 fifth : (a b c d e f g h i j : Bool) → (a && b && c && d && e && f && g && h && i && j) ≡ true → e ≡ true
@@ -44,9 +44,24 @@ module _ (a b c d e f g h i j : Bool) (z : (a && b && c && d && e && f && g && h
       and-r (a && b && c && d && e && f) g
       (and-l (a && b && c && d && e && f && g) h (and-l (a && b && c && d && e && f && g && h) i up-to-ninth))
 
-none-of : (b : Bool) → cond {A = ℕ} b 0 0 ≡ 0
-none-of true = refl
-none-of false = refl
+-- What was read of a sector, put together.
+marked-number : (o : Option MapSector) → cond (eqb (closingMark o) 1) (numberIn o) 0 ≡ closingNumber o
+unfolding closingMark numberIn closingNumber
+marked-number none = refl
+marked-number (some m) = go (m .closing)
+  where
+    go : (b : Bool) → cond (eqb (cond b 1 0) 1) (m .number) 0 ≡ cond b (m .number) 0
+    go true = refl
+    go false = refl
+
+number-of-piece : (c p : ℕ) (o : Option MapSector) → cond (eqb (pieceIn o) p && leb (numberIn o) c) (numberIn o) 0 ≡ pieceNumber c p o
+unfolding pieceIn numberIn pieceNumber
+number-of-piece c p none = none-of (eqb 0 p && leb 0 c)
+  where
+    none-of : (b : Bool) → cond {A = ℕ} b 0 0 ≡ 0
+    none-of true = refl
+    none-of false = refl
+number-of-piece c p (some m) = refl
 
 module _ (g : Geometry) (image : ℕ → List ℕ) where
   abbrev pub Seen : View
@@ -73,15 +88,34 @@ module _ (g : Geometry) (image : ℕ → List ℕ) where
       (ap (λ (b : Bool). b && valid g (image k) (wordsOf (image k))) (sym (lt-ltb k (g .n) h)) ∙ e))
       (λ (h : g .n ≤ k). tabled-past none (g .n) (λ j. decoded g (image j)) k h) (lt? k (g .n))
 
+  -- A sector below n that was looked at.
+  module _ (k : ℕ) (h : k < g .n) (s : List ℕ) (e : s ≡ image k) (r : Bool) (f : r ≡ valid g s (wordsOf s)) where
+    pub valid-view : r ≡ true → Seen k ≡ some (fields (wordsOf s))
+    unfolding decoded
+    valid-view t =
+        view-at g image k h ∙ ap (decoded g) (sym e) ∙ cond-true (valid g s (wordsOf s)) (some (fields (wordsOf s))) none (sym f ∙ t)
+
+    pub invalid-view : r ≡ false → Seen k ≡ none
+    unfolding decoded
+    invalid-view t =
+        view-at g image k h ∙ ap (decoded g) (sym e) ∙ cond-false (valid g s (wordsOf s)) (some (fields (wordsOf s))) none (sym f ∙ t)
+
+  pub past-view : (k : ℕ) → g .n ≤ k → Seen k ≡ none
+  unfolding imageView
+  past-view k h = tabled-past none (g .n) (λ j. decoded g (image j)) k h
+
   -- A signed sector's piece is one of the pieces.
-  pub signed-piece : (k : ℕ) → signedAt g image k ≡ true → at (wordsOf (image k)) 4 < piecesFor (g .l)
+  pub valid-piece : (s : List ℕ) → valid g s (wordsOf s) ≡ true → at (wordsOf s) 4 < piecesFor (g .l)
   unfolding valid
-  signed-piece k e =
-      let ws = wordsOf (image k) in
+  valid-piece s e =
+      let ws = wordsOf s in
       ltb-true (at ws 4) (piecesFor (g .l))
-      (fifth (startsWith mapMark (image k)) (isZero (wordSum ws)) (leb 1 (at ws 2)) (isZero (at ws 3)) (ltb (at ws 4) (piecesFor (g .l))) (leb (at ws 5) 1)
+      (fifth (startsWith mapMark s) (isZero (wordSum ws)) (leb 1 (at ws 2)) (isZero (at ws 3)) (ltb (at ws 4) (piecesFor (g .l))) (leb (at ws 5) 1)
       (leb (at ws 6) branchRoom) (eqb (at ws 7) (g .l)) (branchesFit (g .n) (at ws 6) (branchWords ws))
-      (all isZero (drop (g .l - entriesPerPiece * at ws 4) (entryWords ws))) (is-valid k e))
+      (all isZero (drop (g .l - entriesPerPiece * at ws 4) (entryWords ws))) e)
+
+  pub signed-piece : (k : ℕ) → signedAt g image k ≡ true → at (wordsOf (image k)) 4 < piecesFor (g .l)
+  signed-piece k e = valid-piece (image k) (is-valid k e)
 
   -- Its branches are sectors from 1 to n - 1.
   pub signed-count : (k : ℕ) → signedAt g image k ≡ true → at (wordsOf (image k)) 6 ≤ branchRoom
@@ -102,52 +136,43 @@ module _ (g : Geometry) (image : ℕ → List ℕ) where
       (leb (at ws 6) branchRoom) (eqb (at ws 7) (g .l)) (branchesFit (g .n) (at ws 6) (branchWords ws))
       (all isZero (drop (g .l - entriesPerPiece * at ws 4) (entryWords ws))) (is-valid k e))
 
-  module _ (bits : ℕ → Bool) (e : bits ≡ signedAt g image) where
-    at-bit : (k : ℕ) → bits k ≡ signedAt g image k
-    at-bit k = ap (λ (f : ℕ → Bool). f k) e
+  -- The sectors as they were read.
+  module _ (numbers pieces : List ℕ) (read : Read Seen numbers pieces) where
+    module _ (closing : List ℕ) (kinds : Closings Seen closing) where
+      pub closing-view : (k : ℕ) → closingKey numbers closing k ≡ closingNumber (Seen k)
+      unfolding closingKey
+      closing-view k = rw (read .number k, kinds k) (marked-number (Seen k))
 
-    -- By cases of a sector: signed, or not.
-    by-sign : (P : Bool → Option MapSector → Type 0) (k : ℕ) → P true (some (fields (wordsOf (image k)))) → P false none → P (bits k) (Seen k)
-    by-sign P k on off =
-        ⊎-elim (λ (z : signedAt g image k ≡ true). rw (at-bit k ∙ z, view-signed k z) on)
-        (λ (z : signedAt g image k ≡ false). rw (at-bit k ∙ z, view-unsigned k z) off) (bool? (signedAt g image k))
+      pub closings-view : closingKey numbers closing ≡ (λ k. closingNumber (Seen k))
+      closings-view = fun-ext closing-view
 
-    pub number-view : (k : ℕ) → numberAt bits image k ≡ numberIn (Seen k)
-    unfolding numberAt numberIn
-    number-view k = by-sign (λ b o. cond b (at (wordsOf (image k)) 2) 0 ≡ numberIn o) k refl refl
+    pub piece-view : (c p k : ℕ) → pieceKey numbers pieces c p k ≡ pieceNumber c p (Seen k)
+    unfolding pieceKey
+    piece-view c p k = rw (read .number k, read .piece k) (number-of-piece c p (Seen k))
 
-    pub closing-view : (k : ℕ) → closingAt bits image k ≡ closingNumber (Seen k)
-    unfolding closingAt numberAt closingNumber
-    closing-view k =
-        by-sign (λ b o. cond (eqb (at (wordsOf (image k)) 5) 1) (cond b (at (wordsOf (image k)) 2) 0) 0 ≡ closingNumber o) k refl
-        (none-of (eqb (at (wordsOf (image k)) 5) 1))
-
-    pub piece-view : (c p k : ℕ) → pieceAt bits image c p k ≡ pieceNumber c p (Seen k)
-    unfolding pieceAt numberAt pieceNumber
-    piece-view c p k =
-        by-sign (λ b o. cond (eqb (at (wordsOf (image k)) 4) p && leb (cond b (at (wordsOf (image k)) 2) 0) c) (cond b (at (wordsOf (image k)) 2) 0) 0 ≡ pieceNumber c p o)
-        k refl (none-of (eqb (at (wordsOf (image k)) 4) p && leb 0 c))
-
-    past : (k : ℕ) → g .n ≤ k → numberIn (Seen k) ≡ 0
-    unfolding numberIn imageView
-    past k h = ap numberIn (tabled-past none (g .n) (λ j. decoded g (image j)) k h)
-
-    -- The same of all sectors.
-    pub closings-view : closingAt bits image ≡ (λ k. closingNumber (Seen k))
-    closings-view = fun-ext closing-view
-
-    pub pieces-view : (c p : ℕ) → pieceAt bits image c p ≡ (λ k. pieceNumber c p (Seen k))
+    pub pieces-view : (c p : ℕ) → pieceKey numbers pieces c p ≡ (λ k. pieceNumber c p (Seen k))
     pieces-view c p = fun-ext (piece-view c p)
 
-    pub numbers-view : (m : ℕ) → gathered (λ k. not (isZero (numberAt bits image k))) (numberAt bits image) [] m ≡ signedNumbers Seen m
+    pub numbers-view : (m : ℕ) → gathered (λ k. not (isZero (at numbers k))) (at numbers) [] m ≡ signedNumbers Seen m
     unfolding signedNumbers
-    numbers-view m = ap (λ (f : ℕ → ℕ). gathered (λ k. not (isZero (f k))) f [] m) (fun-ext {f = numberAt bits image} {g = λ k. numberIn (Seen k)} number-view)
+    numbers-view m = ap (λ (f : ℕ → ℕ). gathered (λ k. not (isZero (f k))) f [] m) (fun-ext {f = at numbers} {g = λ k. numberIn (Seen k)} (read .number))
 
-    pub above-view : (c : ℕ) → below (λ k. ltb c (numberAt bits image k)) (g .n) ≡ isUncommitted Seen c
-    unfolding below
+    pub above-view : (c : ℕ) → below (λ k. ltb c (at numbers k)) (g .n) ≡ isUncommitted Seen c
+    unfolding below numberIn
     above-view c = fun-ext (λ k.
-        ⊎-elim (λ (h : k < g .n). rw (lt-ltb k (g .n) h) (ap (ltb c) (number-view k)))
-        (λ (h : g .n ≤ k). rw (le-ltb k (g .n) h) (sym (ap (ltb c) (past k h) ∙ le-ltb c 0 (omega arith)))) (lt? k (g .n)))
+        ⊎-elim (λ (h : k < g .n). rw (lt-ltb k (g .n) h) (ap (ltb c) (read .number k)))
+        (λ (h : g .n ≤ k). rw (le-ltb k (g .n) h) (sym (ap (λ (o : Option MapSector). ltb c (numberIn o)) (past-view k h) ∙ le-ltb c 0 (omega arith))))
+        (lt? k (g .n)))
+
+    -- Where there is a number there is a piece.
+    pub piece-inside : (k : ℕ) → (at numbers k ≡ 0 → ⊥) → at pieces k < piecesFor (g .l)
+    unfolding numberIn pieceIn
+    piece-inside k d =
+        ⊎-elim (λ (z : signedAt g image k ≡ true).
+        let e : at pieces k ≡ at (wordsOf (image k)) 4 = read .piece k ∙ ap pieceIn (view-signed k z) in
+        let h = signed-piece k z in
+        omega arith)
+        (λ (z : signedAt g image k ≡ false). absurd (d (read .number k ∙ ap numberIn (view-unsigned k z)))) (bool? (signedAt g image k))
 
   -- A sector with a number for a piece is signed, and that is its number.
   pub piece-signed : (c p k : ℕ) → (pieceNumber c p (Seen k) ≡ 0 → ⊥) → Seen k ≡ some (fields (wordsOf (image k)))

@@ -1,25 +1,31 @@
 -- What stands from `from` on is what was gathered below k.
 use Prim.Native.Nat.{_-_, _≤_}
-use mathlib.Core.Path.{_≡_, _∙_, ap}
+use mathlib.Core.Path.{_≡_, refl, _∙_, ap}
 use native.Mathlib.Omega.{arith}
-use Rattle.volume.specs.Tables.{sectorAt, bitAt}
-use Rattle.signed.specs.Signed.{numberAt}
+use Rattle.layout.specs.Bounded.{at}
 use Rattle.distinct.proofs.Gathering.{Gathering, those, gathering-none, gathering-skips, gathering-more}
 use Rattle.distinct.proofs.gather.Statement.{statement}
 use Rattle.distinct.proofs.gather.Tie as tie
 
 abbrev Inv-sectors : tie.InvT-sectors
-Inv-sectors image n marks xs₀ from₀ k₀ xs from k = (k ≤ n) × Gathering (numberAt (bitAt marks) (sectorAt image)) xs₀ xs from k
+Inv-sectors numbers n xs₀ from₀ k₀ xs from k = (k ≤ n) × Gathering (at numbers) xs₀ xs from k
 
 abbrev μ-sectors : tie.MeasureT-sectors
-μ-sectors image n marks xs₀ from₀ k₀ xs from k = n - k
+μ-sectors numbers n xs₀ from₀ k₀ xs from k = n - k
 
 sectors-holds : tie.Need-sectors-holds Inv-sectors μ-sectors
-sectors-holds c = (omega arith, gathering-none (numberAt _ _) _)
+sectors-holds c =
+    let a = c .args in
+    (omega arith, gathering-none (at (a .numbers .now)) _)
 
-number-at-requires : tie.Need-number-at-requires Inv-sectors μ-sectors
-number-at-requires c κs =
-    (omega arith, omega arith)
+cast-number : tie.Need-cast-number Inv-sectors μ-sectors
+cast-number c = omega arith
+
+mul-number : tie.Need-mul-number Inv-sectors μ-sectors
+mul-number c = omega arith
+
+shared-slice-read-number : tie.Need-shared-slice-read-number Inv-sectors μ-sectors
+shared-slice-read-number c = omega arith
 
 add-k : tie.Need-add-k Inv-sectors μ-sectors
 add-k c = omega arith
@@ -29,9 +35,9 @@ sectors-less c = omega arith
 
 sectors-again : tie.Need-sectors-again Inv-sectors μ-sectors
 sectors-again c =
-    let the-number-at = c .before .number-at in
+    let a = c .before .before .before .before .args in
     let l = c .before .before .before .sectors in
-    (omega arith, gathering-skips (numberAt _ _) _ (l .xs) (l .from) (l .k) (the-number-at .result) (the-number-at .ensures) (c .if1 .taken) (l .inv .1))
+    (omega arith, gathering-skips (at (a .numbers .now)) _ (l .xs) (l .from) (l .k) _ refl (c .if1 .taken) (l .inv .1))
 
 sub-from : tie.Need-sub-from Inv-sectors μ-sectors
 sub-from c = omega arith
@@ -50,10 +56,10 @@ sectors-less-2 c = omega arith
 
 sectors-again-2 : tie.Need-sectors-again-2 Inv-sectors μ-sectors
 sectors-again-2 c =
-    let the-number-at = c .before .number-at in
+    let a = c .before .before .before .before .args in
     let l = c .before .before .before .sectors in (
       omega arith,
-      gathering-more (numberAt _ _) _ (l .xs) (l .from) (l .k) (the-number-at .result) (the-number-at .ensures) (c .if1 .left) (omega arith) (l .inv .1),
+      gathering-more (at (a .numbers .now)) _ (l .xs) (l .from) (l .k) _ refl (c .if1 .left) (omega arith) (l .inv .1),
     )
 
 same-length : tie.Need-same-length Inv-sectors μ-sectors
@@ -61,12 +67,12 @@ same-length c = c .before .sectors .inv .1 .long
 
 returns : tie.Need-returns Inv-sectors μ-sectors
 returns c =
-    let a = c .before .before .before .before .before .args in
+    let a = c .before .before .args in
     let l = c .before .sectors in
     let e : l .k ≡ a .n = (let i = l .inv .0 in let t = c .sectors-test .left in omega arith) in
     let o = l .inv .1 .inside in
     let n = l .inv .1 .long in
-    (omega arith, l .inv .1 .made ∙ ap (those (numberAt (bitAt (a .marks .now)) (sectorAt (a .image .now)))) e)
+    (omega arith, l .inv .1 .made ∙ ap (those (at (a .numbers .now))) e)
 
 pub gather-spec : {M : Type 1} → statement M
 gather-spec =
@@ -75,7 +81,9 @@ gather-spec =
     Inv-sectors
     μ-sectors
     sectors-holds
-    number-at-requires
+    cast-number
+    mul-number
+    shared-slice-read-number
     add-k
     sectors-less
     sectors-again

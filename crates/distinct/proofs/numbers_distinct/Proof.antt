@@ -1,15 +1,10 @@
--- What was gathered are the numbers of the marked sectors.
-use Prim.Native.Nat.{ℕ}
-use mathlib.Core.Path.{_∙_, ap}
-use lib.ListN.{length-replicate}
+-- What was gathered are the numbers that are not 0.
+use mathlib.Core.Path.{refl, _∙_, ap}
 use Rattle.layout.specs.Bounded.{distinct}
 use Rattle.distinct.proofs.Equal.{lent-end}
 use borrow.Author.Needs.{needs}
 use Rattle.distinct.proofs.numbers_distinct.Statement.{statement}
 use Rattle.distinct.proofs.numbers_distinct.Tie as tie
-
-slice-aggregate-gather : tie.Need-slice-aggregate-gather
-slice-aggregate-gather c = search needs
 
 gather-requires : tie.Need-gather-requires
 gather-requires c κs = search needs
@@ -29,20 +24,24 @@ part-words-distinct-end c = search needs
 words-distinct-requires : tie.Need-words-distinct-requires
 words-distinct-requires c κs = search needs
 
+same-length : tie.Need-same-length
+same-length c = search needs
+
 returns : tie.Need-returns
 returns c =
-    let the-gather = c .before .before .before .before .gather in
-    c .words-distinct .ensures ∙ ap distinct (lent-end _ 65536 (the-gather .result) (the-gather .kept .1 .1 .1 .0 ∙ length-replicate {A = ℕ} 65536 0) (the-gather .ensures .0) ∙ the-gather .ensures .1)
+    let the-gather = c .before .before .before .before .before .gather in
+    c .words-distinct .ensures
+    ∙ ap distinct (lent-end _ _ (the-gather .result) refl (the-gather .ensures .0) ∙ the-gather .ensures .1)
 
 pub numbers-distinct-spec : {M : Type 1} → statement M
 numbers-distinct-spec =
     tie.close
     (tie.spec
-    slice-aggregate-gather
     gather-requires
     mul-words-distinct
     sub-words-distinct
     part-words-distinct-start
     part-words-distinct-end
     words-distinct-requires
+    same-length
     returns)

@@ -1,35 +1,51 @@
--- The signed sectors are marked first.
-use Prim.Native.Nat.{_-_}
+-- The arrays hold a whole volume.
 use mathlib.Core.Path.{refl}
 use native.Mathlib.Omega.{arith}
-use Rattle.soundness.proofs.Sounding.{sectors-some, sectors-most}
+use Rattle.soundness.proofs.Sounding.{sectors-most}
 use borrow.Author.Needs.{needs}
 use Rattle.scan.proofs.scan.Statement.{statement}
 use Rattle.scan.proofs.scan.Tie as tie
 
-slice-aggregate-mark-signed : tie.Need-slice-aggregate-mark-signed
-slice-aggregate-mark-signed c = search needs
+slice-aggregate-read-apart : tie.Need-slice-aggregate-read-apart
+slice-aggregate-read-apart c = search needs
 
-mark-signed-requires : tie.Need-mark-signed-requires
-mark-signed-requires c κs =
-    let a = c .before .before .before .before .before .before .before .args in
-    let p = c .before .before .before .before .before .before .before .pre in
-    let s = sectors-some (a .g) (p .0) in
+slice-aggregate-read-apart-2 : tie.Need-slice-aggregate-read-apart-2
+slice-aggregate-read-apart-2 c = search needs
+
+slice-aggregate-read-apart-3 : tie.Need-slice-aggregate-read-apart-3
+slice-aggregate-read-apart-3 c = search needs
+
+slice-aggregate-read-apart-4 : tie.Need-slice-aggregate-read-apart-4
+slice-aggregate-read-apart-4 c = search needs
+
+read-apart-requires : tie.Need-read-apart-requires
+read-apart-requires c κs =
+    let a = c .before .before .before .before .before .before .before .before .before .before .args in
+    let p = c .before .before .before .before .before .before .before .before .before .before .pre in
     let m = sectors-most (a .g) (p .0) in
-    (p .1 .0, (omega arith, (omega arith, refl)))
+    (p .0, (p .1 .0, (omega arith, (omega arith, (omega arith, (omega arith, (omega arith, (refl, (refl, refl)))))))))
 
 slice-aggregate-scan-signed : tie.Need-slice-aggregate-scan-signed
 slice-aggregate-scan-signed c = search needs
 
+slice-aggregate-scan-signed-2 : tie.Need-slice-aggregate-scan-signed-2
+slice-aggregate-scan-signed-2 c = search needs
+
+slice-aggregate-scan-signed-3 : tie.Need-slice-aggregate-scan-signed-3
+slice-aggregate-scan-signed-3 c = search needs
+
 scan-signed-requires : tie.Need-scan-signed-requires
 scan-signed-requires c κs =
-    let the-mark-signed = c .before .before .before .before .before .before .before .mark-signed in
-    let a = c .before .before .before .before .before .before .before .before .before .before .before .before .before .before .before .args in
-    let p = c .before .before .before .before .before .before .before .before .before .before .before .before .before .before .before .pre in
+    let the-read-apart = c .before .before .before .before .before .before .before .before .before .before .before .before .read-apart in
+    let a = c .before .before .before .before .before .before .before .before .before .before .before .before .before .before .before .before .before .before .before .before .before .before .before .args in
+    let p = c .before .before .before .before .before .before .before .before .before .before .before .before .before .before .before .before .before .before .before .before .before .before .before .pre in
     let m = sectors-most (a .g) (p .0) in
-    let k = the-mark-signed .kept .1 .1 .0 in
-    let q = p .1 .1 in
-    (p .0, (p .1 .0, (omega arith, (the-mark-signed .ensures, (q .0, (q .1 .0, (q .1 .1 .0, (q .1 .1 .1 .0, (q .1 .1 .1 .1 .0, q .1 .1 .1 .1 .1)))))))))
+    let k = the-read-apart .kept .1 .1 in
+    let long = k .0 in
+    let long′ = k .1 .0 in
+    let long″ = k .1 .1 .0 in
+    let e = the-read-apart .ensures in
+    (p .0, (p .1 .0, (e .0, (omega arith, (omega arith, (omega arith, (e .1, (e .2, p .1 .1))))))))
 
 same-length : tie.Need-same-length
 same-length c = search needs
@@ -53,9 +69,14 @@ pub scan-spec : {M : Type 1} → statement M
 scan-spec =
     tie.close
     (tie.spec
-    slice-aggregate-mark-signed
-    mark-signed-requires
+    slice-aggregate-read-apart
+    slice-aggregate-read-apart-2
+    slice-aggregate-read-apart-3
+    slice-aggregate-read-apart-4
+    read-apart-requires
     slice-aggregate-scan-signed
+    slice-aggregate-scan-signed-2
+    slice-aggregate-scan-signed-3
     scan-signed-requires
     same-length
     same-length-2

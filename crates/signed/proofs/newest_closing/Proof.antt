@@ -4,17 +4,16 @@ use mathlib.Core.Path.{_≡_, _∙_, ap}
 use mathlib.Core.Logic.{⊎-elim}
 use native.Mathlib.Omega.{arith}
 use Rattle.layout.specs.Bounded.{best}
-use Rattle.volume.specs.Tables.{sectorAt, bitAt}
-use Rattle.signed.specs.Signed.{closingAt}
+use Rattle.signed.specs.Signed.{closingKey}
 use Rattle.signed.proofs.Newest.{Newest, newest-first, newest-more, newest-same}
 use Rattle.signed.proofs.newest_closing.Statement.{statement}
 use Rattle.signed.proofs.newest_closing.Tie as tie
 
 abbrev Inv-loop : tie.InvT-loop
-Inv-loop image n marks found₀ highest₀ k₀ found highest k = (k ≤ n) × Newest (closingAt (bitAt marks) (sectorAt image)) k found highest
+Inv-loop numbers closing n found₀ highest₀ k₀ found highest k = (k ≤ n) × Newest (closingKey numbers closing) k found highest
 
 abbrev μ-loop : tie.MeasureT-loop
-μ-loop image n marks found₀ highest₀ k₀ found highest k = n - k
+μ-loop numbers closing n found₀ highest₀ k₀ found highest k = n - k
 
 closing-at-requires : tie.Need-closing-at-requires Inv-loop μ-loop
 closing-at-requires c κs =
@@ -23,7 +22,7 @@ closing-at-requires c κs =
 loop-holds : tie.Need-loop-holds Inv-loop μ-loop
 loop-holds c =
     let the-pre = c .before .before .before .pre in
-    (the-pre .0, newest-first (closingAt _ _) (c .closing-at .result) (c .closing-at .ensures))
+    (the-pre .0, newest-first (closingKey _ _) (c .closing-at .result) (c .closing-at .ensures))
 
 closing-at-requires-2 : tie.Need-closing-at-requires-2 Inv-loop μ-loop
 closing-at-requires-2 c κs =
@@ -37,9 +36,10 @@ loop-less c = omega arith
 
 loop-again : tie.Need-loop-again Inv-loop μ-loop
 loop-again c =
+    let a = c .before .before .before .before .before .before .before .args in
     let the-closing-at2 = c .before .closing-at2 in
     let l = c .before .before .before .loop in
-    let key = closingAt _ _ in (
+    let key = closingKey (a .numbers .now) (a .closing .now) in (
       omega arith,
       ⊎-elim (λ w. newest-more key (l .k) (l .found) (l .highest) (the-closing-at2 .result) _ _ (l .inv .1) (the-closing-at2 .ensures) (w .0 .taken) (w .1) (w .2))
           (λ w. newest-same key (l .k) (l .found) (l .highest) (the-closing-at2 .result) _ _ (l .inv .1) (the-closing-at2 .ensures) (w .0 .left) (w .1) (w .2)) (c .if1 .came),
@@ -50,7 +50,7 @@ returns c =
     let a = c .before .before .before .before .before .args in
     let l = c .before .loop in
     let e : l .k ≡ a .n = (let i = l .inv .0 in let t = c .loop-test .left in omega arith) in
-    l .inv .1 .0 ∙ ap (best (closingAt (bitAt (a .marks .now)) (sectorAt (a .image .now)))) e
+    l .inv .1 .0 ∙ ap (best (closingKey (a .numbers .now) (a .closing .now))) e
 
 pub newest-closing-spec : {M : Type 1} → statement M
 newest-closing-spec =
