@@ -165,8 +165,104 @@ fn scan_signed(
     Found::Log { tail, number: c }
 }
 
-// Finds the log by a scan of all sectors. The tables are then in what was lent, and in `above` the uncommitted sectors.
-pub fn scan(
+// The scan of a volume of at most 1,024 sectors. What a scan keeps is cleared first, so that a small volume has small arrays.
+fn scan_small(
+    image: &[u8],
+    g: Geometry,
+    map: &mut [u32],
+    places: &mut [u32],
+    numbers: &mut [u32],
+    used: &mut [u8],
+    above: &mut [u8],
+) -> Found
+    requires { ⌜ g .n ≤ 1024 ⌝ }
+    requires { ⌜ geometryFits g ≡ true ⌝ }
+    requires { ⌜ length (now image) ≡ sectorBytes * g .n ⌝ }
+    requires { ⌜ length (now map) ≡ g .l ⌝ }
+    requires { ⌜ length (now places) ≡ piecesFor (g .l) ⌝ }
+    requires { ⌜ length (now numbers) ≡ piecesFor (g .l) ⌝ }
+    requires { ⌜ length (now used) ≡ usedBytes (g .n) ⌝ }
+    requires { ⌜ g .n ≤ 8 * length (now above) ⌝ }
+    requires { ⌜ now above ≡ replicate (length (now above)) 0 ⌝ }
+    ensures { λ r. ⌜ (scanFound r (g .n) (imageView g (sectorAt (now (image .entry)))) (sectorAt (now (image .entry)) 0) (tablesOf (now (map .exit)) (now (places .exit)) (now (numbers .exit)) (now (used .exit))) ≡ scanFinding g (imageView g (sectorAt (now (image .entry)))) (sectorAt (now (image .entry)) 0)) × scanAbove r (imageView g (sectorAt (now (image .entry)))) (bitAt (now (above .exit))) ⌝ }
+{
+    let mut numbered = [0u32; 1024];
+    let mut pieces = [0u8; 1024];
+    let mut closing = [0u8; 1024];
+    let mut scratch = [0u32; 1024];
+    let apart = read_apart(
+        image,
+        g,
+        &mut numbered,
+        &mut pieces,
+        &mut closing,
+        &mut scratch,
+    );
+    scan_signed(
+        image,
+        g,
+        apart,
+        &numbered,
+        &pieces,
+        &closing,
+        map,
+        places,
+        numbers,
+        used,
+        above,
+    )
+}
+
+// The same of at most 16,384 sectors.
+fn scan_medium(
+    image: &[u8],
+    g: Geometry,
+    map: &mut [u32],
+    places: &mut [u32],
+    numbers: &mut [u32],
+    used: &mut [u8],
+    above: &mut [u8],
+) -> Found
+    requires { ⌜ g .n ≤ 16384 ⌝ }
+    requires { ⌜ geometryFits g ≡ true ⌝ }
+    requires { ⌜ length (now image) ≡ sectorBytes * g .n ⌝ }
+    requires { ⌜ length (now map) ≡ g .l ⌝ }
+    requires { ⌜ length (now places) ≡ piecesFor (g .l) ⌝ }
+    requires { ⌜ length (now numbers) ≡ piecesFor (g .l) ⌝ }
+    requires { ⌜ length (now used) ≡ usedBytes (g .n) ⌝ }
+    requires { ⌜ g .n ≤ 8 * length (now above) ⌝ }
+    requires { ⌜ now above ≡ replicate (length (now above)) 0 ⌝ }
+    ensures { λ r. ⌜ (scanFound r (g .n) (imageView g (sectorAt (now (image .entry)))) (sectorAt (now (image .entry)) 0) (tablesOf (now (map .exit)) (now (places .exit)) (now (numbers .exit)) (now (used .exit))) ≡ scanFinding g (imageView g (sectorAt (now (image .entry)))) (sectorAt (now (image .entry)) 0)) × scanAbove r (imageView g (sectorAt (now (image .entry)))) (bitAt (now (above .exit))) ⌝ }
+{
+    let mut numbered = [0u32; 16384];
+    let mut pieces = [0u8; 16384];
+    let mut closing = [0u8; 16384];
+    let mut scratch = [0u32; 16384];
+    let apart = read_apart(
+        image,
+        g,
+        &mut numbered,
+        &mut pieces,
+        &mut closing,
+        &mut scratch,
+    );
+    scan_signed(
+        image,
+        g,
+        apart,
+        &numbered,
+        &pieces,
+        &closing,
+        map,
+        places,
+        numbers,
+        used,
+        above,
+    )
+}
+
+// The same of a volume of any size.
+fn scan_large(
     image: &[u8],
     g: Geometry,
     map: &mut [u32],
@@ -210,4 +306,33 @@ pub fn scan(
         used,
         above,
     )
+}
+
+// Finds the log by a scan of all sectors. The tables are then in what was lent, and in `above` the uncommitted sectors.
+pub fn scan(
+    image: &[u8],
+    g: Geometry,
+    map: &mut [u32],
+    places: &mut [u32],
+    numbers: &mut [u32],
+    used: &mut [u8],
+    above: &mut [u8],
+) -> Found
+    requires { ⌜ geometryFits g ≡ true ⌝ }
+    requires { ⌜ length (now image) ≡ sectorBytes * g .n ⌝ }
+    requires { ⌜ length (now map) ≡ g .l ⌝ }
+    requires { ⌜ length (now places) ≡ piecesFor (g .l) ⌝ }
+    requires { ⌜ length (now numbers) ≡ piecesFor (g .l) ⌝ }
+    requires { ⌜ length (now used) ≡ usedBytes (g .n) ⌝ }
+    requires { ⌜ g .n ≤ 8 * length (now above) ⌝ }
+    requires { ⌜ now above ≡ replicate (length (now above)) 0 ⌝ }
+    ensures { λ r. ⌜ (scanFound r (g .n) (imageView g (sectorAt (now (image .entry)))) (sectorAt (now (image .entry)) 0) (tablesOf (now (map .exit)) (now (places .exit)) (now (numbers .exit)) (now (used .exit))) ≡ scanFinding g (imageView g (sectorAt (now (image .entry)))) (sectorAt (now (image .entry)) 0)) × scanAbove r (imageView g (sectorAt (now (image .entry)))) (bitAt (now (above .exit))) ⌝ }
+{
+    if g.n <= 1024 {
+        return scan_small(image, g, map, places, numbers, used, above);
+    }
+    if g.n <= 16384 {
+        return scan_medium(image, g, map, places, numbers, used, above);
+    }
+    scan_large(image, g, map, places, numbers, used, above)
 }

@@ -1,51 +1,13 @@
--- The arrays hold a whole volume.
-use mathlib.Core.Path.{refl}
-use native.Mathlib.Omega.{arith}
-use Rattle.soundness.proofs.Sounding.{sectors-most}
+-- The class that is chosen holds the volume.
 use borrow.Author.Needs.{needs}
 use Rattle.scan.proofs.scan.Statement.{statement}
 use Rattle.scan.proofs.scan.Tie as tie
 
-slice-aggregate-read-apart : tie.Need-slice-aggregate-read-apart
-slice-aggregate-read-apart c = search needs
-
-slice-aggregate-read-apart-2 : tie.Need-slice-aggregate-read-apart-2
-slice-aggregate-read-apart-2 c = search needs
-
-slice-aggregate-read-apart-3 : tie.Need-slice-aggregate-read-apart-3
-slice-aggregate-read-apart-3 c = search needs
-
-slice-aggregate-read-apart-4 : tie.Need-slice-aggregate-read-apart-4
-slice-aggregate-read-apart-4 c = search needs
-
-read-apart-requires : tie.Need-read-apart-requires
-read-apart-requires c κs =
-    let a = c .before .before .before .before .before .before .before .before .before .before .args in
-    let p = c .before .before .before .before .before .before .before .before .before .before .pre in
-    let m = sectors-most (a .g) (p .0) in
-    (p .0, (p .1 .0, (omega arith, (omega arith, (omega arith, (omega arith, (omega arith, (refl, (refl, refl)))))))))
-
-slice-aggregate-scan-signed : tie.Need-slice-aggregate-scan-signed
-slice-aggregate-scan-signed c = search needs
-
-slice-aggregate-scan-signed-2 : tie.Need-slice-aggregate-scan-signed-2
-slice-aggregate-scan-signed-2 c = search needs
-
-slice-aggregate-scan-signed-3 : tie.Need-slice-aggregate-scan-signed-3
-slice-aggregate-scan-signed-3 c = search needs
-
-scan-signed-requires : tie.Need-scan-signed-requires
-scan-signed-requires c κs =
-    let the-read-apart = c .before .before .before .before .before .before .before .before .before .before .before .before .read-apart in
-    let a = c .before .before .before .before .before .before .before .before .before .before .before .before .before .before .before .before .before .before .before .before .before .before .before .args in
-    let p = c .before .before .before .before .before .before .before .before .before .before .before .before .before .before .before .before .before .before .before .before .before .before .before .pre in
-    let m = sectors-most (a .g) (p .0) in
-    let k = the-read-apart .kept .1 .1 in
-    let long = k .0 in
-    let long′ = k .1 .0 in
-    let long″ = k .1 .1 .0 in
-    let e = the-read-apart .ensures in
-    (p .0, (p .1 .0, (e .0, (omega arith, (omega arith, (omega arith, (e .1, (e .2, p .1 .1))))))))
+scan-small-requires : tie.Need-scan-small-requires
+scan-small-requires c κs =
+    let the-if1 = c .before .before .before .before .before .if1 in
+    let the-pre = c .before .before .before .before .before .before .before .before .before .before .before .before .before .pre in
+    (the-if1 .taken, the-pre)
 
 same-length : tie.Need-same-length
 same-length c = search needs
@@ -65,22 +27,73 @@ same-length-5 c = search needs
 returns : tie.Need-returns
 returns c = search needs
 
+scan-medium-requires : tie.Need-scan-medium-requires
+scan-medium-requires c κs =
+    let the-if2 = c .before .before .before .before .before .if2 in
+    let the-pre = c .before .before .before .before .before .before .before .before .before .before .before .before .before .before .before .pre in
+    (the-if2 .taken, the-pre)
+
+same-length-6 : tie.Need-same-length-6
+same-length-6 c = search needs
+
+same-length-7 : tie.Need-same-length-7
+same-length-7 c = search needs
+
+same-length-8 : tie.Need-same-length-8
+same-length-8 c = search needs
+
+same-length-9 : tie.Need-same-length-9
+same-length-9 c = search needs
+
+same-length-10 : tie.Need-same-length-10
+same-length-10 c = search needs
+
+returns-2 : tie.Need-returns-2
+returns-2 c = search needs
+
+scan-large-requires : tie.Need-scan-large-requires
+scan-large-requires c κs = search needs
+
+same-length-11 : tie.Need-same-length-11
+same-length-11 c = search needs
+
+same-length-12 : tie.Need-same-length-12
+same-length-12 c = search needs
+
+same-length-13 : tie.Need-same-length-13
+same-length-13 c = search needs
+
+same-length-14 : tie.Need-same-length-14
+same-length-14 c = search needs
+
+same-length-15 : tie.Need-same-length-15
+same-length-15 c = search needs
+
+returns-3 : tie.Need-returns-3
+returns-3 c = search needs
+
 pub scan-spec : {M : Type 1} → statement M
 scan-spec =
     tie.close
     (tie.spec
-    slice-aggregate-read-apart
-    slice-aggregate-read-apart-2
-    slice-aggregate-read-apart-3
-    slice-aggregate-read-apart-4
-    read-apart-requires
-    slice-aggregate-scan-signed
-    slice-aggregate-scan-signed-2
-    slice-aggregate-scan-signed-3
-    scan-signed-requires
+    scan-small-requires
     same-length
     same-length-2
     same-length-3
     same-length-4
     same-length-5
-    returns)
+    returns
+    scan-medium-requires
+    same-length-6
+    same-length-7
+    same-length-8
+    same-length-9
+    same-length-10
+    returns-2
+    scan-large-requires
+    same-length-11
+    same-length-12
+    same-length-13
+    same-length-14
+    same-length-15
+    returns-3)
