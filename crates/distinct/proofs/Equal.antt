@@ -2,14 +2,17 @@
 use Prim.Native.Nat.{ℕ, zero, suc, _+_, _-_, _%_, _≤_, _<_}
 use mathlib.Core.Path.{_≡_, refl, sym, _∙_, ap, subst}
 use mathlib.Core.Logic.{⊎-elim}
-use mathlib.Core.Bool.{true, false}
+use mathlib.Core.Bool.{Bool, true, false, _||_}
 use mathlib.Core.List.{List, [], _∷_}
 use native.Mathlib.Nat.{not-suc-le-zero, le-of-suc-le-suc}
+use native.Mathlib.Numerals.{add-one}
 use native.Mathlib.Omega.{arith}
 use lib.ListN.{length, set, take, drop, length-set, length-drop}
 use lib.Seq.{getD-set-same, getD-set-other, take-all}
-use Rattle.layout.specs.Bounded.{at, elem, distinct}
-use Rattle.laws.proofs.Bounded.{bool?, eq?, clash, elem-cons, elem-here, elem-there, distinct-head, distinct-rest, distinct-cons, not-elem}
+use lib.Dec.{eqb}
+use borrow.Author.Tests.{eq-eqb, ne-eqb, eqb-true}
+use Rattle.layout.specs.Bounded.{at, anyBelow, elem, distinct}
+use Rattle.laws.proofs.Bounded.{bool?, eq?, clash, or-r, anyBelow-at, anyBelow-is, elem-cons, elem-here, elem-there, distinct-head, distinct-rest, distinct-cons, not-elem}
 
 elem-at : (k : ℕ) (xs : List ℕ) → elem k xs ≡ true → (i : ℕ) × (i < length xs) × (at xs i ≡ k)
 unfolding elem
@@ -49,6 +52,41 @@ distinct-differ (x ∷ xs) e (suc i) (suc j) h g f =
 pub equal-distinct : (xs : List ℕ) (i j : ℕ) → i < j → j < length xs → at xs i ≡ at xs j → distinct xs ≡ false
 equal-distinct xs i j h g f =
     ⊎-elim (λ (e : distinct xs ≡ true). absurd (distinct-differ xs e i j h g f)) (λ (e : distinct xs ≡ false). e) (bool? (distinct xs))
+
+-- Each number against those before it.
+pub or-same : (found : Bool) (a b : ℕ) → a ≡ b → true ≡ (found || eqb a b)
+or-same found a b e = sym (or-r found (eqb a b) (eq-eqb a b e))
+
+pub or-not : (found : Bool) (a b : ℕ) → (a ≡ b → ⊥) → found ≡ (found || eqb a b)
+or-not true a b d = refl
+or-not false a b d = sym (ne-eqb a b d)
+
+module _ (xs : List ℕ) (i : ℕ) where
+  -- Number i stands among those below j.
+  abbrev pub Stands : ℕ → Bool
+  Stands j = anyBelow (λ k. eqb (at xs i) (at xs k)) j
+
+  pub stands-none : false ≡ Stands 0
+  unfolding anyBelow
+  stands-none = refl
+
+  pub stands-next : (j : ℕ) (found found′ : Bool) → found ≡ Stands j → found′ ≡ (found || eqb (at xs i) (at xs j)) → found′ ≡ Stands (j + 1)
+  unfolding anyBelow
+  stands-next j found found′ e f = rw add-one (f ∙ ap (λ (b : Bool). b || eqb (at xs i) (at xs j)) e)
+
+  pub stands-equal : Stands i ≡ true → i < length xs → false ≡ distinct xs
+  stands-equal e h =
+      let s = anyBelow-at (λ k. eqb (at xs i) (at xs k)) i e in
+      sym (equal-distinct xs (s .0) i (s .1) h (sym (eqb-true (at xs i) (at xs (s .0)) (s .2))))
+
+  pub stands-differ : Stands i ≡ false → Differ xs i → Differ xs (i + 1)
+  stands-differ e d j k h g f =
+      ⊎-elim (λ (z : k ≡ i).
+      clash (Stands i) (anyBelow-is (λ m. eqb (at xs i) (at xs m)) i j (omega arith) (eq-eqb (at xs i) (at xs j) (sym (f ∙ ap (at xs) z)))) e)
+      (λ (z : k ≡ i → ⊥). d j k h (omega arith) f) (eq? k i)
+
+pub differ-none : (xs : List ℕ) → Differ xs 0
+differ-none xs j k h g f = absurd (not-suc-le-zero g)
 
 -- The residues of the numbers below i are marked, and no two agree.
 module _ (xs : List ℕ) where

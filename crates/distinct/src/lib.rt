@@ -1,12 +1,52 @@
-// Whether numbers are all different, in time linear in their count whatever they are: if no two agree in their lower 16 bits they
-// are; otherwise they are chained by their upper 14 bits, and the lower 18 of each chain's numbers are stamped in a table.
+// Whether numbers are all different, in time linear in their count whatever they are: a few are compared in pairs; if no two of
+// many agree in their lower 16 bits they are; otherwise they are chained by their upper 14 bits, and the lower 18 of each chain's numbers are stamped in a table.
 ghost use mathlib.Core.Path.{_≡_};
-ghost use mathlib.Core.Bool.{true, false, not};
+ghost use mathlib.Core.Bool.{true, false, not, _||_};
 ghost use mathlib.Core.List.{[]};
 ghost use Prim.Native.Nat.{ℕ, _+_, _≤_, _<_};
 ghost use lib.ListN.{length, drop};
-ghost use Rattle.layout.specs.Bounded.{at, distinct, gathered, isZero};
+ghost use lib.Dec.{eqb};
+ghost use Rattle.layout.specs.Bounded.{at, anyBelow, distinct, gathered, isZero};
 ghost use Rattle.distinct.specs.Chains.{groupOf, lastIn, Back, Linked, Apart};
+
+// Whether one was found already, or a and b are the same.
+fn or_same(found: bool, a: u32, b: u32) -> bool
+    ensures { λ r. ⌜ r ≡ (found || eqb a b) ⌝ }
+{
+    if a == b {
+        return true;
+    }
+    found
+}
+
+// Whether number i stands before i already. All are looked at, so that the compiler compares several at a time.
+fn stands_before(xs: &[u32], i: usize) -> bool
+    requires { ⌜ i < length (now xs) ⌝ }
+    ensures { λ r. ⌜ r ≡ anyBelow (λ j. eqb (at (now (xs .entry)) i) (at (now (xs .entry)) j)) i ⌝ }
+{
+    let number = xs[i];
+    let mut found = false;
+    let mut j = 0;
+    while j < i {
+        found = or_same(found, number, xs[j]);
+        j += 1;
+    }
+    found
+}
+
+// Whether numbers are all different: each against those before it.
+fn pairs_distinct(xs: &[u32]) -> bool
+    ensures { λ r. ⌜ r ≡ distinct (now (xs .entry)) ⌝ }
+{
+    let mut i = 0;
+    while i < xs.len() {
+        if stands_before(xs, i) {
+            return false;
+        }
+        i += 1;
+    }
+    true
+}
 
 // Whether no two numbers agree in their lower 16 bits: then they are all different. If two do, they may be different all the same.
 fn residues_distinct(xs: &[u32]) -> bool
@@ -97,11 +137,14 @@ fn chains_distinct(xs: &[u32]) -> bool
     groups_distinct(xs, &heads, &next, &mut stamps)
 }
 
-// Whether words are all different.
+// Whether words are all different. A few are compared in pairs sooner than the table of residues is cleared.
 fn words_distinct(xs: &[u32]) -> bool
     requires { ⌜ length (now xs) ≤ 65536 ⌝ }
     ensures { λ r. ⌜ r ≡ distinct (now (xs .entry)) ⌝ }
 {
+    if xs.len() < 64 {
+        return pairs_distinct(xs);
+    }
     if residues_distinct(xs) {
         return true;
     }

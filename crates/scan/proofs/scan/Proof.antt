@@ -1,4 +1,5 @@
 -- The class that is chosen holds the volume.
+use native.Mathlib.Omega.{arith}
 use borrow.Author.Needs.{needs}
 use Rattle.scan.proofs.scan.Statement.{statement}
 use Rattle.scan.proofs.scan.Tie as tie
@@ -7,7 +8,8 @@ scan-small-requires : tie.Need-scan-small-requires
 scan-small-requires c κs =
     let the-if1 = c .before .before .before .before .before .if1 in
     let the-pre = c .before .before .before .before .before .before .before .before .before .before .before .before .before .pre in
-    (the-if1 .taken, the-pre)
+    let few = the-if1 .taken in
+    (omega arith, the-pre)
 
 same-length : tie.Need-same-length
 same-length c = search needs
@@ -31,7 +33,8 @@ scan-medium-requires : tie.Need-scan-medium-requires
 scan-medium-requires c κs =
     let the-if2 = c .before .before .before .before .before .if2 in
     let the-pre = c .before .before .before .before .before .before .before .before .before .before .before .before .before .before .before .pre in
-    (the-if2 .taken, the-pre)
+    let few = the-if2 .taken in
+    (omega arith, the-pre)
 
 same-length-6 : tie.Need-same-length-6
 same-length-6 c = search needs
