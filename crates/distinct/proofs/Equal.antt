@@ -7,12 +7,12 @@ use mathlib.Core.List.{List, [], _∷_}
 use native.Mathlib.Nat.{not-suc-le-zero, le-of-suc-le-suc}
 use native.Mathlib.Numerals.{add-one}
 use native.Mathlib.Omega.{arith}
-use lib.ListN.{length, set, take, drop, length-set, length-drop}
-use lib.Seq.{getD-set-same, getD-set-other, take-all}
+use lib.ListN.{length, take, drop, length-drop}
+use lib.Seq.{take-all}
 use lib.Dec.{eqb}
 use borrow.Author.Tests.{eq-eqb, ne-eqb, eqb-true}
-use Rattle.layout.specs.Bounded.{at, anyBelow, elem, distinct}
-use Rattle.laws.proofs.Bounded.{bool?, eq?, clash, or-r, anyBelow-at, anyBelow-is, elem-cons, elem-here, elem-there, distinct-head, distinct-rest, distinct-cons, not-elem}
+use Rattle.layout.specs.Bounded.{at, anyBelow, elem, distinct, updated}
+use Rattle.laws.proofs.Bounded.{bool?, eq?, clash, or-r, updated-here, updated-other, anyBelow-at, anyBelow-is, elem-cons, elem-here, elem-there, distinct-head, distinct-rest, distinct-cons, not-elem}
 
 elem-at : (k : ℕ) (xs : List ℕ) → elem k xs ≡ true → (i : ℕ) × (i < length xs) × (at xs i ≡ k)
 unfolding elem
@@ -88,40 +88,33 @@ module _ (xs : List ℕ) (i : ℕ) where
 pub differ-none : (xs : List ℕ) → Differ xs 0
 differ-none xs j k h g f = absurd (not-suc-le-zero g)
 
--- The residues of the numbers below i are marked, and no two agree.
-module _ (xs : List ℕ) where
-  pub record Residues (seen : List ℕ) (i : ℕ) : Type 0 where
-    pub long : length seen ≡ 65536
-    pub marked : (j : ℕ) → j < i → at seen (at xs j % 65536) ≡ 1
+-- The residues of the numbers below i are marked, in bytes or in bits, and no two agree.
+module _ {A : Type 0} (mark : A) (xs : List ℕ) where
+  pub record Residues (seen : ℕ → A) (i : ℕ) : Type 0 where
+    pub marked : (j : ℕ) → j < i → seen (at xs j % 65536) ≡ mark
     pub differ : Differ xs i
 
-  pub residues-none : (seen : List ℕ) → length seen ≡ 65536 → Residues seen 0
-  residues-none seen h =
-      record {
-        long = h;
-        marked = λ j g. absurd (not-suc-le-zero g);
-        differ = λ j k h g. absurd (not-suc-le-zero g);
-      }
+  pub residues-none : (seen : ℕ → A) → Residues seen 0
+  residues-none seen = record { marked = λ j g. absurd (not-suc-le-zero g); differ = differ-none xs }
 
-  pub residues-more : (seen : List ℕ) (i : ℕ) → Residues seen i → (at seen (at xs i % 65536) ≡ 1 → ⊥)
-      → Residues (set seen (at xs i % 65536) 1) (i + 1)
-  residues-more seen i r free =
-      let n = r .long in
+  pub residues-more : (seen after : ℕ → A) (i : ℕ) → Residues seen i → (seen (at xs i % 65536) ≡ mark → ⊥) → after ≡ updated seen (at xs i % 65536) mark
+      → Residues after (i + 1)
+  residues-more seen after i r free u =
       let k = at xs i % 65536 in
       record {
-        long = length-set seen k 1 ∙ n;
         marked = λ j h.
-            ⊎-elim (λ (z : at xs j % 65536 ≡ k). ap (at (set seen k 1)) z ∙ getD-set-same seen k 1 0 (omega arith))
+            ap (λ (f : ℕ → A). f (at xs j % 65536)) u
+            ∙ ⊎-elim (λ (z : at xs j % 65536 ≡ k). ap (updated seen k mark) z ∙ updated-here seen k mark)
             (λ (z : at xs j % 65536 ≡ k → ⊥).
-            getD-set-other seen k (at xs j % 65536) 1 0 z
+            updated-other seen k (at xs j % 65536) mark z
             ∙ ⊎-elim (λ (y : j ≡ i). absurd (z (ap (λ (x : ℕ). at xs x % 65536) y))) (λ (y : j ≡ i → ⊥). r .marked j (omega arith)) (eq? j i))
             (eq? (at xs j % 65536) k);
         differ = λ j m h g f.
-            ⊎-elim (λ (y : m ≡ i). free (ap (λ (x : ℕ). at seen (x % 65536)) (sym (f ∙ ap (at xs) y)) ∙ r .marked j (omega arith)))
+            ⊎-elim (λ (y : m ≡ i). absurd (free (ap (λ (x : ℕ). seen (x % 65536)) (sym (f ∙ ap (at xs) y)) ∙ r .marked j (omega arith))))
             (λ (y : m ≡ i → ⊥). r .differ j m h (omega arith) f) (eq? m i);
       }
 
-  pub residues-distinct : (seen : List ℕ) (i : ℕ) → Residues seen i → length xs ≤ i → distinct xs ≡ true
+  pub residues-distinct : (seen : ℕ → A) (i : ℕ) → Residues seen i → length xs ≤ i → distinct xs ≡ true
   residues-distinct seen i r h = differ-distinct xs (λ j k a b. r .differ j k a (omega arith))
 
 -- What is lent from an index on, given up to the end.

@@ -1,5 +1,6 @@
-// Whether numbers are all different, in time linear in their count whatever they are: a few are compared in pairs; if no two of
-// many agree in their lower 16 bits they are; otherwise they are chained by their upper 14 bits, and the lower 18 of each chain's numbers are stamped in a table.
+// Whether numbers are all different, in time linear in their count whatever they are. A few are compared in pairs. If no two of
+// many agree in their lower 16 bits, they are; otherwise they are chained by their upper 14 bits, and the lower 18 of each chain's
+// numbers are stamped in a table.
 ghost use mathlib.Core.Path.{_≡_};
 ghost use mathlib.Core.Bool.{true, false, not, _||_};
 ghost use mathlib.Core.List.{[]};
@@ -60,6 +61,23 @@ fn residues_distinct(xs: &[u32]) -> bool
             return false;
         }
         seen[k] = 1;
+        i += 1;
+    }
+    true
+}
+
+// The same by bits: each number takes longer, and the table is cleared sooner.
+fn few_residues_distinct(xs: &[u32]) -> bool
+    ensures { λ r. ⌜ (r ≡ true → distinct (now (xs .entry)) ≡ true) ⌝ }
+{
+    let mut seen = [0u8; 8192];
+    let mut i = 0;
+    while i < xs.len() {
+        let k = (xs[i] % 65536) as usize;
+        if bits::is_set(&seen, k) {
+            return false;
+        }
+        bits::set_bit(&mut seen, k);
         i += 1;
     }
     true
@@ -137,7 +155,29 @@ fn chains_distinct(xs: &[u32]) -> bool
     groups_distinct(xs, &heads, &next, &mut stamps)
 }
 
-// Whether words are all different. A few are compared in pairs sooner than the table of residues is cleared.
+// Whether words are all different, by residues in bits first.
+fn few_distinct(xs: &[u32]) -> bool
+    requires { ⌜ length (now xs) ≤ 65536 ⌝ }
+    ensures { λ r. ⌜ r ≡ distinct (now (xs .entry)) ⌝ }
+{
+    if few_residues_distinct(xs) {
+        return true;
+    }
+    chains_distinct(xs)
+}
+
+// Whether words are all different, by residues in bytes first.
+fn many_distinct(xs: &[u32]) -> bool
+    requires { ⌜ length (now xs) ≤ 65536 ⌝ }
+    ensures { λ r. ⌜ r ≡ distinct (now (xs .entry)) ⌝ }
+{
+    if residues_distinct(xs) {
+        return true;
+    }
+    chains_distinct(xs)
+}
+
+// Whether words are all different. The fewer they are, the smaller is the table that is cleared for them; for a few it is none.
 fn words_distinct(xs: &[u32]) -> bool
     requires { ⌜ length (now xs) ≤ 65536 ⌝ }
     ensures { λ r. ⌜ r ≡ distinct (now (xs .entry)) ⌝ }
@@ -145,10 +185,10 @@ fn words_distinct(xs: &[u32]) -> bool
     if xs.len() < 64 {
         return pairs_distinct(xs);
     }
-    if residues_distinct(xs) {
-        return true;
+    if xs.len() <= 1024 {
+        return few_distinct(xs);
     }
-    chains_distinct(xs)
+    many_distinct(xs)
 }
 
 // Gathers the numbers that are not 0 at the end of xs, the last first, and says where they begin.

@@ -1,5 +1,4 @@
 -- Each return, by a law of ScanLaws.
-use Prim.Native.Nat.{_-_}
 use native.Mathlib.Omega.{arith}
 use Rattle.laws.proofs.Bounded.{best-below}
 use Rattle.signed.specs.Signed.{closingKey}

@@ -1,5 +1,4 @@
 -- Each return, by a law of ScanLaws.
-use Prim.Native.Nat.{_-_}
 use mathlib.Core.Path.{_∙_}
 use native.Mathlib.Omega.{arith}
 use Rattle.soundness.proofs.Sounding.{sectors-some}
