@@ -54,7 +54,7 @@ fn mark_places(marks: &mut [u8], n: u32, places: &[u32]) -> bool
 }
 
 // Marks the sectors of all non-zero entries, in a map in which others are marked. The word of 64 bits at hand is kept apart from the
-// map while one name after the other falls into it.
+// map while one name after the other falls into it. The empty entries are counted, being few.
 fn mark_entries(marks: &mut [u8], n: u32, map: &[u32]) -> Names
     requires { ⌜ 1 ≤ n ⌝ }
     requires { ⌜ n ≤ mostSectors ⌝ }
@@ -62,13 +62,14 @@ fn mark_entries(marks: &mut [u8], n: u32, map: &[u32]) -> Names
     requires { ⌜ length (now map) ≤ mostBlocks ⌝ }
     ensures { λ r. ⌜ ((others : List ℕ) → all (within 1 (n - 1)) others ≡ true → bitAt (now (marks .entry)) ≡ usedBy others → EntriesMarked n (at (now (map .entry))) (length (now (map .entry))) others (r .inside) (bitAt (now (marks .exit))) (r .count)) × (r .count ≤ mostBlocks) ⌝ }
 {
-    let mut count: u32 = 0;
+    let mut empty: u32 = 0;
     let mut hand = 0;
     let mut held = bits::word_at(marks, 0);
     let mut i = 0;
     'entries: while i < map.len() {
         let entry = map[i];
         if entry == 0 {
+            empty += 1;
             i += 1;
             continue 'entries;
         }
@@ -80,7 +81,6 @@ fn mark_entries(marks: &mut [u8], n: u32, map: &[u32]) -> Names
             };
         }
         let q = (k / 64) as usize;
-        count += 1;
         i += 1;
         if q == hand {
             held = with_bit(held, k);
@@ -91,6 +91,7 @@ fn mark_entries(marks: &mut [u8], n: u32, map: &[u32]) -> Names
         held = with_bit(bits::word_at(marks, q), k);
     }
     bits::put_word(marks, hand, held);
+    let count = map.len() as u32 - empty;
     Names {
         inside: true,
         count,

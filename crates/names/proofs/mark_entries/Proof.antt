@@ -15,12 +15,12 @@ use Rattle.names.proofs.mark_entries.Statement.{statement}
 use Rattle.names.proofs.mark_entries.Tie as tie
 
 abbrev Inv-entries : tie.InvT-entries
-Inv-entries marks₀ n map count₀ hand₀ held₀ i₀ marks count hand held i =
-    (i ≤ length map) × (length marks ≡ length marks₀) × (hand < 1024) × (count ≤ i)
-    × ((others : List ℕ) → all (within 1 (n - 1)) others ≡ true → bitAt marks₀ ≡ usedBy others → Entries n (at map) others i (Back hand held (bitAt marks)) count)
+Inv-entries marks₀ n map empty₀ hand₀ held₀ i₀ marks empty hand held i =
+    (i ≤ length map) × (length marks ≡ length marks₀) × (hand < 1024) × (empty ≤ i)
+    × ((others : List ℕ) → all (within 1 (n - 1)) others ≡ true → bitAt marks₀ ≡ usedBy others → Entries n (at map) others i (Back hand held (bitAt marks)) (i - empty))
 
 abbrev μ-entries : tie.MeasureT-entries
-μ-entries marks₀ n map count₀ hand₀ held₀ i₀ marks count hand held i = length map - i
+μ-entries marks₀ n map empty₀ hand₀ held₀ i₀ marks empty hand held i = length map - i
 
 word-at-requires : tie.Need-word-at-requires Inv-entries μ-entries
 word-at-requires c κs =
@@ -39,6 +39,14 @@ mul-entry c = omega arith
 shared-slice-read-entry : tie.Need-shared-slice-read-entry Inv-entries μ-entries
 shared-slice-read-entry c = omega arith
 
+add-empty : tie.Need-add-empty Inv-entries μ-entries
+add-empty c =
+    let l = c .before .before .before .entries in
+    let the-pre = c .before .before .before .before .before .before .before .before .pre in
+    let few = l .inv .3 in
+    let most = the-pre .1 .1 .1 in
+    omega arith
+
 add-i : tie.Need-add-i Inv-entries μ-entries
 add-i c = omega arith
 
@@ -47,10 +55,19 @@ entries-less c = omega arith
 
 entries-again : tie.Need-entries-again Inv-entries μ-entries
 entries-again c =
-    let the-if2 = c .if1 in
+    let the-if1 = c .if1 in
     let l = c .before .before .before .entries in
     let a = c .before .before .before .before .before .before .before .before .args in
-    (omega arith, l .inv .1, l .inv .2, omega arith, λ others range marks. entries-skip (a .n) (at (a .map .now)) others (l .i) _ (l .count) (the-if2 .taken) (l .inv .4 others range marks))
+    let few = l .inv .3 in
+    let same : l .i - l .empty ≡ l .i + 1 - (l .empty + 1) = omega arith in (
+      omega arith,
+      l .inv .1,
+      l .inv .2,
+      omega arith,
+      λ others range marks.
+          subst (λ (count : ℕ). Entries (a .n) (at (a .map .now)) others (l .i + 1) (Back (l .hand) (l .held) (bitAt (l .marks))) count) same
+          (entries-skip (a .n) (at (a .map .now)) others (l .i) _ (l .i - l .empty) (the-if1 .taken) (l .inv .4 others range marks)),
+    )
 
 sector-of-requires : tie.Need-sector-of-requires Inv-entries μ-entries
 sector-of-requires c κs = search needs
@@ -82,10 +99,6 @@ returns c =
 cast-q : tie.Need-cast-q Inv-entries μ-entries
 cast-q c = search needs
 
-add-count : tie.Need-add-count Inv-entries μ-entries
-add-count c =
-    omega arith
-
 add-i-2 : tie.Need-add-i-2 Inv-entries μ-entries
 add-i-2 c = omega arith
 
@@ -105,15 +118,17 @@ entries-again-2 c =
     let the-if1 = c .before .before .before .before .before .if1 in
     let l = c .before .before .before .before .before .before .before .before .entries in
     let a = c .before .before .before .before .before .before .before .before .before .before .before .before .before .args in
-    let few = l .inv .3 in (
+    let few = l .inv .3 in
+    let more : l .i - l .empty + 1 ≡ l .i + 1 - l .empty = omega arith in (
       omega arith,
       l .inv .1,
       l .inv .2,
       omega arith,
       λ others range marks.
-          entry-marks (a .n) (at (a .map .now)) others (l .i) (the-sector-of .result) (the-is-inside .result) (the-if1 .left) (the-sector-of .ensures) (the-is-inside .ensures) _ _ (l .count)
+          subst (λ (count : ℕ). Entries (a .n) (at (a .map .now)) others (l .i + 1) (Back (l .hand) (the-with-bit .result) (bitAt (l .marks))) count) more
+          (entry-marks (a .n) (at (a .map .now)) others (l .i) (the-sector-of .result) (the-is-inside .result) (the-if1 .left) (the-sector-of .ensures) (the-is-inside .ensures) _ _ (l .i - l .empty)
           (l .inv .4 others range marks) (the-if2 .left)
-          (back-set (l .hand) (l .held) (the-with-bit .result) (the-sector-of .result) (bitAt (l .marks)) (the-if3 .taken) (the-with-bit .ensures)),
+          (back-set (l .hand) (l .held) (the-with-bit .result) (the-sector-of .result) (bitAt (l .marks)) (the-if3 .taken) (the-with-bit .ensures))),
     )
 
 put-word-requires : tie.Need-put-word-requires Inv-entries μ-entries
@@ -158,20 +173,36 @@ entries-again-3 c =
     let few = l .inv .3 in
     let most = the-pre .1 .0 in
     let below = inside-below (a .n) k (the-pre .0) (the-is-inside .result) (the-is-inside .ensures) (the-if2 .left) in
-    let same = back-same (k / 64) (the-word-at2 .result) (bitAt (the-put-word .last .0)) (the-word-at2 .ensures) in (
+    let same = back-same (k / 64) (the-word-at2 .result) (bitAt (the-put-word .last .0)) (the-word-at2 .ensures) in
+    let more : l .i - l .empty + 1 ≡ l .i + 1 - l .empty = omega arith in (
       omega arith,
       the-put-word .kept .0 ∙ l .inv .1,
       omega arith,
       omega arith,
       λ others range marks.
-          entry-marks (a .n) (at (a .map .now)) others (l .i) k (the-is-inside .result) (the-if1 .left) (the-sector-of .ensures) (the-is-inside .ensures) _ _ (l .count)
-          (subst (λ (bits : ℕ → Bool). Entries (a .n) (at (a .map .now)) others (l .i) bits (l .count)) (sym (the-put-word .ensures)) (l .inv .4 others range marks)) (the-if2 .left)
+          subst (λ (count : ℕ). Entries (a .n) (at (a .map .now)) others (l .i + 1) (Back (k / 64) (the-with-bit2 .result) (bitAt (the-put-word .last .0))) count) more
+          (entry-marks (a .n) (at (a .map .now)) others (l .i) k (the-is-inside .result) (the-if1 .left) (the-sector-of .ensures) (the-is-inside .ensures) _ _ (l .i - l .empty)
+          (subst (λ (bits : ℕ → Bool). Entries (a .n) (at (a .map .now)) others (l .i) bits (l .i - l .empty)) (sym (the-put-word .ensures)) (l .inv .4 others range marks)) (the-if2 .left)
           (back-set (k / 64) (the-word-at2 .result) (the-with-bit2 .result) k (bitAt (the-put-word .last .0)) refl (the-with-bit2 .ensures)
-          ∙ ap (λ (bits : ℕ → Bool). updated bits k true) same),
+          ∙ ap (λ (bits : ℕ → Bool). updated bits k true) same)),
     )
 
 put-word-requires-2 : tie.Need-put-word-requires-2 Inv-entries μ-entries
 put-word-requires-2 c κs =
+    omega arith
+
+cast-count : tie.Need-cast-count Inv-entries μ-entries
+cast-count c =
+    let the-pre = c .before .before .before .before .before .before .before .before .before .before .pre in
+    let most = the-pre .1 .1 .1 in
+    omega arith
+
+sub-count : tie.Need-sub-count Inv-entries μ-entries
+sub-count c =
+    let l = c .before .before .before .before .before .entries in
+    let the-pre = c .before .before .before .before .before .before .before .before .before .before .pre in
+    let few = l .inv .3 in
+    let most = the-pre .1 .1 .1 in
     omega arith
 
 same-length-2 : tie.Need-same-length-2 Inv-entries μ-entries
@@ -184,11 +215,16 @@ returns-2 : tie.Need-returns-2 Inv-entries μ-entries
 returns-2 c =
     let the-put-word2 = c .before .before .put-word2 in
     let l = c .before .before .before .before .before .entries in
+    let the-pre = c .before .before .before .before .before .before .before .before .before .before .pre in
     let a = c .before .before .before .before .before .before .before .before .before .before .args in
-    let all : l .i ≡ length (a .map .now) = omega arith in (
+    let few = l .inv .3 in
+    let most = the-pre .1 .1 .1 in
+    let all : l .i ≡ length (a .map .now) = omega arith in
+    let count : l .i - l .empty ≡ length (a .map .now) - l .empty = omega arith in (
       λ others range marks.
-          entries-end (a .n) (at (a .map .now)) others (l .i) (length (a .map .now)) _ (l .count) all
-          (subst (λ (bits : ℕ → Bool). Entries (a .n) (at (a .map .now)) others (l .i) bits (l .count)) (sym (the-put-word2 .ensures)) (l .inv .4 others range marks)),
+          entries-end (a .n) (at (a .map .now)) others (l .i) (length (a .map .now)) _ (length (a .map .now) - l .empty) all
+          (subst (λ (k : ℕ). Entries (a .n) (at (a .map .now)) others (l .i) (bitAt (the-put-word2 .last .0)) k) count
+          (subst (λ (bits : ℕ → Bool). Entries (a .n) (at (a .map .now)) others (l .i) bits (l .i - l .empty)) (sym (the-put-word2 .ensures)) (l .inv .4 others range marks))),
       omega arith,
     )
 
@@ -202,6 +238,7 @@ mark-entries-spec =
     entries-holds
     mul-entry
     shared-slice-read-entry
+    add-empty
     add-i
     entries-less
     entries-again
@@ -210,7 +247,6 @@ mark-entries-spec =
     same-length
     returns
     cast-q
-    add-count
     add-i-2
     with-bit-requires
     entries-less-2
@@ -221,5 +257,7 @@ mark-entries-spec =
     entries-less-3
     entries-again-3
     put-word-requires-2
+    cast-count
+    sub-count
     same-length-2
     returns-2)
