@@ -29,8 +29,14 @@ words-zero-requires c κs = search needs
 
 returns-3 : tie.Need-returns-3
 returns-3 c =
+    let the-if2 = c .before .if2 in
+    let the-word-sum = c .before .before .word-sum in
+    let the-if1 = c .before .before .before .if1 in
+    let the-starts-with = c .before .before .before .before .starts-with in
+    let a = c .before .before .before .before .before .before .before .args in
+    let the-pre = c .before .before .before .before .before .before .before .pre in
     c .words-zero .ensures
-    ∙ sym (park-rest (c .before .before .before .before .before .before .before .args .s .now) (c .before .before .before .before .before .before .before .pre) (sym (c .before .before .before .before .starts-with .ensures) ∙ not-false _ (c .before .before .before .if1 .left)) (ap isZero (sym (c .before .before .word-sum .ensures)) ∙ eq-eqb _ 0 (c .before .if2 .left)))
+    ∙ sym (park-rest (a .s .now) the-pre (sym (the-starts-with .ensures) ∙ not-false _ (the-if1 .left)) (ap isZero (sym (the-word-sum .ensures)) ∙ eq-eqb _ 0 (the-if2 .left)))
 
 pub is-park-spec : {M : Type 1} → statement M
 is-park-spec =
