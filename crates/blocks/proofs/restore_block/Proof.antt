@@ -17,8 +17,9 @@ same-length c = search needs
 
 returns : tie.Need-returns
 returns c =
+    let the-if1 = c .before .before .before .before .before .if1 in
     let a = c .before .before .before .before .before .before .before .before .args in
-    c .before .before .copy-over .ensures ∙ sym (restored-empty (a .entry) (a .bytes .now) (c .before .before .before .before .before .if1 .taken))
+    c .before .before .copy-over .ensures ∙ sym (restored-empty (a .entry) (a .bytes .now) (the-if1 .taken))
 
 copy-sector-requires : tie.Need-copy-sector-requires
 copy-sector-requires c κs = search needs
@@ -34,19 +35,25 @@ same-length-2 c = search needs
 
 returns-2 : tie.Need-returns-2
 returns-2 c =
+    let the-if2 = c .before .before .before .before .if2 in
+    let the-is-flipped = c .before .before .before .before .before .is-flipped in
+    let the-copy-sector = c .before .before .before .before .before .before .before .before .copy-sector in
+    let the-if1 = c .before .before .before .before .before .before .before .before .before .before .if1 in
     let a = c .before .before .before .before .before .before .before .before .before .before .before .before .before .args in
     c .before .before .complement .ensures
-    ∙ ap complemented (c .before .before .before .before .before .before .before .before .copy-sector .ensures)
-    ∙ sym (restored-flipped (a .entry) (a .bytes .now) (c .before .before .before .before .before .before .before .before .before .before .if1 .left) (sym (c .before .before .before .before .before .is-flipped .ensures) ∙ c .before .before .before .before .if2 .taken))
+    ∙ ap complemented (the-copy-sector .ensures)
+    ∙ sym (restored-flipped (a .entry) (a .bytes .now) (the-if1 .left) (sym (the-is-flipped .ensures) ∙ the-if2 .taken))
 
 same-length-3 : tie.Need-same-length-3
 same-length-3 c = search needs
 
 returns-3 : tie.Need-returns-3
 returns-3 c =
+    let the-copy-sector = c .before .before .before .before .copy-sector in
+    let the-if1 = c .before .before .before .before .before .before .if1 in
     let a = c .before .before .before .before .before .before .before .before .before .args in
-    c .before .before .before .before .copy-sector .ensures
-    ∙ sym (restored-plain (a .entry) (a .bytes .now) (c .before .before .before .before .before .before .if1 .left) (sym (c .before .is-flipped .ensures) ∙ c .if2 .left))
+    the-copy-sector .ensures
+    ∙ sym (restored-plain (a .entry) (a .bytes .now) (the-if1 .left) (sym (c .before .is-flipped .ensures) ∙ c .if2 .left))
 
 pub restore-block-spec : {M : Type 1} → statement M
 restore-block-spec =

@@ -20,17 +20,23 @@ same-length c = search needs
 
 returns : tie.Need-returns
 returns c =
+    let the-if1 = c .before .before .before .before .if1 in
+    let the-needs-flip = c .before .before .before .before .before .needs-flip in
+    let the-copy-sector = c .before .before .before .before .before .before .before .before .copy-sector in
+    let the-args = c .before .before .before .before .before .before .before .before .before .before .before .before .args in
     c .before .before .complement .ensures
-    ∙ ap complemented (c .before .before .before .before .before .before .before .before .copy-sector .ensures)
-    ∙ sym (stored-flipped (c .before .before .before .before .before .before .before .before .before .before .before .before .args .block .now) (sym (c .before .before .before .before .before .needs-flip .ensures) ∙ c .before .before .before .before .if1 .taken))
+    ∙ ap complemented (the-copy-sector .ensures)
+    ∙ sym (stored-flipped (the-args .block .now) (sym (the-needs-flip .ensures) ∙ the-if1 .taken))
 
 same-length-2 : tie.Need-same-length-2
 same-length-2 c = search needs
 
 returns-2 : tie.Need-returns-2
 returns-2 c =
-    c .before .before .before .before .copy-sector .ensures
-    ∙ sym (stored-plain (c .before .before .before .before .before .before .before .before .args .block .now) (sym (c .before .needs-flip .ensures) ∙ c .if1 .left))
+    let the-copy-sector = c .before .before .before .before .copy-sector in
+    let the-args = c .before .before .before .before .before .before .before .before .args in
+    the-copy-sector .ensures
+    ∙ sym (stored-plain (the-args .block .now) (sym (c .before .needs-flip .ensures) ∙ c .if1 .left))
 
 pub store-block-spec : {M : Type 1} → statement M
 store-block-spec =

@@ -30,10 +30,11 @@ same-length c = search needs
 
 returns : tie.Need-returns
 returns c =
+    let the-pre = c .before .before .before .before .before .before .pre in
     let a = c .before .before .before .before .before .before .args in
     let made = c .before .before .store-block in
     let size : 512 * a .k + 512 - 512 * a .k ≡ 512 = omega arith in
-    sector-lent (a .image .now) (a .k) _ (made .last .0) _ (c .before .before .before .before .before .before .pre .0) size (made .kept .0) (made .ensures)
+    sector-lent (a .image .now) (a .k) _ (made .last .0) _ (the-pre .0) size (made .kept .0) (made .ensures)
 
 pub store-data-spec : {M : Type 1} → statement M
 store-data-spec =

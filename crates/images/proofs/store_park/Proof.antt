@@ -24,10 +24,11 @@ same-length c = search needs
 
 returns : tie.Need-returns
 returns c =
+    let the-pre = c .before .before .before .before .before .pre in
     let a = c .before .before .before .before .before .args in
     let made = c .before .before .put-park in
     let size : 512 - 0 ≡ 512 = omega arith in
-    sector-lent (a .image .now) 0 _ (made .last .0) _ (c .before .before .before .before .before .pre) size (made .kept .0) (made .ensures)
+    sector-lent (a .image .now) 0 _ (made .last .0) _ (the-pre) size (made .kept .0) (made .ensures)
 
 pub store-park-spec : {M : Type 1} → statement M
 store-park-spec =

@@ -28,12 +28,16 @@ fields-fit-requires c κs = search needs
 
 returns : tie.Need-returns
 returns c =
+    let the-word-at4 = c .before .before .before .word-at4 in
+    let the-word-at3 = c .before .before .before .before .word-at3 in
+    let the-word-at2 = c .before .before .before .before .before .word-at2 in
+    let the-word-at = c .before .before .before .before .before .before .word-at in
     let a = c .before .before .before .before .before .before .before .before .args in
     header-words (a .l) (wordsOf (a .s .now)) _ _ _ _ _ _ _ (c .fields-fit .ensures)
-    (c .before .before .before .before .before .before .word-at .ensures)
-    (c .before .before .before .before .before .word-at2 .ensures)
-    (c .before .before .before .before .word-at3 .ensures)
-    (c .before .before .before .word-at4 .ensures)
+    (the-word-at .ensures)
+    (the-word-at2 .ensures)
+    (the-word-at3 .ensures)
+    (the-word-at4 .ensures)
     (c .before .before .word-at5 .ensures)
     (c .before .word-at6 .ensures)
 

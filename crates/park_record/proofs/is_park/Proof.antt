@@ -15,14 +15,17 @@ starts-with-requires c κs = search needs
 
 returns : tie.Need-returns
 returns c =
-    sym (park-unmarked (c .before .before .before .before .args .s .now) (sym (c .before .starts-with .ensures) ∙ not-true _ (c .if1 .taken)))
+    let the-args = c .before .before .before .before .args in
+    sym (park-unmarked (the-args .s .now) (sym (c .before .starts-with .ensures) ∙ not-true _ (c .if1 .taken)))
 
 word-sum-requires : tie.Need-word-sum-requires
 word-sum-requires c κs = search needs
 
 returns-2 : tie.Need-returns-2
 returns-2 c =
-    sym (park-unbalanced (c .before .before .before .before .before .before .args .s .now) (ap isZero (sym (c .before .word-sum .ensures)) ∙ ne-eqb _ 0 (c .if2 .taken)) (sym (c .before .before .before .starts-with .ensures) ∙ not-false _ (c .before .before .if1 .left)))
+    let the-starts-with = c .before .before .before .starts-with in
+    let the-args = c .before .before .before .before .before .before .args in
+    sym (park-unbalanced (the-args .s .now) (ap isZero (sym (c .before .word-sum .ensures)) ∙ ne-eqb _ 0 (c .if2 .taken)) (sym (the-starts-with .ensures) ∙ not-false _ (c .before .before .if1 .left)))
 
 words-zero-requires : tie.Need-words-zero-requires
 words-zero-requires c κs = search needs

@@ -21,9 +21,12 @@ same-length c = search needs
 
 returns : tie.Need-returns
 returns c =
-    let s = c .before .before .before .before .before .before .before .before .args .s .now in
+    let the-balance-of = c .before .before .before .balance-of in
+    let the-word-sum = c .before .before .before .before .before .word-sum in
+    let the-args = c .before .before .before .before .before .before .before .before .args in
+    let s = the-args .s .now in
     c .before .before .put-word .ensures
-    ∙ ap (λ (w : ℕ). sets s 4 (wordBytes w)) (c .before .before .before .balance-of .ensures ∙ ap balance (c .before .before .before .before .before .word-sum .ensures))
+    ∙ ap (λ (w : ℕ). sets s 4 (wordBytes w)) (the-balance-of .ensures ∙ ap balance (the-word-sum .ensures))
 
 pub put-balance-spec : {M : Type 1} → statement M
 put-balance-spec =

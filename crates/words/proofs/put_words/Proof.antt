@@ -41,10 +41,11 @@ loop-less c = omega arith
 
 loop-again : tie.Need-loop-again Inv-loop μ-loop
 loop-again c =
+    let the-loop-test = c .before .before .before .before .before .loop-test in
     let a = c .before .before .before .before .before .before .before .before .before .args in
     let l = c .before .before .before .before .before .before .loop in
     let call = c .before .before .put-word in
-    (omega arith, call .kept .0 ∙ l .inv .1, call .ensures ∙ ap (λ (b : List ℕ). sets b (4 * (a .k + l .i)) (wordBytes (getD (a .words .now) (l .i) 0))) (l .inv .2) ∙ put-words-next (a .s .now) (a .k) (a .words .now) (l .i) (c .before .before .before .before .before .loop-test .taken))
+    (omega arith, call .kept .0 ∙ l .inv .1, call .ensures ∙ ap (λ (b : List ℕ). sets b (4 * (a .k + l .i)) (wordBytes (getD (a .words .now) (l .i) 0))) (l .inv .2) ∙ put-words-next (a .s .now) (a .k) (a .words .now) (l .i) (the-loop-test .taken))
 
 same-length : tie.Need-same-length Inv-loop μ-loop
 same-length c = c .before .loop .inv .1

@@ -34,8 +34,9 @@ word-of-requires c κs = search needs
 
 returns : tie.Need-returns
 returns c =
+    let the-pre = c .before .before .before .before .before .before .pre in
     let a = c .before .before .before .before .before .before .args in
-    c .word-of .ensures ∙ sym (at-words (a .s .now) (a .k) (c .before .before .before .before .before .before .pre))
+    c .word-of .ensures ∙ sym (at-words (a .s .now) (a .k) (the-pre))
 
 pub word-at-spec : {M : Type 1} → statement M
 word-at-spec =
