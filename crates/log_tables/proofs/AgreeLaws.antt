@@ -1,125 +1,48 @@
 -- Tables whose used map is made of what they name: it need not be compared.
-use Prim.Native.Nat.{ℕ, _+_, _*_, _-_, _/_, _%_, _^_, _≤_, _<_}
-use mathlib.Core.Path.{_≡_, refl, sym, _∙_, ap, fun-ext}
-use mathlib.Core.Logic.{⊎-elim}
-use mathlib.Core.Bool.{Bool, true, false, not, _&&_, Bool·beq, true≢false}
-use mathlib.Core.List.{List, []}
-use native.Mathlib.Omega.{arith}
-use lib.ListN.{length}
+use Prim.Native.Nat.{ℕ, _+_, _≤_}
+use mathlib.Core.Path.{_≡_, sym, _∙_, ap}
+use mathlib.Core.Bool.{Bool, true, false, not, _&&_, true≢false}
+use mathlib.Core.List.{List}
 use lib.Dec.{eqb, leb}
-use borrow.Author.Tests.{eqb-true, eq-eqb, not-true, not-false}
 use Rattle.geometry.specs.declared.Geometry.{Geometry}
-use Rattle.geometry.specs.Geometry.{within, piecesFor, usedBytes}
-use Rattle.layout.specs.Bounded.{at, allBelow, best, all, distinct, always, gathered, listFrom}
-use Rattle.volume.specs.Tables.{bitAt, namedBy, usedBy, freeSectors, consistent}
-use Rattle.laws.proofs.Bounded.{lt?, eq?, and-l, and-r, allBelow-is, length-listFrom, listFrom-at, past-end}
-use Rattle.names.proofs.Marking.{Left, zero-bit, unnamed}
-use Rattle.names.proofs.Counting.{named-twice, named-once}
-use Rattle.soundness.proofs.Sounding.{inside-fails, once-fails, room-fails-here, rest-decides, second}
-use Rattle.numbers.proofs.Numbering.{Agree}
+use Rattle.geometry.specs.Geometry.{piecesFor}
+use Rattle.layout.specs.Bounded.{at}
+use Rattle.volume.specs.Tables.{namedBy, usedBy, freeSectors, consistent}
+use Rattle.soundness.specs.Parts.{namesSound}
 use Rattle.log_tables.specs.LogTables.{tablesNamed}
+use Rattle.names.proofs.Marking.{Left, not-false}
+use Rattle.soundness.proofs.Sounding.{names-fail, room-decides, bits-made, sound-fails, numbers-decide}
+use Rattle.numbers.proofs.Numbering.{Agree}
 
-beq-self : (b : Bool) → Bool·beq b b ≡ true
-beq-self true = refl
-beq-self false = refl
+no-claim : (P : Type 0) → false ≡ true → P
+no-claim P z = absurd (true≢false (sym z))
 
-module _ (g : Geometry) (map places numbers : List ℕ) (tail number : ℕ) where
-  abbrev Names : List ℕ
-  Names = namedBy (g .l) (at map) (at places)
+module _ (g : Geometry) (entry place : ℕ → ℕ) where
+  abbrev Bits : ℕ → Bool
+  Bits = usedBy (namedBy (g .l) entry place)
 
-  abbrev Inside : Bool
-  Inside = all (within 1 (g .n - 1)) Names
+  -- What is answered of names and used bits, and the bits then.
+  abbrev pub Made : Bool → (ℕ → Bool) → Type 0
+  Made r bits = (r ≡ namesSound g entry place Bits) × (r ≡ true → bits ≡ Bits)
 
-  abbrev Once : Bool
-  Once = distinct Names
+  module _ (bits : ℕ → Bool) (r : Bool) (count : ℕ) (h : Left (g .n) (namedBy (g .l) entry place) r bits count) where
+    pub outside : not r ≡ true → Made false bits
+    outside e = (names-fail g entry place Bits bits r count h e, no-claim (bits ≡ Bits))
 
-  abbrev Bits : Bool
-  Bits = allBelow (λ k. Bool·beq (usedBy Names k) (usedBy Names k)) (8 * usedBytes (g .n))
+    pub room-made : not r ≡ false → 1 ≤ g .n → (free : ℕ) → free ≡ freeSectors (g .n) bits
+        → (o : Bool) → o ≡ (eqb (free + count + 1) (g .n) && leb (piecesFor (g .l)) free) → Made o bits
+    room-made e some free counted o w =
+        let made = h .1 (not-false r e) .0 in
+        (room-decides g entry place Bits bits r count h e (bits-made g entry place) some free (counted ∙ ap (freeSectors (g .n)) made) o w, λ z. made)
 
-  abbrev Room : Bool
-  Room = leb (piecesFor (g .l)) (freeSectors (g .n) (usedBy Names))
+-- What is answered of the tables, and the bits then.
+module _ (g : Geometry) (map places numbers : List ℕ) (tail number : ℕ) (r : Bool) (bits : ℕ → Bool) (h : Made g (at map) (at places) r bits) where
+  abbrev pub Agrees : Bool → Type 0
+  Agrees u = (u ≡ consistent g (tablesNamed (g .l) map places numbers) tail number) × (u ≡ true → bits ≡ Bits g (at map) (at places))
 
-  abbrev D : Bool
-  D = distinct (gathered always (at numbers) [] (piecesFor (g .l)))
+  pub used-fails : not r ≡ true → Agrees false
+  used-fails e = (sound-fails g (tablesNamed (g .l) map places numbers) tail number r (h .0) e, no-claim (bits ≡ Bits g (at map) (at places)))
 
-  abbrev E : Bool
-  E = allBelow (λ q. leb 1 (at numbers q)) (piecesFor (g .l))
-
-  abbrev F : Bool
-  F = eqb tail (at places (best (at numbers) (piecesFor (g .l))))
-
-  abbrev G : Bool
-  G = eqb number (at numbers (best (at numbers) (piecesFor (g .l))))
-
-  -- What is answered, and the bits then.
-  abbrev pub Agrees : Bool → (ℕ → Bool) → Type 0
-  Agrees r bits = (r ≡ consistent g (tablesNamed (g .l) map places numbers) tail number) × (r ≡ true → bits ≡ usedBy Names)
-
-  no-claim : (bits : ℕ → Bool) → false ≡ true → bits ≡ usedBy Names
-  no-claim bits z = absurd (true≢false (sym z))
-
-  bits-same : Bits ≡ true
-  bits-same = allBelow-is (λ k. Bool·beq (usedBy Names k) (usedBy Names k)) (8 * usedBytes (g .n)) (λ k h. beq-self (usedBy Names k))
-
-  -- The marks are those of ms; what the used map holds is told apart.
-  module _ (ms : List ℕ) (r : Bool) (count : ℕ) (h : Left (g .n) Names r (bitAt ms) count) where
-    pub names-fail : not r ≡ true → (bits : ℕ → Bool) → Agrees false bits
-    unfolding consistent
-    names-fail e bits = (inside-fails Inside Once Bits Room D E F G (sym (h .0) ∙ not-true r e), no-claim bits)
-
-    module _ (e : not r ≡ false) (some : 1 ≤ g .n) (free : ℕ) (counted : free ≡ freeSectors (g .n) (bitAt ms)) where
-      yes : r ≡ true
-      yes = not-false r e
-
-      inside : Inside ≡ true
-      inside = sym (h .0) ∙ yes
-
-      made : bitAt ms ≡ usedBy Names
-      made = h .1 yes .0
-
-      free-is : free ≡ freeSectors (g .n) (usedBy Names)
-      free-is = counted ∙ ap (freeSectors (g .n)) made
-
-      module _ (o : Bool) (w : o ≡ (eqb (free + count + 1) (g .n) && leb (piecesFor (g .l)) free)) where
-        pub room-fails : not o ≡ true → (bits : ℕ → Bool) → Agrees false bits
-        unfolding consistent
-        room-fails z bits = (
-          ⊎-elim (λ (q : free + count + 1 ≡ g .n).
-              room-fails-here Inside Once Bits Room D E F G inside (named-once (g .n) some Names inside free count free-is (h .1 yes .1) q) bits-same
-              (ap (leb (piecesFor (g .l))) (sym free-is) ∙ second (eqb (free + count + 1) (g .n)) (leb (piecesFor (g .l)) free) (eq-eqb (free + count + 1) (g .n) q) (sym w ∙ not-true o z)))
-              (λ (d : free + count + 1 ≡ g .n → ⊥).
-              once-fails Inside Once Bits Room D E F G inside (named-twice (g .n) some Names inside free count free-is (h .1 yes .1) d))
-              (eq? (free + count + 1) (g .n)),
-          no-claim bits,
-        )
-
-        module _ (y : not o ≡ false) (u : Bool) (m : ℕ) (same : m ≡ piecesFor (g .l)) (v : u ≡ Agree (at places) (at numbers) m tail number) where
-          decided : u ≡ consistent g (tablesNamed (g .l) map places numbers) tail number
-          unfolding consistent
-          decided =
-              let both = sym w ∙ not-false o y in
-              let total = eqb-true (free + count + 1) (g .n) (and-l (eqb (free + count + 1) (g .n)) (leb (piecesFor (g .l)) free) both) in
-              v ∙ ap (λ (x : ℕ). Agree (at places) (at numbers) x tail number) same
-              ∙ rest-decides Inside Once Bits Room D E F G inside (named-once (g .n) some Names inside free count free-is (h .1 yes .1) total) bits-same
-              (ap (leb (piecesFor (g .l))) (sym free-is) ∙ and-r (eqb (free + count + 1) (g .n)) (leb (piecesFor (g .l)) free) both)
-
-          pub numbers-fail : not u ≡ true → (bits : ℕ → Bool) → Agrees false bits
-          numbers-fail z bits = (sym (not-true u z) ∙ decided, no-claim bits)
-
-          -- The used map takes the marks: past its end there is no name.
-          taken-bits : (len : ℕ) → len ≡ usedBytes (g .n) → (us : List ℕ) → us ≡ listFrom (at ms) 0 len → bitAt us ≡ usedBy Names
-          unfolding bitAt
-          taken-bits len long us z =
-              fun-ext (λ k.
-              ⊎-elim (λ (b : k / 8 < len).
-              let here : at us (k / 8) ≡ at ms (k / 8) = ap (λ (xs : List ℕ). at xs (k / 8)) z ∙ listFrom-at (at ms) 0 len (k / 8) 0 b ∙ ap (at ms) (let q : 0 + k / 8 ≡ k / 8 = omega arith in q) in
-              ap (λ (x : ℕ). eqb (x / 2 ^ (k % 8) % 2) 1) here ∙ ap (λ (f : ℕ → Bool). f k) made)
-              (λ (b : len ≤ k / 8).
-              let size : length us ≡ len = ap length z ∙ length-listFrom (at ms) 0 len in
-              let none : at us (k / 8) ≡ 0 = sym (past-end us (k / 8) (omega arith)) in
-              ap (λ (x : ℕ). eqb (x / 2 ^ (k % 8) % 2) 1) none ∙ zero-bit (k % 8) (omega arith)
-              ∙ sym (unnamed (g .n) Names inside k some (omega arith)))
-              (lt? (k / 8) len))
-
-          pub numbers-pass : not u ≡ false → (len : ℕ) → len ≡ usedBytes (g .n) → (us : List ℕ) → us ≡ listFrom (at ms) 0 len → Agrees true (bitAt us)
-          numbers-pass z len long us t = (sym (not-false u z) ∙ decided, λ q. taken-bits len long us t)
+  pub numbers-tell : not r ≡ false → (m : ℕ) → m ≡ piecesFor (g .l) → (u : Bool) → u ≡ Agree (at places) (at numbers) m tail number → Agrees u
+  numbers-tell e m same u v =
+      (numbers-decide g (tablesNamed (g .l) map places numbers) tail number r (h .0) e m same u v, λ z. h .1 (not-false r e))

@@ -1,24 +1,29 @@
 // Whether tables that were found are sound.
 ghost use mathlib.Core.Path.{_≡_};
 ghost use mathlib.Core.Bool.{true};
-ghost use Prim.Native.Nat.{_≤_};
 ghost use lib.ListN.{length};
 ghost use Rattle.geometry.specs.Geometry.{piecesFor, usedBytes, geometryFits};
-ghost use Rattle.layout.specs.Bounded.{at, listFrom};
+ghost use Rattle.layout.specs.Bounded.{at};
 ghost use Rattle.volume.specs.Tables.{bitAt, namedBy, usedBy, consistent};
+ghost use Rattle.soundness.specs.Parts.{namesSound};
 ghost use Rattle.log_tables.specs.LogTables.{tablesNamed};
 use geometry::Geometry;
 
-// Fills the used map from the marks.
-fn take_marks(used: &mut [u8], marks: &[u8])
-    requires { ⌜ length (now used) ≤ length (now marks) ⌝ }
-    ensures { λ _. ⌜ now (used .exit) ≡ listFrom (at (now (marks .entry))) 0 (length (now (used .entry))) ⌝ }
+// Marks the sectors that the tables name in the used map, and says whether they lie inside, none is named twice and P are free.
+fn mark_used(g: Geometry, map: &[u32], places: &[u32], used: &mut [u8]) -> bool
+    requires { ⌜ geometryFits g ≡ true ⌝ }
+    requires { ⌜ length (now map) ≡ g .l ⌝ }
+    requires { ⌜ length (now places) ≡ piecesFor (g .l) ⌝ }
+    requires { ⌜ length (now used) ≡ usedBytes (g .n) ⌝ }
+    ensures { λ r. ⌜ (r ≡ namesSound g (at (now (map .entry))) (at (now (places .entry))) (usedBy (namedBy (g .l) (at (now (map .entry))) (at (now (places .entry)))))) × (r ≡ true → bitAt (now (used .exit)) ≡ usedBy (namedBy (g .l) (at (now (map .entry))) (at (now (places .entry))))) ⌝ }
 {
-    let mut i = 0;
-    while i < used.len() {
-        used[i] = marks[i];
-        i += 1;
+    fill::zero_bytes(used);
+    let named = names::mark_names(used, g, map, places);
+    if !named.inside {
+        return false;
     }
+    let free = bits::count_free(used, g.n);
+    soundness::once_with_room(g, named.count, free)
 }
 
 // Marks the sectors that the tables name in the used map, and says whether the tables are then sound.
@@ -38,18 +43,8 @@ pub fn log_agrees(
     requires { ⌜ length (now used) ≡ usedBytes (g .n) ⌝ }
     ensures { λ r. ⌜ (r ≡ consistent g (tablesNamed (g .l) (now (map .entry)) (now (places .entry)) (now (numbers .entry))) tail number) × (r ≡ true → bitAt (now (used .exit)) ≡ usedBy (namedBy (g .l) (at (now (map .entry))) (at (now (places .entry))))) ⌝ }
 {
-    let mut marks = [0u8; 8192];
-    let named = names::mark_names(&mut marks, g, map, places);
-    if !named.inside {
+    if !mark_used(g, map, places, used) {
         return false;
     }
-    let free = bits::count_free(&marks, g.n);
-    if !soundness::once_with_room(g, named.count, free) {
-        return false;
-    }
-    if !numbers::numbers_agree(places, numbers, tail, number) {
-        return false;
-    }
-    take_marks(used, &marks);
-    true
+    numbers::numbers_agree(places, numbers, tail, number)
 }

@@ -91,13 +91,8 @@ module _ (n : ℕ) (some : 1 ≤ n) where
       (bool? (elem x xs))
 
   -- The free sectors, the names and sector 0 are n sectors exactly where no sector is named twice.
-  module _ (named : List ℕ) (inside : all (within 1 (n - 1)) named ≡ true) (free count : ℕ) (f : free ≡ freeSectors n (usedBy named)) (c : count ≡ length named) where
-    total : eqb (free + count + 1) n ≡ distinct named
-    unfolding freeSectors
-    total = ap (λ (y : ℕ). eqb y n) (let e : free + count + 1 ≡ countBelow (Free named) n + length named + 1 = omega arith in e) ∙ counted named inside .1
-
-    pub named-twice : (free + count + 1 ≡ n → ⊥) → distinct named ≡ false
-    named-twice d = sym total ∙ ne-eqb (free + count + 1) n d
-
-    pub named-once : free + count + 1 ≡ n → distinct named ≡ true
-    named-once e = sym total ∙ eq-eqb (free + count + 1) n e
+  pub counted-once : (named : List ℕ) → all (within 1 (n - 1)) named ≡ true → (free count : ℕ) → free ≡ freeSectors n (usedBy named) → count ≡ length named
+      → eqb (free + count + 1) n ≡ distinct named
+  unfolding freeSectors
+  counted-once named inside free count f c =
+      ap (λ (y : ℕ). eqb y n) (let e : free + count + 1 ≡ countBelow (Free named) n + length named + 1 = omega arith in e) ∙ counted named inside .1

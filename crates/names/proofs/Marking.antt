@@ -1,132 +1,253 @@
--- A loop that marks names in a bit map: so far every name lies in 1 to n - 1, and the bits are sector 0 and the names. Where one is
--- refused, the names fail the test, and so does every longer list of them.
+-- Names are judged and marked one after the other: so far all that were looked at lie in 1 to n - 1; the bits are sector 0 and the
+-- names so far.
 use Prim.Native.Nat.{ℕ, zero, suc, _+_, _*_, _/_, _%_, _-_, _^_, _≤_, _<_}
-use mathlib.Core.Path.{_≡_, refl, sym, _∙_, ap, subst, fun-ext}
+use mathlib.Core.Path.{_≡_, refl, sym, _∙_, ap, ap₂, subst, fun-ext}
 use mathlib.Core.Logic.{⊎-elim}
 use mathlib.Core.Bool.{Bool, true, false, cond, not, _&&_, _||_, true≢false}
 use mathlib.Core.List.{List, [], _∷_}
-use native.Mathlib.Nat.{eq-or-lt-of-le, le-of-suc-le-suc}
 use native.Mathlib.Numerals.{add-one}
 use native.Mathlib.Omega.{arith}
 use lib.ListN.{length, replicate}
 use lib.Dec.{eqb, leb}
-use borrow.Author.Tests.{eq-eqb, ne-eqb, le-leb, leb-true}
+use borrow.Author.Tests.{eqb-true, eq-eqb, ne-eqb, le-leb, lt-leb, leb-true}
 use Rattle.geometry.specs.declared.Geometry.{Geometry}
 use Rattle.geometry.specs.Geometry.{within, piecesFor}
-use Rattle.layout.specs.Bounded.{at, allBelow, all, elem, always, gathered, updated}
+use Rattle.layout.specs.Bounded.{at, allBelow, countBelow, all, elem, always, gathered, updated}
 use Rattle.volume.specs.Tables.{bitAt, namedBy, usedBy}
 use Rattle.layout.specs.Entry.{isEmpty, sectorOf}
-use Rattle.names.specs.Marked.{withEntries, EntriesMarked}
+use Rattle.names.specs.Marked.{withEntries}
 use Rattle.laws.proofs.Lists.{within-below}
-use Rattle.laws.proofs.Bounded.{bool?, and-r, and-i, not-of, all-elem, allBelow-at, gathered-hit, gathered-miss}
+use Rattle.laws.proofs.Bounded.{bool?, and-l, and-r, not-of, all-elem, allBelow-at, count-hit, count-miss, gathered-hit, gathered-miss}
 
 pub not-false : (b : Bool) → not b ≡ false → b ≡ true
 not-false true e = refl
 not-false false e = absurd (true≢false e)
 
+and-false : (a : Bool) → (a && false) ≡ false
+and-false true = refl
+and-false false = refl
+
+and-true : (a : Bool) → (a && true) ≡ a
+and-true true = refl
+and-true false = refl
+
+-- One name, judged beside what was so far.
+pub inside-low : (good : Bool) (n k : ℕ) → k < 1 → false ≡ (good && within 1 (n - 1) k)
+inside-low good n k h = sym (ap (λ (b : Bool). good && b) (within-below 1 (n - 1) k h) ∙ and-false good)
+
+pub inside-high : (good : Bool) (n k : ℕ) → 1 ≤ k → n - 1 < k → false ≡ (good && within 1 (n - 1) k)
+inside-high good n k l h = sym (ap (λ (b : Bool). good && (leb 1 k && b)) (lt-leb k (n - 1) h) ∙ ap (λ (b : Bool). good && b) (and-false (leb 1 k)) ∙ and-false good)
+
+pub inside-so : (good : Bool) (n k : ℕ) → 1 ≤ k → k ≤ n - 1 → good ≡ (good && within 1 (n - 1) k)
+inside-so good n k l h = sym (ap₂ (λ (a b : Bool). good && (a && b)) (le-leb 1 k l) (le-leb k (n - 1) h) ∙ and-true good)
+
+pub empty-so : (good : Bool) (n entry : ℕ) → entry ≡ 0 → good ≡ (good && (isEmpty entry || within 1 (n - 1) (sectorOf entry)))
+empty-so good n entry e = sym (ap (λ (b : Bool). good && (b || within 1 (n - 1) (sectorOf entry))) (eq-eqb entry 0 e) ∙ and-true good)
+
+pub full-so : (good : Bool) (n entry k : ℕ) (r : Bool) → (entry ≡ 0 → ⊥) → k ≡ sectorOf entry → r ≡ (good && within 1 (n - 1) k)
+    → r ≡ (good && (isEmpty entry || within 1 (n - 1) (sectorOf entry)))
+full-so good n entry k r d e f =
+    f ∙ ap (λ (x : ℕ). good && within 1 (n - 1) x) e ∙ sym (ap (λ (b : Bool). good && (b || within 1 (n - 1) (sectorOf entry))) (ne-eqb entry 0 d))
+
+-- All of 0 to i - 1, and one more.
+pub judged-none : (test : ℕ → Bool) → true ≡ allBelow test 0
+unfolding allBelow
+judged-none test = refl
+
+pub judged-more : (test : ℕ → Bool) (i : ℕ) (good good′ : Bool) → good ≡ allBelow test i → good′ ≡ (good && test i) → good′ ≡ allBelow test (i + 1)
+unfolding allBelow
+judged-more test i good good′ e g = rw (add-one, ← e) g
+
+pub judged-all : (test : ℕ → Bool) (i n : ℕ) (good : Bool) → i ≡ n → good ≡ allBelow test i → good ≡ allBelow test n
+judged-all test i n good e f = f ∙ ap (allBelow test) e
+
+pub counted-none : (test : ℕ → Bool) → 0 ≡ countBelow test 0
+unfolding countBelow
+counted-none test = refl
+
+pub counted-more : (test : ℕ → Bool) (i count after : ℕ) → count ≡ countBelow test i → after ≡ cond (test i) (suc count) count → after ≡ countBelow test (i + 1)
+counted-more test i count after e g =
+    rw add-one
+    (⊎-elim (λ (z : test i ≡ true). g ∙ ap (λ (b : Bool). cond b (suc count) count) z ∙ ap suc e ∙ sym (count-hit test i z))
+    (λ (z : test i ≡ false). g ∙ ap (λ (b : Bool). cond b (suc count) count) z ∙ e ∙ sym (count-miss test i z)) (bool? (test i)))
+
+-- Names that are gathered, judged where they come from and not in the list.
+regroup : (a b c : Bool) → (b && (a && c)) ≡ ((a && b) && c)
+regroup true true c = refl
+regroup true false c = refl
+regroup false true c = refl
+regroup false false c = refl
+
+module _ (check : ℕ → Bool) (test : ℕ → Bool) (value : ℕ → ℕ) (others : List ℕ) (u : ℕ → Bool) (says : (i : ℕ) → (not (test i) || check (value i)) ≡ u i) where
+  pub gathered-judged : (m : ℕ) → all check (gathered test value others m) ≡ (allBelow u m && all check others)
+  unfolding gathered allBelow all
+  gathered-judged zero = refl
+  gathered-judged (suc m) =
+      let before = gathered-judged m in
+      let step : all check (gathered test value others (suc m)) ≡ (u m && all check (gathered test value others m)) =
+      ⊎-elim (λ (z : test m ≡ true).
+      ap (all check) (gathered-hit test value others m z)
+      ∙ ap (λ (b : Bool). b && all check (gathered test value others m)) (ap (λ (a : Bool). not a || check (value m)) (sym z) ∙ says m))
+      (λ (z : test m ≡ false).
+      ap (all check) (gathered-miss test value others m z)
+      ∙ ap (λ (b : Bool). b && all check (gathered test value others m)) (ap (λ (a : Bool). not a || check (value m)) (sym z) ∙ says m)) (bool? (test m)) in
+      step ∙ ap (λ (b : Bool). u m && b) before ∙ regroup (allBelow u m) (u m) (all check others)
+
+pub gathered-length : (test : ℕ → Bool) (value : ℕ → ℕ) (others : List ℕ) (m : ℕ) → length (gathered test value others m) ≡ countBelow test m + length others
+unfolding gathered countBelow
+gathered-length test value others zero = omega arith
+gathered-length test value others (suc m) =
+    let before = gathered-length test value others m in
+    ⊎-elim (λ (z : test m ≡ true).
+    let one = count-hit test m z in
+    let longer = ap length (gathered-hit test value others m z) in
+    omega arith)
+    (λ (z : test m ≡ false).
+    let none = count-miss test m z in
+    let same = ap length (gathered-miss test value others m z) in
+    omega arith) (bool? (test m))
+
+count-always : (m : ℕ) → countBelow always m ≡ m
+unfolding countBelow
+count-always zero = refl
+count-always (suc m) = ap suc (count-always m)
+
+not-not : (a : Bool) → not (not a) ≡ a
+not-not true = refl
+not-not false = refl
+
+-- The test, the bits and the count of names as marking leaves them.
+abbrev pub Left : ℕ → List ℕ → Bool → (ℕ → Bool) → ℕ → Type 0
+Left n named r bits count = (r ≡ all (within 1 (n - 1)) named) × (r ≡ true → (bits ≡ usedBy named) × (count ≡ length named))
+
+-- All that tables name: the live places, then the sectors of the entries.
+module _ (g : Geometry) (entry place : ℕ → ℕ) where
+  abbrev Named : List ℕ
+  Named = namedBy (g .l) entry place
+
+  abbrev PlacesInside : ℕ → Bool
+  PlacesInside m = allBelow (λ q. within 1 (g .n - 1) (place q)) m
+
+  abbrev EntriesInside : ℕ → Bool
+  EntriesInside m = allBelow (λ b. isEmpty (entry b) || within 1 (g .n - 1) (sectorOf (entry b))) m
+
+  named-judged : all (within 1 (g .n - 1)) Named ≡ (EntriesInside (g .l) && PlacesInside (piecesFor (g .l)))
+  unfolding namedBy all
+  named-judged =
+      gathered-judged (within 1 (g .n - 1)) (λ b. not (isEmpty (entry b))) (λ b. sectorOf (entry b)) (gathered always place [] (piecesFor (g .l)))
+      (λ b. isEmpty (entry b) || within 1 (g .n - 1) (sectorOf (entry b)))
+      (λ b. ap (λ (x : Bool). x || within 1 (g .n - 1) (sectorOf (entry b))) (not-not (isEmpty (entry b)))) (g .l)
+      ∙ ap (λ (b : Bool). EntriesInside (g .l) && b)
+      (gathered-judged (within 1 (g .n - 1)) always place [] (λ q. within 1 (g .n - 1) (place q)) (λ q. refl) (piecesFor (g .l))
+      ∙ and-true (PlacesInside (piecesFor (g .l))))
+
+  pub named-length : length Named ≡ countBelow (λ b. not (isEmpty (entry b))) (g .l) + piecesFor (g .l)
+  unfolding namedBy
+  named-length =
+      let entries = gathered-length (λ b. not (isEmpty (entry b))) (λ b. sectorOf (entry b)) (gathered always place [] (piecesFor (g .l))) (g .l) in
+      let places = gathered-length always place [] (piecesFor (g .l)) in
+      let every = count-always (piecesFor (g .l)) in
+      omega arith
+
+  -- Each below n, as marking needs it.
+  abbrev pub Below : ℕ → ℕ → Type 0
+  Below p l = ((q : ℕ) → q < p → place q < g .n) × ((b : ℕ) → b < l → sectorOf (entry b) < g .n)
+
+  abbrev pub Judged : ℕ → ℕ → Bool → Type 0
+  Judged p l r = (r ≡ all (within 1 (g .n - 1)) Named) × (r ≡ true → Below p l)
+
+  module _ (p l : ℕ) (ps : p ≡ piecesFor (g .l)) (ls : l ≡ g .l) (r : Bool) (f : r ≡ PlacesInside p) where
+    pub places-outside : not r ≡ true → Judged p l false
+    places-outside e =
+        (sym (named-judged ∙ ap (λ (b : Bool). EntriesInside (g .l) && b) (ap PlacesInside (sym ps) ∙ sym f ∙ not-of r e) ∙ and-false (EntriesInside (g .l))),
+        λ (z : false ≡ true). absurd (true≢false (sym z)))
+
+    pub all-judged : 1 ≤ g .n → not r ≡ false → (s : Bool) → s ≡ EntriesInside l → Judged p l s
+    all-judged some e s h = (
+      h ∙ ap EntriesInside ls ∙ sym (and-true (EntriesInside (g .l)))
+          ∙ sym (named-judged ∙ ap (λ (b : Bool). EntriesInside (g .l) && b) (ap PlacesInside (sym ps) ∙ sym f ∙ not-false r e)),
+      λ (z : s ≡ true). (
+        (λ q b.
+            let w = allBelow-at (λ q. within 1 (g .n - 1) (place q)) p (sym f ∙ not-false r e) q b in
+            let top = leb-true (place q) (g .n - 1) (and-r (leb 1 (place q)) (leb (place q) (g .n - 1)) w) in
+            omega arith),
+        (λ b c. entry-below some b (allBelow-at (λ b. isEmpty (entry b) || within 1 (g .n - 1) (sectorOf (entry b))) l (sym h ∙ z) b c)),
+      ),
+    )
+      where
+        entry-below : 1 ≤ g .n → (b : ℕ) → (isEmpty (entry b) || within 1 (g .n - 1) (sectorOf (entry b))) ≡ true → sectorOf (entry b) < g .n
+        entry-below some b w =
+            ⊎-elim (λ (z : isEmpty (entry b) ≡ true).
+            let none = eqb-true (entry b) 0 z in
+            let least : sectorOf (entry b) ≡ 0 = ap sectorOf none in
+            omega arith)
+            (λ (z : isEmpty (entry b) ≡ false).
+            let t = sym (ap (λ (x : Bool). x || within 1 (g .n - 1) (sectorOf (entry b))) z) ∙ w in
+            let top = leb-true (sectorOf (entry b)) (g .n - 1) (and-r (leb 1 (sectorOf (entry b))) (leb (sectorOf (entry b)) (g .n - 1)) t) in
+            omega arith) (bool? (isEmpty (entry b)))
+
+  pub named-refused : (r : Bool) → r ≡ all (within 1 (g .n - 1)) Named → not r ≡ true → (bits : ℕ → Bool) (count : ℕ) → Left (g .n) Named false bits count
+  named-refused r f e bits count = (sym (not-of r e) ∙ f, λ (z : false ≡ true). absurd (true≢false (sym z)))
+
+  pub named-marked : (p l : ℕ) → p ≡ piecesFor (g .l) → l ≡ g .l → (r : Bool) → r ≡ all (within 1 (g .n - 1)) Named → not r ≡ false
+      → (bits : ℕ → Bool) → bits ≡ usedBy (withEntries entry l (gathered always place [] p))
+      → (count : ℕ) → count ≡ countBelow (λ b. not (isEmpty (entry b))) l → Left (g .n) Named true bits (p + count)
+  unfolding namedBy
+  named-marked p l ps ls r f e bits marks count counts =
+      (sym (not-false r e) ∙ f,
+      λ (z : true ≡ true). (
+        marks ∙ ap₂ (λ (x y : ℕ). usedBy (withEntries entry x (gathered always place [] y))) ls ps,
+        (let total = named-length in let same = counts ∙ ap (countBelow (λ b. not (isEmpty (entry b)))) ls in omega arith),
+      ))
+
+-- The bits with one more name.
 swap : (a b c : Bool) → cond a true (b || c) ≡ (b || (a || c))
 swap true true c = refl
 swap true false c = refl
 swap false true c = refl
 swap false false c = refl
 
-only : (b : Bool) → cond b true false ≡ (b || false)
-only true = refl
-only false = refl
+again : (a b : Bool) → cond a true (a || b) ≡ (a || b)
+again true b = refl
+again false b = refl
 
-after-false : (a : Bool) → (a && false) ≡ false
-after-false true = refl
-after-false false = refl
+marked-more : (named : List ℕ) (bits after : ℕ → Bool) (k : ℕ) → bits ≡ usedBy named → after ≡ updated bits k true → after ≡ usedBy (k ∷ named)
+unfolding usedBy elem
+marked-more named bits after k m u =
+    u ∙ fun-ext (λ j. ap (λ (f : ℕ → Bool). cond (eqb j k) true (f j)) m ∙ swap (eqb j k) (eqb j 0) (elem j named))
 
-pub inside-low : (n k : ℕ) → k < 1 → false ≡ within 1 (n - 1) k
-inside-low n k h = sym (within-below 1 (n - 1) k h)
+-- Sector 0 is marked at all times.
+marked-0 : (named : List ℕ) (bits after : ℕ → Bool) (k : ℕ) → k ≡ 0 → bits ≡ usedBy named → after ≡ updated bits k true → after ≡ usedBy named
+unfolding usedBy
+marked-0 named bits after k e m u =
+    u ∙ fun-ext (λ j.
+    ap (λ (f : ℕ → Bool). cond (eqb j k) true (f j)) m
+    ∙ ap (λ (x : ℕ). cond (eqb j x) true (eqb j 0 || elem j named)) e ∙ again (eqb j 0) (elem j named))
 
-pub inside-high : (n k : ℕ) → 1 ≤ k → leb k (n - 1) ≡ within 1 (n - 1) k
-inside-high n k h = rw (le-leb 1 k h) refl
+pub places-start : (place : ℕ → ℕ) (bits : ℕ → Bool) → bits ≡ usedBy [] → bits ≡ usedBy (gathered always place [] 0)
+unfolding gathered
+places-start place bits e = e
 
-pub inside-below : (n k : ℕ) → 1 ≤ n → (r : Bool) → r ≡ within 1 (n - 1) k → not r ≡ false → k < n
-inside-below n k h r e f = let z = leb-true k (n - 1) (and-r (leb 1 k) (leb k (n - 1)) (sym e ∙ not-false r f)) in omega arith
+pub place-marked : (place : ℕ → ℕ) (i : ℕ) (bits after : ℕ → Bool) → bits ≡ usedBy (gathered always place [] i) → after ≡ updated bits (place i) true
+    → after ≡ usedBy (gathered always place [] (i + 1))
+place-marked place i bits after m u =
+    rw add-one (marked-more (gathered always place [] i) bits after (place i) m u ∙ ap usedBy (sym (gathered-hit always place [] i refl)))
 
-module _ (n : ℕ) where
-  abbrev pub Inside : List ℕ → Bool
-  Inside named = all (within 1 (n - 1)) named
+pub entries-start : (entry : ℕ → ℕ) (others : List ℕ) (bits : ℕ → Bool) → bits ≡ usedBy others → bits ≡ usedBy (withEntries entry 0 others)
+unfolding gathered
+entries-start entry others bits e = e
 
-  pub record Marked (named : List ℕ) (bits : ℕ → Bool) : Type 0 where
-    pub range : Inside named ≡ true
-    pub marks : bits ≡ usedBy named
-
-  pub marked-none : (bits : ℕ → Bool) → bits ≡ usedBy [] → Marked [] bits
-  unfolding all
-  marked-none bits e = record { range = refl; marks = e }
-
-  marked-more : (named : List ℕ) (bits : ℕ → Bool) (k : ℕ) → Marked named bits → within 1 (n - 1) k ≡ true → Marked (k ∷ named) (updated bits k true)
-  unfolding all usedBy elem
-  marked-more named bits k m e =
-      record {
-        range = and-i (within 1 (n - 1) k) (all (within 1 (n - 1)) named) e (m .range);
-        marks = fun-ext (λ j.
-            ap (λ (f : ℕ → Bool). cond (eqb j k) true (f j)) (m .marks) ∙ swap (eqb j k) (eqb j 0) (elem j named));
-      }
-
-  inside-refused : (named : List ℕ) (k : ℕ) → within 1 (n - 1) k ≡ false → Inside (k ∷ named) ≡ false
-  unfolding all
-  inside-refused named k e = rw e refl
-
-  inside-before : (k : ℕ) (named : List ℕ) → Inside named ≡ false → Inside (k ∷ named) ≡ false
-  unfolding all
-  inside-before k named e = ap (λ (b : Bool). within 1 (n - 1) k && b) e ∙ after-false (within 1 (n - 1) k)
-
-  -- The test, the bits and the count of names as marking leaves them.
-  abbrev pub Left : List ℕ → Bool → (ℕ → Bool) → ℕ → Type 0
-  Left named r bits count = (r ≡ Inside named) × (r ≡ true → (bits ≡ usedBy named) × (count ≡ length named))
-
-  left-refused : (named : List ℕ) (bits : ℕ → Bool) (count : ℕ) → Inside named ≡ false → Left named false bits count
-  left-refused named bits count e = (sym e, λ (z : false ≡ true). absurd (true≢false (sym z)))
-
-  -- Names gathered in a row, one index after the other.
-  module _ (test : ℕ → Bool) (value : ℕ → ℕ) (others : List ℕ) where
-    inside-step : (i : ℕ) → Inside (gathered test value others i) ≡ false → Inside (gathered test value others (suc i)) ≡ false
-    inside-step i e =
-        ⊎-elim (λ (z : test i ≡ true).
-        ap Inside (gathered-hit test value others i z) ∙ inside-before (value i) (gathered test value others i) e)
-        (λ (z : test i ≡ false). ap Inside (gathered-miss test value others i z) ∙ e) (bool? (test i))
-
-    pub inside-longer : (i m : ℕ) → i ≤ m → Inside (gathered test value others i) ≡ false → Inside (gathered test value others m) ≡ false
-    inside-longer i zero h e =
-        let z : i ≡ 0 = omega arith in
-        subst (λ (x : ℕ). Inside (gathered test value others x) ≡ false) z e
-    inside-longer i (suc m) h e =
-        ⊎-elim (λ (z : i ≡ suc m). subst (λ (x : ℕ). Inside (gathered test value others x) ≡ false) z e)
-        (λ (z : i < suc m). inside-step m (inside-longer i m (le-of-suc-le-suc z) e)) (eq-or-lt-of-le h)
-
-    abbrev pub Marking : ℕ → (ℕ → Bool) → Type 0
-    Marking i bits = Marked (gathered test value others i) bits
-
-    pub marking-starts : (bits : ℕ → Bool) → Marked others bits → Marking 0 bits
-    unfolding gathered
-    marking-starts bits m = m
-
-    pub marking-skips : (i : ℕ) (bits : ℕ → Bool) → test i ≡ false → Marking i bits → Marking (i + 1) bits
-    marking-skips i bits e m = rw add-one (subst (λ (xs : List ℕ). Marked xs bits) (sym (gathered-miss test value others i e)) m)
-
-    module _ (i : ℕ) (e : test i ≡ true) (r : Bool) (f : r ≡ within 1 (n - 1) (value i)) where
-      pub marking-marks : (bits after : ℕ → Bool) → Marking i bits → not r ≡ false → after ≡ updated bits (value i) true → Marking (i + 1) after
-      marking-marks bits after m z u =
-          rw add-one
-          (subst (λ (xs : List ℕ). Marked xs after) (sym (gathered-hit test value others i e))
-          (subst (λ (g : ℕ → Bool). Marked (value i ∷ gathered test value others i) g) (sym u)
-          (marked-more (gathered test value others i) bits (value i) m (sym f ∙ not-false r z))))
-
-      pub marking-refused : (len : ℕ) → i < len → not r ≡ true → Inside (gathered test value others len) ≡ false
-      marking-refused len below z =
-          inside-longer (suc i) len below
-          (ap Inside (gathered-hit test value others i e) ∙ inside-refused (gathered test value others i) (value i) (sym f ∙ not-of r z))
-
-      pub marking-counts : (count : ℕ) → count ≡ length (gathered test value others i) → count + 1 ≡ length (gathered test value others (i + 1))
-      marking-counts count c = rw (add-one, add-one) (ap suc c ∙ ap length (sym (gathered-hit test value others i e)))
-
-    pub marking-passes : (i count : ℕ) → test i ≡ false → count ≡ length (gathered test value others i) → count ≡ length (gathered test value others (i + 1))
-    marking-passes i count e c = rw add-one (c ∙ ap length (sym (gathered-miss test value others i e)))
+pub entry-marked : (entry : ℕ → ℕ) (others : List ℕ) (i k : ℕ) (bits after : ℕ → Bool) → k ≡ sectorOf (entry i)
+    → bits ≡ usedBy (withEntries entry i others) → after ≡ updated bits k true → after ≡ usedBy (withEntries entry (i + 1) others)
+entry-marked entry others i k bits after s m u =
+    let taken : ℕ → Bool = λ b. not (isEmpty (entry b)) in
+    let sector : ℕ → ℕ = λ b. sectorOf (entry b) in
+    rw add-one
+    (⊎-elim (λ (z : isEmpty (entry i) ≡ true).
+    marked-0 (withEntries entry i others) bits after k (s ∙ ap sectorOf (eqb-true (entry i) 0 z)) m u ∙ ap usedBy (sym (gathered-miss taken sector others i (ap not z))))
+    (λ (z : isEmpty (entry i) ≡ false).
+    marked-more (withEntries entry i others) bits after (sectorOf (entry i)) m (u ∙ ap (λ (x : ℕ). updated bits x true) s)
+    ∙ ap usedBy (sym (gathered-hit taken sector others i (ap not z)))) (bool? (isEmpty (entry i))))
 
 -- A sector past the last is not named.
 pub unnamed : (n : ℕ) (named : List ℕ) → all (within 1 (n - 1)) named ≡ true → (k : ℕ) → 1 ≤ n → n ≤ k → usedBy named k ≡ false
@@ -141,28 +262,9 @@ unnamed n named inside k some past = rw (ne-eqb k 0 (λ (z : k ≡ 0). omega ari
         absurd (omega arith))
         (λ (z : elem k xs ≡ false). z) (bool? (elem k xs))
 
--- The live places.
-module _ (n : ℕ) (pl : List ℕ) where
-  abbrev Live : ℕ → List ℕ
-  Live m = gathered always (at pl) [] m
-
-  pub places-start : (bits : ℕ → Bool) → bits ≡ usedBy [] → Marked n (Live 0) bits
-  places-start bits e = marking-starts n always (at pl) [] bits (marked-none n bits e)
-
-  module _ (i k : ℕ) (is : k ≡ at pl i) (r : Bool) (f : r ≡ within 1 (n - 1) k) where
-    placed : r ≡ within 1 (n - 1) (at pl i)
-    placed = f ∙ ap (within 1 (n - 1)) is
-
-    pub place-marks : (bits after : ℕ → Bool) → Marked n (Live i) bits → not r ≡ false → after ≡ updated bits k true → Marked n (Live (i + 1)) after
-    place-marks bits after m z u = marking-marks n always (at pl) [] i refl r placed bits after m z (u ∙ ap (λ (x : ℕ). updated bits x true) is)
-
-    pub place-refused : i < length pl → not r ≡ true → (bits : ℕ → Bool) → (false ≡ Inside n (Live (length pl))) × (false ≡ true → bits ≡ usedBy (Live (length pl)))
-    place-refused b z bits = (sym (marking-refused n always (at pl) [] i refl r placed (length pl) b z), λ (y : false ≡ true). absurd (true≢false (sym y)))
-
-  pub places-end : (i : ℕ) (bits : ℕ → Bool) → i ≡ length pl → Marked n (Live i) bits → (true ≡ Inside n (Live (length pl))) × (true ≡ true → bits ≡ usedBy (Live (length pl)))
-  places-end i bits e m =
-      let all = subst (λ (x : ℕ). Marked n (Live x) bits) e m in
-      (sym (all .range), λ (z : true ≡ true). all .marks)
+only : (b : Bool) → cond b true false ≡ (b || false)
+only true = refl
+only false = refl
 
 -- Where all bits are clear and then sector 0 is marked, the bits are those of no names.
 zero-at : (m i : ℕ) → at (replicate m 0) i ≡ 0
@@ -185,95 +287,3 @@ zeros-marked bits us m e h =
     (ap (λ (xs : List ℕ). eqb (at xs (k / 8) / 2 ^ (k % 8) % 2) 1) e
     ∙ ap (λ (x : ℕ). eqb (x / 2 ^ (k % 8) % 2) 1) (zero-at m (k / 8)) ∙ zero-bit (k % 8) (omega arith))
     ∙ only (eqb k 0))
-
--- Others, then the sectors of the entries below i that are not zero.
-module _ (n : ℕ) (entry : ℕ → ℕ) (others : List ℕ) where
-  taken : ℕ → Bool
-  taken b = not (isEmpty (entry b))
-
-  sector : ℕ → ℕ
-  sector b = sectorOf (entry b)
-
-  pub Entries : ℕ → (ℕ → Bool) → ℕ → Type 0
-  Entries i bits count = Marked n (gathered taken sector others i) bits × (count + length others ≡ length (gathered taken sector others i))
-
-  with-is : (m : ℕ) → withEntries entry m others ≡ gathered taken sector others m
-  unfolding taken sector
-  with-is m = refl
-
-  pub entries-start : (bits : ℕ → Bool) → all (within 1 (n - 1)) others ≡ true → bits ≡ usedBy others → Entries 0 bits 0
-  unfolding Entries gathered
-  entries-start bits range marks = (record { range = range; marks = marks }, omega arith)
-
-  pub entries-skip : (i : ℕ) (bits : ℕ → Bool) (count : ℕ) → entry i ≡ 0 → Entries i bits count → Entries (i + 1) bits count
-  unfolding Entries taken
-  entries-skip i bits count e m =
-      let no : not (isEmpty (entry i)) ≡ false = ap not (eq-eqb (entry i) 0 e) in
-      (marking-skips n taken sector others i bits no (m .0), marking-passes n taken sector others i (count + length others) no (m .1))
-
-  module _ (i k : ℕ) (r : Bool) (e : entry i ≡ 0 → ⊥) (s : k ≡ sectorOf (entry i)) (f : r ≡ within 1 (n - 1) k) where
-    told : r ≡ within 1 (n - 1) (sector i)
-    unfolding sector
-    told = f ∙ ap (within 1 (n - 1)) s
-
-    is-taken : taken i ≡ true
-    unfolding taken
-    is-taken = ap not (ne-eqb (entry i) 0 e)
-
-    pub entry-marks : (bits after : ℕ → Bool) (count : ℕ) → Entries i bits count → not r ≡ false → after ≡ updated bits k true → Entries (i + 1) after (count + 1)
-    unfolding Entries sector
-    entry-marks bits after count m z u = (
-      marking-marks n taken sector others i is-taken r told bits after (m .0) z (u ∙ ap (λ (x : ℕ). updated bits x true) s),
-      (let w = marking-counts n taken sector others i is-taken r told (count + length others) (m .1) in omega arith),
-    )
-
-    pub entry-refused : (m : ℕ) → i < m → not r ≡ true → (after : ℕ → Bool) (count : ℕ) → EntriesMarked n entry m others false after count
-    entry-refused m b z after count =
-        subst (λ (xs : List ℕ). (false ≡ Inside n xs) × (false ≡ true → (after ≡ usedBy xs) × (count + length others ≡ length xs))) (sym (with-is m))
-        (sym (marking-refused n taken sector others i is-taken r told m b z), λ (y : false ≡ true). absurd (true≢false (sym y)))
-
-  pub entries-end : (i m : ℕ) (bits : ℕ → Bool) (count : ℕ) → i ≡ m → Entries i bits count → EntriesMarked n entry m others true bits count
-  unfolding Entries
-  entries-end i m bits count e h =
-      subst (λ (xs : List ℕ). (true ≡ Inside n xs) × (true ≡ true → (bits ≡ usedBy xs) × (count + length others ≡ length xs))) (sym (with-is m))
-      (let all = subst (λ (x : ℕ). Marked n (gathered taken sector others x) bits × (count + length others ≡ length (gathered taken sector others x))) e h in
-      (sym (all .0 .range), λ (z : true ≡ true). (all .0 .marks, all .1)))
-
--- All that tables name: the live places, then the sectors of the entries.
-module _ (g : Geometry) (entry place : ℕ → ℕ) where
-  places : List ℕ
-  places = gathered always place [] (piecesFor (g .l))
-
-  abbrev Named : List ℕ
-  Named = namedBy (g .l) entry place
-
-  named-is : Named ≡ withEntries entry (g .l) places
-  unfolding namedBy places
-  named-is = refl
-
-  gathered-length : (m : ℕ) → length (gathered always place [] m) ≡ m
-  unfolding gathered
-  gathered-length zero = refl
-  gathered-length (suc m) = ap suc (gathered-length m)
-
-  module _ (len : ℕ) (same : len ≡ piecesFor (g .l)) (bits : ℕ → Bool) (r : Bool)
-      (h : (r ≡ Inside (g .n) (gathered always place [] len)) × (r ≡ true → bits ≡ usedBy (gathered always place [] len))) where
-    pub places-refused : not r ≡ true → (after : ℕ → Bool) (count : ℕ) → Left (g .n) Named false after count
-    unfolding places gathered
-    places-refused e after count =
-        subst (λ (xs : List ℕ). Left (g .n) xs false after count) (sym named-is)
-        (left-refused (g .n) (withEntries entry (g .l) places) after count
-        (inside-longer (g .n) (λ b. not (isEmpty (entry b))) (λ b. sectorOf (entry b)) places 0 (g .l) (omega arith)
-        (subst (λ (x : ℕ). Inside (g .n) (gathered always place [] x) ≡ false) same (sym (h .0) ∙ not-of r e))))
-
-    pub names-marked : not r ≡ false → (m : ℕ) → m ≡ g .l → (inside : Bool) (after : ℕ → Bool) (count : ℕ)
-        → ((others : List ℕ) → all (within 1 (g .n - 1)) others ≡ true → bits ≡ usedBy others → EntriesMarked (g .n) entry m others inside after count)
-        → Left (g .n) Named inside after (len + count)
-    unfolding places
-    names-marked e m all inside after count f =
-        let yes = not-false r e in
-        let live : Inside (g .n) (gathered always place [] (piecesFor (g .l))) ≡ true = subst (λ (x : ℕ). Inside (g .n) (gathered always place [] x) ≡ true) same (sym (h .0) ∙ yes) in
-        let marked : bits ≡ usedBy (gathered always place [] (piecesFor (g .l))) = h .1 yes ∙ ap (λ (x : ℕ). usedBy (gathered always place [] x)) same in
-        let told = subst (λ (x : ℕ). EntriesMarked (g .n) entry x places inside after count) all (f places live marked) in
-        subst (λ (xs : List ℕ). Left (g .n) xs inside after (len + count)) (sym named-is)
-        (told .0, λ z. (told .1 z .0, (let w = told .1 z .1 in let q = gathered-length (piecesFor (g .l)) in omega arith)))

@@ -1,14 +1,14 @@
 // The sectors that tables name, marked in a bit map. That none is named twice shows in how many bits are then set.
 ghost use mathlib.Core.Path.{_≡_};
-ghost use mathlib.Core.Bool.{true, cond};
+ghost use mathlib.Core.Bool.{true, cond, not, _&&_, _||_};
 ghost use mathlib.Core.List.{List, []};
-ghost use Prim.Native.Nat.{ℕ, _*_, _-_, _/_, _%_, _^_, _≤_, _<_};
+ghost use Prim.Native.Nat.{ℕ, suc, _*_, _-_, _≤_, _<_};
 ghost use lib.ListN.{length, replicate};
-ghost use lib.Dec.{eqb};
-ghost use Rattle.geometry.specs.Geometry.{within, mostBlocks, mostSectors, piecesFor};
-ghost use Rattle.layout.specs.Bounded.{at, all, always, gathered};
+ghost use Rattle.geometry.specs.Geometry.{within, mostBlocks, piecesFor};
+ghost use Rattle.layout.specs.Bounded.{at, allBelow, countBelow, all, always, gathered};
+ghost use Rattle.layout.specs.Entry.{isEmpty, sectorOf};
 ghost use Rattle.volume.specs.Tables.{bitAt, namedBy, usedBy};
-ghost use Rattle.names.specs.Marked.{EntriesMarked};
+ghost use Rattle.names.specs.Marked.{withEntries};
 use geometry::Geometry;
 
 // Whether every named sector is one from 1 to n - 1, and then how many names there are.
@@ -17,109 +17,157 @@ pub struct Names {
     pub count: u32,
 }
 
-fn is_inside(n: u32, k: u32) -> bool
+// Whether all were inside so far, and k is a sector from 1 to n - 1.
+fn still_inside(good: bool, n: u32, k: u32) -> bool
     requires { ⌜ 1 ≤ n ⌝ }
-    ensures { λ r. ⌜ r ≡ within 1 (n - 1) k ⌝ }
+    ensures { λ r. ⌜ r ≡ (good && within 1 (n - 1) k) ⌝ }
 {
     if k < 1 {
         return false;
     }
-    k <= n - 1
+    if n - 1 < k {
+        return false;
+    }
+    good
 }
 
-// A word of the map with the bit of sector k set.
-fn with_bit(word: u64, k: u32) -> u64
-    ensures { λ r. ⌜ ((j : ℕ) → j < 64 → eqb (r / 2 ^ j % 2) 1 ≡ cond (eqb j (k % 64)) true (eqb (word / 2 ^ j % 2) 1)) ⌝ }
-{
-    word | (1u64 << (k % 64))
-}
-
-// Marks the live places.
-fn mark_places(marks: &mut [u8], n: u32, places: &[u32]) -> bool
+// The same of an entry: it is empty, or its sector is inside.
+fn entry_inside(good: bool, n: u32, entry: u32) -> bool
     requires { ⌜ 1 ≤ n ⌝ }
-    requires { ⌜ n ≤ 8 * length (now marks) ⌝ }
+    ensures { λ r. ⌜ r ≡ (good && (isEmpty entry || within 1 (n - 1) (sectorOf entry))) ⌝ }
+{
+    if entry == 0 {
+        return good;
+    }
+    still_inside(good, n, blocks::sector_of(entry))
+}
+
+// Whether every place is a sector from 1 to n - 1.
+fn places_inside(n: u32, places: &[u32]) -> bool
+    requires { ⌜ 1 ≤ n ⌝ }
+    ensures { λ r. ⌜ r ≡ allBelow (λ q. within 1 (n - 1) (at (now (places .entry)) q)) (length (now (places .entry))) ⌝ }
+{
+    let mut good = true;
+    let mut i = 0;
+    while i < places.len() {
+        good = still_inside(good, n, places[i]);
+        i += 1;
+    }
+    good
+}
+
+// Whether every entry is empty or names a sector from 1 to n - 1. All are looked at, so that the compiler judges several at a time.
+fn entries_inside(n: u32, map: &[u32]) -> bool
+    requires { ⌜ 1 ≤ n ⌝ }
+    ensures { λ r. ⌜ r ≡ allBelow (λ b. isEmpty (at (now (map .entry)) b) || within 1 (n - 1) (sectorOf (at (now (map .entry)) b))) (length (now (map .entry))) ⌝ }
+{
+    let mut good = true;
+    let mut i = 0;
+    while i < map.len() {
+        good = entry_inside(good, n, map[i]);
+        i += 1;
+    }
+    good
+}
+
+// Whether every name is a sector from 1 to n - 1.
+fn names_inside(g: Geometry, map: &[u32], places: &[u32]) -> bool
+    requires { ⌜ 1 ≤ g .n ⌝ }
+    requires { ⌜ length (now map) ≡ g .l ⌝ }
+    requires { ⌜ length (now places) ≡ piecesFor (g .l) ⌝ }
+    ensures { λ r. ⌜ (r ≡ all (within 1 (g .n - 1)) (namedBy (g .l) (at (now (map .entry))) (at (now (places .entry))))) × (r ≡ true → ((q : ℕ) → q < length (now (places .entry)) → at (now (places .entry)) q < g .n) × ((b : ℕ) → b < length (now (map .entry)) → sectorOf (at (now (map .entry)) b) < g .n)) ⌝ }
+{
+    if !places_inside(g.n, places) {
+        return false;
+    }
+    entries_inside(g.n, map)
+}
+
+// One more, unless the entry is empty.
+fn with_entry(count: u32, entry: u32) -> u32
+    requires { ⌜ count < mostBlocks ⌝ }
+    ensures { λ r. ⌜ r ≡ cond (not (isEmpty entry)) (suc count) count ⌝ }
+{
+    if entry == 0 {
+        return count;
+    }
+    count + 1
+}
+
+// How many entries are not empty.
+fn count_entries(map: &[u32]) -> u32
+    requires { ⌜ length (now map) ≤ mostBlocks ⌝ }
+    ensures { λ r. ⌜ (r ≡ countBelow (λ b. not (isEmpty (at (now (map .entry)) b))) (length (now (map .entry)))) × (r ≤ mostBlocks) ⌝ }
+{
+    let mut count: u32 = 0;
+    let mut i = 0;
+    while i < map.len() {
+        count = with_entry(count, map[i]);
+        i += 1;
+    }
+    count
+}
+
+// Marks the live places beside sector 0.
+fn mark_places(marks: &mut [u8], places: &[u32])
+    requires { ⌜ ((q : ℕ) → q < length (now places) → at (now places) q < 8 * length (now marks)) ⌝ }
     requires { ⌜ bitAt (now marks) ≡ usedBy [] ⌝ }
-    ensures { λ r. ⌜ (r ≡ all (within 1 (n - 1)) (gathered always (at (now (places .entry))) [] (length (now (places .entry))))) × (r ≡ true → bitAt (now (marks .exit)) ≡ usedBy (gathered always (at (now (places .entry))) [] (length (now (places .entry))))) ⌝ }
+    ensures { λ _. ⌜ bitAt (now (marks .exit)) ≡ usedBy (gathered always (at (now (places .entry))) [] (length (now (places .entry)))) ⌝ }
 {
     let mut i = 0;
     while i < places.len() {
-        let k = places[i];
-        if !is_inside(n, k) {
-            return false;
-        }
+        bits::set_bit(marks, places[i] as usize);
+        i += 1;
+    }
+}
+
+// Marks the sectors of the entries beside others. An empty entry says sector 0, which is marked at all times, so that no entry is
+// tested.
+fn mark_entries(marks: &mut [u8], map: &[u32])
+    requires { ⌜ ((b : ℕ) → b < length (now map) → sectorOf (at (now map) b) < 8 * length (now marks)) ⌝ }
+    ensures { λ _. ⌜ ((others : List ℕ) → bitAt (now (marks .entry)) ≡ usedBy others → bitAt (now (marks .exit)) ≡ usedBy (withEntries (at (now (map .entry))) (length (now (map .entry))) others)) ⌝ }
+{
+    let mut i = 0;
+    while i < map.len() {
+        let k = blocks::sector_of(map[i]);
         bits::set_bit(marks, k as usize);
         i += 1;
     }
-    true
 }
 
-// Marks the sectors of all non-zero entries, in a map in which others are marked. The word of 64 bits at hand is kept apart from the
-// map while one name after the other falls into it. The empty entries are counted, being few.
-fn mark_entries(marks: &mut [u8], n: u32, map: &[u32]) -> Names
-    requires { ⌜ 1 ≤ n ⌝ }
-    requires { ⌜ n ≤ mostSectors ⌝ }
-    requires { ⌜ length (now marks) ≡ 8192 ⌝ }
-    requires { ⌜ length (now map) ≤ mostBlocks ⌝ }
-    ensures { λ r. ⌜ ((others : List ℕ) → all (within 1 (n - 1)) others ≡ true → bitAt (now (marks .entry)) ≡ usedBy others → EntriesMarked n (at (now (map .entry))) (length (now (map .entry))) others (r .inside) (bitAt (now (marks .exit))) (r .count)) × (r .count ≤ mostBlocks) ⌝ }
+// Marks sector 0, the live places, and the sectors of the entries.
+fn mark_all(marks: &mut [u8], map: &[u32], places: &[u32])
+    requires { ⌜ 0 < length (now marks) ⌝ }
+    requires { ⌜ now marks ≡ replicate (length (now marks)) 0 ⌝ }
+    requires { ⌜ ((q : ℕ) → q < length (now places) → at (now places) q < 8 * length (now marks)) ⌝ }
+    requires { ⌜ ((b : ℕ) → b < length (now map) → sectorOf (at (now map) b) < 8 * length (now marks)) ⌝ }
+    ensures { λ _. ⌜ bitAt (now (marks .exit)) ≡ usedBy (withEntries (at (now (map .entry))) (length (now (map .entry))) (gathered always (at (now (places .entry))) [] (length (now (places .entry))))) ⌝ }
 {
-    let mut empty: u32 = 0;
-    let mut hand = 0;
-    let mut held = bits::word_at(marks, 0);
-    let mut i = 0;
-    'entries: while i < map.len() {
-        let entry = map[i];
-        if entry == 0 {
-            empty += 1;
-            i += 1;
-            continue 'entries;
-        }
-        let k = blocks::sector_of(entry);
-        if !is_inside(n, k) {
-            return Names {
-                inside: false,
-                count: 0,
-            };
-        }
-        let q = (k / 64) as usize;
-        i += 1;
-        if q == hand {
-            held = with_bit(held, k);
-            continue 'entries;
-        }
-        bits::put_word(marks, hand, held);
-        hand = q;
-        held = with_bit(bits::word_at(marks, q), k);
-    }
-    bits::put_word(marks, hand, held);
-    let count = map.len() as u32 - empty;
-    Names {
-        inside: true,
-        count,
-    }
+    bits::set_bit(marks, 0);
+    mark_places(marks, places);
+    mark_entries(marks, map);
 }
 
-// Marks sector 0 and every sector that the tables name: the live places, then the sectors of all non-zero entries.
+// Marks sector 0 and every sector that the tables name, where all of them are inside; otherwise nothing.
 pub fn mark_names(marks: &mut [u8], g: Geometry, map: &[u32], places: &[u32]) -> Names
     requires { ⌜ 1 ≤ g .n ⌝ }
-    requires { ⌜ g .n ≤ mostSectors ⌝ }
-    requires { ⌜ length (now marks) ≡ 8192 ⌝ }
+    requires { ⌜ g .n ≤ 8 * length (now marks) ⌝ }
     requires { ⌜ g .l ≤ mostBlocks ⌝ }
     requires { ⌜ length (now map) ≡ g .l ⌝ }
     requires { ⌜ length (now places) ≡ piecesFor (g .l) ⌝ }
     requires { ⌜ now marks ≡ replicate (length (now marks)) 0 ⌝ }
     ensures { λ r. ⌜ (r .inside ≡ all (within 1 (g .n - 1)) (namedBy (g .l) (at (now (map .entry))) (at (now (places .entry))))) × (r .inside ≡ true → (bitAt (now (marks .exit)) ≡ usedBy (namedBy (g .l) (at (now (map .entry))) (at (now (places .entry))))) × (r .count ≡ length (namedBy (g .l) (at (now (map .entry))) (at (now (places .entry)))))) × (r .count ≤ 24832) ⌝ }
 {
-    bits::set_bit(marks, 0);
-    if !mark_places(marks, g.n, places) {
+    if !names_inside(g, map, places) {
         return Names {
             inside: false,
             count: 0,
         };
     }
-    let entries = mark_entries(marks, g.n, map);
-    let count = places.len() as u32 + entries.count;
+    mark_all(marks, map, places);
+    let count = places.len() as u32 + count_entries(map);
     Names {
-        inside: entries.inside,
+        inside: true,
         count,
     }
 }

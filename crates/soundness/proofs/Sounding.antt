@@ -1,52 +1,35 @@
 -- Sound tables: what each test of the code says of the whole, in the code's order.
 use Prim.Native.Nat.{ℕ, _+_, _*_, _-_, _≤_, _<_}
-use mathlib.Core.Path.{_≡_, refl, sym, _∙_, ap}
-use mathlib.Core.Logic.{⊎-elim}
-use mathlib.Core.Bool.{Bool, true, false, not, _&&_, Bool·beq, true≢false}
-use mathlib.Core.List.{List, []}
+use mathlib.Core.Path.{_≡_, refl, sym, _∙_, ap, ap₂}
+use mathlib.Core.Bool.{Bool, true, false, not, _&&_, Bool·beq}
 use native.Mathlib.Omega.{arith}
 use lib.Dec.{eqb, leb}
-use borrow.Author.Tests.{leb-true, eqb-true, eq-eqb, ne-eqb}
+use borrow.Author.Tests.{leb-true, eq-eqb, ne-eqb}
 use Rattle.geometry.specs.declared.Geometry.{Geometry}
 use Rattle.geometry.specs.Geometry.{within, piecesFor, mostBlocks, mostSectors, usedBytes, geometryFits}
-use Rattle.layout.specs.Bounded.{at, allBelow, best, all, distinct, always, gathered}
-use Rattle.volume.specs.Tables.{tablesOf, bitAt, namedBy, usedBy, freeSectors, consistent}
-use Rattle.laws.proofs.Bounded.{eq?, and-l, and-r, not-of, allBelow-at, count-le, count-same}
+use Rattle.layout.specs.Bounded.{allBelow, best, all, distinct, always, gathered}
+use mathlib.Core.List.{List, []}
+use Rattle.volume.specs.Tables.{Tables, namedBy, usedBy, freeSectors, consistent}
+use Rattle.soundness.specs.Parts.{namesSound}
+use Rattle.laws.proofs.Bounded.{and-l, and-r, not-of, allBelow-at, allBelow-is, count-le, count-same}
 use Rattle.laws.proofs.Names.{beq-true}
-use Rattle.names.proofs.Counting.{named-twice, named-once}
+use Rattle.names.proofs.Counting.{counted-once}
 use Rattle.names.proofs.Marking.{Left, not-false}
 use Rattle.numbers.proofs.Numbering.{Agree}
 
--- Eight tests, the last four at once.
 never : (x : Bool) → (x && false) ≡ false
 never true = refl
 never false = refl
 
-pub second : (a b : Bool) → a ≡ true → (a && b) ≡ false → b ≡ false
-second true b e f = f
-second false b e f = absurd (true≢false (sym e))
+and-true : (x : Bool) → (x && true) ≡ x
+and-true true = refl
+and-true false = refl
 
 pub twice : (free count n p : ℕ) → (free + count + 1 ≡ n → ⊥) → false ≡ (eqb (free + count + 1) n && leb p free)
 twice free count n p d = rw (ne-eqb (free + count + 1) n d) refl
 
 pub once-then : (free count n p q : ℕ) → free + count + 1 ≡ n → q ≡ p → leb q free ≡ (eqb (free + count + 1) n && leb p free)
 once-then free count n p q e f = rw (eq-eqb (free + count + 1) n e, f) refl
-
-module _ (a b c d e f g h : Bool) where
-  pub inside-fails : a ≡ false → false ≡ (a && b && c && d && e && f && g && h)
-  inside-fails p = rw p refl
-
-  pub once-fails : a ≡ true → b ≡ false → false ≡ (a && b && c && d && e && f && g && h)
-  once-fails p q = rw (p, q) refl
-
-  pub bits-fails : c ≡ false → false ≡ (a && b && c && d && e && f && g && h)
-  bits-fails p = rw (p, never (a && b)) refl
-
-  pub room-fails-here : a ≡ true → b ≡ true → c ≡ true → d ≡ false → false ≡ (a && b && c && d && e && f && g && h)
-  room-fails-here p q r s = rw (p, q, r, s) refl
-
-  pub rest-decides : a ≡ true → b ≡ true → c ≡ true → d ≡ true → (e && f && g && h) ≡ (a && b && c && d && e && f && g && h)
-  rest-decides p q r s = rw (p, q, r, s) refl
 
 -- The sizes that a geometry gives.
 module _ (g : Geometry) (h : geometryFits g ≡ true) where
@@ -72,89 +55,89 @@ pub free-few : (n free : ℕ) (bits : ℕ → Bool) → free ≡ freeSectors n b
 unfolding freeSectors
 free-few n free bits e = let h = count-le (λ k. not (bits k)) n in omega arith
 
-module _ (g : Geometry) (map places numbers used : List ℕ) (tail number : ℕ) where
+-- The conditions on names and used bits.
+module _ (g : Geometry) (entry place : ℕ → ℕ) (isUsed : ℕ → Bool) where
   abbrev Names : List ℕ
-  Names = namedBy (g .l) (at map) (at places)
-
-  abbrev Inside : Bool
-  Inside = all (within 1 (g .n - 1)) Names
-
-  abbrev Once : Bool
-  Once = distinct Names
+  Names = namedBy (g .l) entry place
 
   abbrev Bits : Bool
-  Bits = allBelow (λ k. Bool·beq (bitAt used k) (usedBy Names k)) (8 * usedBytes (g .n))
+  Bits = allBelow (λ k. Bool·beq (isUsed k) (usedBy Names k)) (8 * usedBytes (g .n))
 
   abbrev Room : Bool
-  Room = leb (piecesFor (g .l)) (freeSectors (g .n) (bitAt used))
+  Room = leb (piecesFor (g .l)) (freeSectors (g .n) isUsed)
 
-  abbrev D : Bool
-  D = distinct (gathered always (at numbers) [] (piecesFor (g .l)))
-
-  abbrev E : Bool
-  E = allBelow (λ q. leb 1 (at numbers q)) (piecesFor (g .l))
-
-  abbrev F : Bool
-  F = eqb tail (at places (best (at numbers) (piecesFor (g .l))))
-
-  abbrev G : Bool
-  G = eqb number (at numbers (best (at numbers) (piecesFor (g .l))))
-
-  abbrev Whole : Bool
-  Whole = consistent g (tablesOf map places numbers used) tail number
+  abbrev Sound : Bool
+  Sound = namesSound g entry place isUsed
 
   module _ (marks : ℕ → Bool) (r : Bool) (count : ℕ) (h : Left (g .n) Names r marks count) where
-    pub names-fail : not r ≡ true → false ≡ Whole
-    unfolding consistent
-    names-fail e = inside-fails Inside Once Bits Room D E F G (sym (h .0) ∙ not-of r e)
+    pub names-fail : not r ≡ true → false ≡ Sound
+    unfolding namesSound
+    names-fail e = sym (ap (λ (b : Bool). b && distinct Names && Bits && Room) (sym (h .0) ∙ not-of r e))
 
-    module _ (e : not r ≡ false) (s : Bool) (len : ℕ) (long : len ≡ usedBytes (g .n))
-        (t : s ≡ allBelow (λ k. Bool·beq (bitAt used k) (marks k)) (8 * len)) where
-      yes : r ≡ true
-      yes = not-false r e
+    module _ (e : not r ≡ false) where
+      inside : all (within 1 (g .n - 1)) Names ≡ true
+      inside = sym (h .0) ∙ not-false r e
 
-      inside : Inside ≡ true
-      inside = sym (h .0) ∙ yes
+      -- Bits that were compared with the marks were compared with the names.
+      module _ (s : Bool) (len : ℕ) (long : len ≡ usedBytes (g .n)) (t : s ≡ allBelow (λ k. Bool·beq (isUsed k) (marks k)) (8 * len)) where
+        compared : s ≡ Bits
+        compared =
+            t
+            ∙ ap (λ (f : ℕ → Bool). allBelow (λ k. Bool·beq (isUsed k) (f k)) (8 * len)) (h .1 (not-false r e) .0)
+            ∙ ap (λ (x : ℕ). allBelow (λ k. Bool·beq (isUsed k) (usedBy Names k)) (8 * x)) long
 
-      compared : s ≡ Bits
-      compared =
-          t
-          ∙ ap (λ (f : ℕ → Bool). allBelow (λ k. Bool·beq (bitAt used k) (f k)) (8 * len)) (h .1 yes .0)
-          ∙ ap (λ (x : ℕ). allBelow (λ k. Bool·beq (bitAt used k) (usedBy Names k)) (8 * x)) long
+        pub bits-fail : not s ≡ true → false ≡ Sound
+        unfolding namesSound
+        bits-fail f =
+            sym (ap (λ (b : Bool). all (within 1 (g .n - 1)) Names && distinct Names && b && Room) (sym compared ∙ not-of s f)
+            ∙ ap (λ (b : Bool). b && Room) (never (all (within 1 (g .n - 1)) Names && distinct Names)))
 
-      pub bits-fail : not s ≡ true → false ≡ Whole
-      unfolding consistent
-      bits-fail f = bits-fails Inside Once Bits Room D E F G (sym compared ∙ not-of s f)
+        pub bits-pass : not s ≡ false → Bits ≡ true
+        bits-pass f = sym compared ∙ not-false s f
 
-      module _ (f : not s ≡ false) (some : 1 ≤ g .n) (free : ℕ) (counted : free ≡ freeSectors (g .n) (bitAt used)) where
-        bits : Bits ≡ true
-        bits = sym compared ∙ not-false s f
+      -- The used map is that of the names, so its free sectors are theirs.
+      pub room-decides : Bits ≡ true → 1 ≤ g .n → (free : ℕ) → free ≡ freeSectors (g .n) isUsed
+          → (o : Bool) → o ≡ (eqb (free + count + 1) (g .n) && leb (piecesFor (g .l)) free) → o ≡ Sound
+      unfolding namesSound freeSectors
+      room-decides bits some free counted o w =
+          let free-is : free ≡ freeSectors (g .n) (usedBy Names) =
+          counted
+          ∙ count-same (λ k. not (isUsed k)) (λ k. not (usedBy Names k)) (g .n)
+          (λ k b. ap not (beq-true (isUsed k) (usedBy Names k)
+          (allBelow-at (λ k. Bool·beq (isUsed k) (usedBy Names k)) (8 * usedBytes (g .n)) bits k (omega arith)))) in
+          w
+          ∙ ap₂ (λ (a b : Bool). a && b) (counted-once (g .n) some Names inside free count free-is (h .1 (not-false r e) .1)) (ap (leb (piecesFor (g .l))) counted)
+          ∙ sym (ap₂ (λ (a b : Bool). a && distinct Names && b && Room) inside bits ∙ ap (λ (b : Bool). b && Room) (and-true (distinct Names)))
 
-        -- The used map is that of the names, so its free sectors are theirs.
-        free-is : free ≡ freeSectors (g .n) (usedBy Names)
-        unfolding freeSectors
-        free-is =
-            counted
-            ∙ count-same (λ k. not (bitAt used k)) (λ k. not (usedBy Names k)) (g .n)
-            (λ k b. ap not (beq-true (bitAt used k) (usedBy Names k)
-            (allBelow-at (λ k. Bool·beq (bitAt used k) (usedBy Names k)) (8 * usedBytes (g .n)) bits k (omega arith))))
+beq-self : (b : Bool) → Bool·beq b b ≡ true
+beq-self true = refl
+beq-self false = refl
 
-        module _ (u : Bool) (w : u ≡ (eqb (free + count + 1) (g .n) && leb (piecesFor (g .l)) free)) where
-          pub room-fails : not u ≡ true → false ≡ Whole
-          unfolding consistent
-          room-fails z =
-              ⊎-elim (λ (q : free + count + 1 ≡ g .n).
-              room-fails-here Inside Once Bits Room D E F G inside (named-once (g .n) some Names inside free count free-is (h .1 yes .1) q) bits
-              (ap (leb (piecesFor (g .l))) (sym counted) ∙ second (eqb (free + count + 1) (g .n)) (leb (piecesFor (g .l)) free) (eq-eqb (free + count + 1) (g .n) q) (sym w ∙ not-of u z)))
-              (λ (d : free + count + 1 ≡ g .n → ⊥).
-              once-fails Inside Once Bits Room D E F G inside (named-twice (g .n) some Names inside free count free-is (h .1 yes .1) d))
-              (eq? (free + count + 1) (g .n))
+-- A used map that is made of the names need not be compared.
+pub bits-made : (g : Geometry) (entry place : ℕ → ℕ) → Bits g entry place (usedBy (namedBy (g .l) entry place)) ≡ true
+bits-made g entry place =
+    let named = namedBy (g .l) entry place in
+    allBelow-is (λ k. Bool·beq (usedBy named k) (usedBy named k)) (8 * usedBytes (g .n)) (λ k h. beq-self (usedBy named k))
 
-          pub numbers-decide : not u ≡ false → (v : Bool) (m : ℕ) → m ≡ piecesFor (g .l) → v ≡ Agree (at places) (at numbers) m tail number → v ≡ Whole
-          unfolding consistent
-          numbers-decide z v m same k =
-              let both = sym w ∙ not-false u z in
-              let total = eqb-true (free + count + 1) (g .n) (and-l (eqb (free + count + 1) (g .n)) (leb (piecesFor (g .l)) free) both) in
-              k ∙ ap (λ (x : ℕ). Agree (at places) (at numbers) x tail number) same
-              ∙ rest-decides Inside Once Bits Room D E F G inside (named-once (g .n) some Names inside free count free-is (h .1 yes .1) total) bits
-              (ap (leb (piecesFor (g .l))) (sym counted) ∙ and-r (eqb (free + count + 1) (g .n)) (leb (piecesFor (g .l)) free) both)
+parted : (s d e f g : Bool) → (s && d && e && f && g) ≡ (s && (d && e && f && g))
+parted true d e f g = refl
+parted false d e f g = refl
+
+-- The whole: names and used bits, then numbers and tail.
+module _ (g : Geometry) (t : Tables) (tail number : ℕ) (r : Bool) (e : r ≡ namesSound g (t .entry) (t .place) (t .isUsed)) where
+  abbrev Numbers : ℕ → Bool
+  Numbers m = Agree (t .place) (t .number) m tail number
+
+  parts : consistent g t tail number ≡ (namesSound g (t .entry) (t .place) (t .isUsed) && Numbers (piecesFor (g .l)))
+  unfolding consistent namesSound
+  parts =
+      let p = piecesFor (g .l) in
+      let newest = best (t .number) p in
+      parted (namesSound g (t .entry) (t .place) (t .isUsed)) (distinct (gathered always (t .number) [] p)) (allBelow (λ q. leb 1 (t .number q)) p)
+      (eqb tail (t .place newest)) (eqb number (t .number newest))
+
+  pub sound-fails : not r ≡ true → false ≡ consistent g t tail number
+  sound-fails f = sym (parts ∙ ap (λ (b : Bool). b && Numbers (piecesFor (g .l))) (sym e ∙ not-of r f))
+
+  pub numbers-decide : not r ≡ false → (m : ℕ) → m ≡ piecesFor (g .l) → (u : Bool) → u ≡ Numbers m → u ≡ consistent g t tail number
+  numbers-decide f m same u v = v ∙ ap Numbers same ∙ sym (parts ∙ ap (λ (b : Bool). b && Numbers (piecesFor (g .l))) (sym e ∙ not-false r f))

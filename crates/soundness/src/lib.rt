@@ -2,11 +2,12 @@
 ghost use mathlib.Core.Path.{_≡_};
 ghost use mathlib.Core.Bool.{true, _&&_, Bool·beq};
 ghost use Prim.Native.Nat.{_+_, _*_, _≤_};
-ghost use lib.ListN.{length};
+ghost use lib.ListN.{length, replicate};
 ghost use lib.Dec.{eqb, leb};
 ghost use Rattle.geometry.specs.Geometry.{piecesFor, usedBytes, geometryFits};
-ghost use Rattle.layout.specs.Bounded.{allBelow};
+ghost use Rattle.layout.specs.Bounded.{at, allBelow};
 ghost use Rattle.volume.specs.Tables.{bitAt, tablesOf, freeSectors, consistent};
+ghost use Rattle.soundness.specs.Parts.{namesSound};
 use geometry::Geometry;
 
 // Whether all was the same so far, and a and b are.
@@ -46,8 +47,78 @@ pub fn once_with_room(g: Geometry, count: u32, free: u32) -> bool
     Geometry::pieces_for(g.l) <= free
 }
 
-// Whether the tables are sound, in a used map with so many free sectors. The sectors that they name are marked in a map of their own,
-// which is then compared.
+// Whether the names lie inside and stand once, the used bits are exactly theirs, and P sectors are free, of which the count is given.
+// The names are marked in a map of their own, which is then compared.
+fn names_agree(
+    g: Geometry,
+    map: &[u32],
+    places: &[u32],
+    used: &[u8],
+    free: u32,
+    marks: &mut [u8],
+) -> bool
+    requires { ⌜ geometryFits g ≡ true ⌝ }
+    requires { ⌜ length (now map) ≡ g .l ⌝ }
+    requires { ⌜ length (now places) ≡ piecesFor (g .l) ⌝ }
+    requires { ⌜ length (now used) ≡ usedBytes (g .n) ⌝ }
+    requires { ⌜ free ≡ freeSectors (g .n) (bitAt (now used)) ⌝ }
+    requires { ⌜ length (now used) ≤ length (now marks) ⌝ }
+    requires { ⌜ now marks ≡ replicate (length (now marks)) 0 ⌝ }
+    ensures { λ r. ⌜ r ≡ namesSound g (at (now (map .entry))) (at (now (places .entry))) (bitAt (now (used .entry))) ⌝ }
+{
+    let named = names::mark_names(marks, g, map, places);
+    if !named.inside {
+        return false;
+    }
+    if !bits_agree(used, marks) {
+        return false;
+    }
+    once_with_room(g, named.count, free)
+}
+
+// The same in a map of 1,024 bits, which is cleared sooner.
+fn few_names_agree(g: Geometry, map: &[u32], places: &[u32], used: &[u8], free: u32) -> bool
+    requires { ⌜ g .n ≤ 1024 ⌝ }
+    requires { ⌜ geometryFits g ≡ true ⌝ }
+    requires { ⌜ length (now map) ≡ g .l ⌝ }
+    requires { ⌜ length (now places) ≡ piecesFor (g .l) ⌝ }
+    requires { ⌜ length (now used) ≡ usedBytes (g .n) ⌝ }
+    requires { ⌜ free ≡ freeSectors (g .n) (bitAt (now used)) ⌝ }
+    ensures { λ r. ⌜ r ≡ namesSound g (at (now (map .entry))) (at (now (places .entry))) (bitAt (now (used .entry))) ⌝ }
+{
+    let mut marks = [0u8; 128];
+    names_agree(g, map, places, used, free, &mut marks)
+}
+
+// The same in a map for any volume.
+fn all_names_agree(g: Geometry, map: &[u32], places: &[u32], used: &[u8], free: u32) -> bool
+    requires { ⌜ geometryFits g ≡ true ⌝ }
+    requires { ⌜ length (now map) ≡ g .l ⌝ }
+    requires { ⌜ length (now places) ≡ piecesFor (g .l) ⌝ }
+    requires { ⌜ length (now used) ≡ usedBytes (g .n) ⌝ }
+    requires { ⌜ free ≡ freeSectors (g .n) (bitAt (now used)) ⌝ }
+    ensures { λ r. ⌜ r ≡ namesSound g (at (now (map .entry))) (at (now (places .entry))) (bitAt (now (used .entry))) ⌝ }
+{
+    let mut marks = [0u8; 8192];
+    names_agree(g, map, places, used, free, &mut marks)
+}
+
+// The same, in the map that suits the volume.
+fn are_names_sound(g: Geometry, map: &[u32], places: &[u32], used: &[u8], free: u32) -> bool
+    requires { ⌜ geometryFits g ≡ true ⌝ }
+    requires { ⌜ length (now map) ≡ g .l ⌝ }
+    requires { ⌜ length (now places) ≡ piecesFor (g .l) ⌝ }
+    requires { ⌜ length (now used) ≡ usedBytes (g .n) ⌝ }
+    requires { ⌜ free ≡ freeSectors (g .n) (bitAt (now used)) ⌝ }
+    ensures { λ r. ⌜ r ≡ namesSound g (at (now (map .entry))) (at (now (places .entry))) (bitAt (now (used .entry))) ⌝ }
+{
+    if g.n <= 1024 {
+        return few_names_agree(g, map, places, used, free);
+    }
+    all_names_agree(g, map, places, used, free)
+}
+
+// Whether the tables are sound, in a used map with so many free sectors.
 pub fn is_consistent(
     g: Geometry,
     map: &[u32],
@@ -66,15 +137,7 @@ pub fn is_consistent(
     requires { ⌜ free ≡ freeSectors (g .n) (bitAt (now used)) ⌝ }
     ensures { λ r. ⌜ r ≡ consistent g (tablesOf (now (map .entry)) (now (places .entry)) (now (numbers .entry)) (now (used .entry))) tail number ⌝ }
 {
-    let mut marks = [0u8; 8192];
-    let named = names::mark_names(&mut marks, g, map, places);
-    if !named.inside {
-        return false;
-    }
-    if !bits_agree(used, &marks) {
-        return false;
-    }
-    if !once_with_room(g, named.count, free) {
+    if !are_names_sound(g, map, places, used, free) {
         return false;
     }
     numbers::numbers_agree(places, numbers, tail, number)

@@ -1,0 +1,2 @@
+-- The parts of "sound".
+pub mod Parts
