@@ -17,7 +17,7 @@ use Rattle.volume.specs.Tables.{bitAt, namedBy, usedBy}
 use Rattle.layout.specs.Entry.{isEmpty, sectorOf}
 use Rattle.names.specs.Marked.{withEntries}
 use Rattle.laws.proofs.Lists.{within-below}
-use Rattle.laws.proofs.Bounded.{bool?, and-l, and-r, not-of, all-elem, allBelow-at, count-hit, count-miss, gathered-hit, gathered-miss}
+use Rattle.laws.proofs.Bounded.{bool?, lt?, eq?, and-l, and-r, not-of, all-elem, allBelow-at, count-hit, count-miss, count-same, gathered-hit, gathered-miss}
 
 pub not-false : (b : Bool) → not b ≡ false → b ≡ true
 not-false true e = refl
@@ -31,35 +31,20 @@ and-true : (a : Bool) → (a && true) ≡ a
 and-true true = refl
 and-true false = refl
 
--- One name, judged beside what was so far.
-pub inside-low : (good : Bool) (n k : ℕ) → k < 1 → false ≡ (good && within 1 (n - 1) k)
-inside-low good n k h = sym (ap (λ (b : Bool). good && b) (within-below 1 (n - 1) k h) ∙ and-false good)
+-- One number, counted or not.
+pub inside-so : (count n k r : ℕ) → 1 ≤ n → n < 4294967296 → r < 4294967296 → (r + 1) % 4294967296 ≡ k → r < n - 1 → count + 1 ≡ cond (within 1 (n - 1) k) (suc count) count
+inside-so count n k r some most small e h =
+    let low : 1 ≤ k = omega arith in
+    let high : k ≤ n - 1 = omega arith in
+    rw add-one (sym (ap₂ (λ (a b : Bool). cond (a && b) (suc count) count) (le-leb 1 k low) (le-leb k (n - 1) high)))
 
-pub inside-high : (good : Bool) (n k : ℕ) → 1 ≤ k → n - 1 < k → false ≡ (good && within 1 (n - 1) k)
-inside-high good n k l h = sym (ap (λ (b : Bool). good && (leb 1 k && b)) (lt-leb k (n - 1) h) ∙ ap (λ (b : Bool). good && b) (and-false (leb 1 k)) ∙ and-false good)
-
-pub inside-so : (good : Bool) (n k : ℕ) → 1 ≤ k → k ≤ n - 1 → good ≡ (good && within 1 (n - 1) k)
-inside-so good n k l h = sym (ap₂ (λ (a b : Bool). good && (a && b)) (le-leb 1 k l) (le-leb k (n - 1) h) ∙ and-true good)
-
-pub empty-so : (good : Bool) (n entry : ℕ) → entry ≡ 0 → good ≡ (good && (isEmpty entry || within 1 (n - 1) (sectorOf entry)))
-empty-so good n entry e = sym (ap (λ (b : Bool). good && (b || within 1 (n - 1) (sectorOf entry))) (eq-eqb entry 0 e) ∙ and-true good)
-
-pub full-so : (good : Bool) (n entry k : ℕ) (r : Bool) → (entry ≡ 0 → ⊥) → k ≡ sectorOf entry → r ≡ (good && within 1 (n - 1) k)
-    → r ≡ (good && (isEmpty entry || within 1 (n - 1) (sectorOf entry)))
-full-so good n entry k r d e f =
-    f ∙ ap (λ (x : ℕ). good && within 1 (n - 1) x) e ∙ sym (ap (λ (b : Bool). good && (b || within 1 (n - 1) (sectorOf entry))) (ne-eqb entry 0 d))
-
--- All of 0 to i - 1, and one more.
-pub judged-none : (test : ℕ → Bool) → true ≡ allBelow test 0
-unfolding allBelow
-judged-none test = refl
-
-pub judged-more : (test : ℕ → Bool) (i : ℕ) (good good′ : Bool) → good ≡ allBelow test i → good′ ≡ (good && test i) → good′ ≡ allBelow test (i + 1)
-unfolding allBelow
-judged-more test i good good′ e g = rw (add-one, ← e) g
-
-pub judged-all : (test : ℕ → Bool) (i n : ℕ) (good : Bool) → i ≡ n → good ≡ allBelow test i → good ≡ allBelow test n
-judged-all test i n good e f = f ∙ ap (allBelow test) e
+pub inside-not : (count n k r : ℕ) → 1 ≤ n → n < 4294967296 → r < 4294967296 → (r + 1) % 4294967296 ≡ k → n - 1 ≤ r → count ≡ cond (within 1 (n - 1) k) (suc count) count
+inside-not count n k r some most small e h =
+    ⊎-elim (λ (z : k < 1). sym (ap (λ (b : Bool). cond b (suc count) count) (within-below 1 (n - 1) k z)))
+    (λ (z : 1 ≤ k).
+    let past : n - 1 < k = omega arith in
+    sym (ap (λ (b : Bool). cond (leb 1 k && b) (suc count) count) (lt-leb k (n - 1) past) ∙ ap (λ (b : Bool). cond b (suc count) count) (and-false (leb 1 k))))
+    (lt? k 1)
 
 pub counted-none : (test : ℕ → Bool) → 0 ≡ countBelow test 0
 unfolding countBelow
@@ -70,6 +55,67 @@ counted-more test i count after e g =
     rw add-one
     (⊎-elim (λ (z : test i ≡ true). g ∙ ap (λ (b : Bool). cond b (suc count) count) z ∙ ap suc e ∙ sym (count-hit test i z))
     (λ (z : test i ≡ false). g ∙ ap (λ (b : Bool). cond b (suc count) count) z ∙ e ∙ sym (count-miss test i z)) (bool? (test i)))
+
+-- Two tests that never both pass: together they pass so many exactly where each number passes one of them.
+module _ (f e : ℕ → Bool) (apart : (k : ℕ) → e k ≡ true → f k ≡ false) where
+  both-few : (m : ℕ) → countBelow f m + countBelow e m ≤ m
+  unfolding countBelow
+  both-few zero = omega arith
+  both-few (suc m) =
+      let before = both-few m in
+      ⊎-elim (λ (z : e m ≡ true).
+      let one = count-hit e m z in
+      let none = count-miss f m (apart m z) in
+      omega arith)
+      (λ (z : e m ≡ false).
+      let none = count-miss e m z in
+      ⊎-elim (λ (y : f m ≡ true). let one = count-hit f m y in omega arith) (λ (y : f m ≡ false). let miss = count-miss f m y in omega arith) (bool? (f m)))
+      (bool? (e m))
+
+  abbrev Total : ℕ → ℕ
+  Total m = countBelow f m + countBelow e m
+
+  pub both-counted : (m : ℕ) → eqb (Total m) m ≡ allBelow (λ k. e k || f k) m
+  unfolding countBelow allBelow
+  both-counted zero = refl
+  both-counted (suc m) =
+      let before = both-counted m in
+      let few = both-few m in
+      ⊎-elim (λ (z : e m ≡ true).
+      let one = count-hit e m z in
+      let none = count-miss f m (apart m z) in
+      same m (let t : Total (suc m) ≡ suc (Total m) = omega arith in t) ∙ before ∙ sym (ap (λ (b : Bool). allBelow (λ k. e k || f k) m && (b || f m)) z ∙ and-true (allBelow (λ k. e k || f k) m)))
+      (λ (z : e m ≡ false).
+      let none = count-miss e m z in
+      ⊎-elim (λ (y : f m ≡ true).
+      let one = count-hit f m y in
+      same m (let t : Total (suc m) ≡ suc (Total m) = omega arith in t) ∙ before
+      ∙ sym (ap₂ (λ (a b : Bool). allBelow (λ k. e k || f k) m && (a || b)) z y ∙ and-true (allBelow (λ k. e k || f k) m)))
+      (λ (y : f m ≡ false).
+      let miss = count-miss f m y in
+      ne-eqb (Total (suc m)) (suc m) (λ (t : Total (suc m) ≡ suc m). omega arith)
+      ∙ sym (ap₂ (λ (a b : Bool). allBelow (λ k. e k || f k) m && (a || b)) z y ∙ and-false (allBelow (λ k. e k || f k) m)))
+      (bool? (f m)))
+      (bool? (e m))
+    where
+      same : (m : ℕ) → Total (suc m) ≡ suc (Total m) → eqb (Total (suc m)) (suc m) ≡ eqb (Total m) m
+      same m t =
+          ⊎-elim (λ (y : Total m ≡ m).
+          eq-eqb (Total (suc m)) (suc m) (t ∙ ap suc y) ∙ sym (eq-eqb (Total m) m y))
+          (λ (d : Total m ≡ m → ⊥).
+          ne-eqb (Total (suc m)) (suc m) (λ (y : Total (suc m) ≡ suc m). d (let w : Total m ≡ m = omega arith in w)) ∙ sym (ne-eqb (Total m) m d)) (eq? (Total m) m)
+
+count-never : (m : ℕ) → countBelow (λ _. false) m ≡ 0
+unfolding countBelow
+count-never zero = refl
+count-never (suc m) = count-never m
+
+-- One test alone.
+pub every-counted : (f : ℕ → Bool) (m : ℕ) → eqb (countBelow f m) m ≡ allBelow f m
+every-counted f m =
+    let none = count-never m in
+    let sum : countBelow f m + countBelow (λ _. false) m ≡ countBelow f m = omega arith in
+    ap (λ (x : ℕ). eqb x m) (sym sum) ∙ both-counted f (λ _. false) (λ k z. absurd (true≢false (sym z))) m
 
 -- Names that are gathered, judged where they come from and not in the list.
 regroup : (a b c : Bool) → (b && (a && c)) ≡ ((a && b) && c)
@@ -149,56 +195,80 @@ module _ (g : Geometry) (entry place : ℕ → ℕ) where
       let every = count-always (piecesFor (g .l)) in
       omega arith
 
-  -- Each below n, as marking needs it.
-  abbrev pub Below : ℕ → ℕ → Type 0
-  Below p l = ((q : ℕ) → q < p → place q < g .n) × ((b : ℕ) → b < l → sectorOf (entry b) < g .n)
+  abbrev EntryInside : ℕ → Bool
+  EntryInside b = within 1 (g .n - 1) (sectorOf (entry b))
 
-  abbrev pub Judged : ℕ → ℕ → Bool → Type 0
-  Judged p l r = (r ≡ all (within 1 (g .n - 1)) Named) × (r ≡ true → Below p l)
+  -- An empty entry's sector is 0.
+  empty-outside : (b : ℕ) → isEmpty (entry b) ≡ true → EntryInside b ≡ false
+  empty-outside b e =
+      let none = eqb-true (entry b) 0 e in
+      let least : sectorOf (entry b) ≡ 0 = ap sectorOf none in
+      within-below 1 (g .n - 1) (sectorOf (entry b)) (omega arith)
 
-  module _ (p l : ℕ) (ps : p ≡ piecesFor (g .l)) (ls : l ≡ g .l) (r : Bool) (f : r ≡ PlacesInside p) where
-    pub places-outside : not r ≡ true → Judged p l false
-    places-outside e =
-        (sym (named-judged ∙ ap (λ (b : Bool). EntriesInside (g .l) && b) (ap PlacesInside (sym ps) ∙ sym f ∙ not-of r e) ∙ and-false (EntriesInside (g .l))),
-        λ (z : false ≡ true). absurd (true≢false (sym z)))
+  module _ (p l : ℕ) (ps : p ≡ piecesFor (g .l)) (ls : l ≡ g .l) where
+    -- The code's tests, by what it counted.
+    module _ (r : ℕ) (f : r ≡ countBelow (λ q. within 1 (g .n - 1) (place q)) p) where
+      places-told : eqb r p ≡ PlacesInside (piecesFor (g .l))
+      places-told =
+          ap (λ (x : ℕ). eqb x p) f ∙ every-counted (λ q. within 1 (g .n - 1) (place q)) p ∙ ap PlacesInside ps
 
-    pub all-judged : 1 ≤ g .n → not r ≡ false → (s : Bool) → s ≡ EntriesInside l → Judged p l s
-    all-judged some e s h = (
-      h ∙ ap EntriesInside ls ∙ sym (and-true (EntriesInside (g .l)))
-          ∙ sym (named-judged ∙ ap (λ (b : Bool). EntriesInside (g .l) && b) (ap PlacesInside (sym ps) ∙ sym f ∙ not-false r e)),
-      λ (z : s ≡ true). (
-        (λ q b.
-            let w = allBelow-at (λ q. within 1 (g .n - 1) (place q)) p (sym f ∙ not-false r e) q b in
-            let top = leb-true (place q) (g .n - 1) (and-r (leb 1 (place q)) (leb (place q) (g .n - 1)) w) in
-            omega arith),
-        (λ b c. entry-below some b (allBelow-at (λ b. isEmpty (entry b) || within 1 (g .n - 1) (sectorOf (entry b))) l (sym h ∙ z) b c)),
-      ),
-    )
-      where
-        entry-below : 1 ≤ g .n → (b : ℕ) → (isEmpty (entry b) || within 1 (g .n - 1) (sectorOf (entry b))) ≡ true → sectorOf (entry b) < g .n
-        entry-below some b w =
-            ⊎-elim (λ (z : isEmpty (entry b) ≡ true).
-            let none = eqb-true (entry b) 0 z in
-            let least : sectorOf (entry b) ≡ 0 = ap sectorOf none in
-            omega arith)
-            (λ (z : isEmpty (entry b) ≡ false).
-            let t = sym (ap (λ (x : Bool). x || within 1 (g .n - 1) (sectorOf (entry b))) z) ∙ w in
-            let top = leb-true (sectorOf (entry b)) (g .n - 1) (and-r (leb 1 (sectorOf (entry b))) (leb (sectorOf (entry b)) (g .n - 1)) t) in
-            omega arith) (bool? (isEmpty (entry b)))
+      pub places-outside : (r ≡ p → ⊥) → false ≡ all (within 1 (g .n - 1)) Named
+      places-outside d =
+          sym (named-judged ∙ ap (λ (b : Bool). EntriesInside (g .l) && b) (sym places-told ∙ ne-eqb r p d) ∙ and-false (EntriesInside (g .l)))
 
+      pub all-judged : r ≡ p → (named empty : ℕ) → named ≡ countBelow EntryInside l → empty ≡ countBelow (λ b. isEmpty (entry b)) l
+          → eqb (named + empty) l ≡ all (within 1 (g .n - 1)) Named
+      all-judged same named empty n e =
+          ap₂ (λ (x y : ℕ). eqb (x + y) l) n e ∙ both-counted EntryInside (λ b. isEmpty (entry b)) empty-outside l ∙ ap EntriesInside ls
+          ∙ sym (named-judged ∙ ap (λ (b : Bool). EntriesInside (g .l) && b) (sym places-told ∙ eq-eqb r p same) ∙ and-true (EntriesInside (g .l)))
+
+    -- Where all lie inside, each is below n, as marking needs it.
+    module _ (inside : all (within 1 (g .n - 1)) Named ≡ true) where
+      places-so : PlacesInside p ≡ true
+      places-so = ap PlacesInside ps ∙ and-r (EntriesInside (g .l)) (PlacesInside (piecesFor (g .l))) (sym named-judged ∙ inside)
+
+      entries-so : EntriesInside l ≡ true
+      entries-so = ap EntriesInside ls ∙ and-l (EntriesInside (g .l)) (PlacesInside (piecesFor (g .l))) (sym named-judged ∙ inside)
+
+      pub place-below : 1 ≤ g .n → (q : ℕ) → q < p → place q < g .n
+      place-below some q b =
+          let w = allBelow-at (λ q. within 1 (g .n - 1) (place q)) p places-so q b in
+          let top = leb-true (place q) (g .n - 1) (and-r (leb 1 (place q)) (leb (place q) (g .n - 1)) w) in
+          omega arith
+
+      entry-told : (b : ℕ) → b < l → not (isEmpty (entry b)) ≡ EntryInside b
+      entry-told b c =
+          let w = allBelow-at (λ b. isEmpty (entry b) || EntryInside b) l entries-so b c in
+          ⊎-elim (λ (z : isEmpty (entry b) ≡ true). ap not z ∙ sym (empty-outside b z))
+          (λ (z : isEmpty (entry b) ≡ false). ap not z ∙ sym (sym (ap (λ (x : Bool). x || EntryInside b) z) ∙ w)) (bool? (isEmpty (entry b)))
+
+      pub entry-below : 1 ≤ g .n → (b : ℕ) → b < l → sectorOf (entry b) < g .n
+      entry-below some b c =
+          ⊎-elim (λ (z : isEmpty (entry b) ≡ true).
+          let none = eqb-true (entry b) 0 z in
+          let least : sectorOf (entry b) ≡ 0 = ap sectorOf none in
+          omega arith)
+          (λ (z : isEmpty (entry b) ≡ false).
+          let t = sym (entry-told b c) ∙ ap not z in
+          let top = leb-true (sectorOf (entry b)) (g .n - 1) (and-r (leb 1 (sectorOf (entry b))) (leb (sectorOf (entry b)) (g .n - 1)) t) in
+          omega arith) (bool? (isEmpty (entry b)))
+
+      pub named-marked : (bits : ℕ → Bool) → bits ≡ usedBy (withEntries entry l (gathered always place [] p))
+          → (named : ℕ) → named ≡ countBelow EntryInside l → Left (g .n) Named true bits (p + named)
+      unfolding namedBy
+      named-marked bits marks named n = (
+        sym inside,
+        λ (z : true ≡ true). (
+          marks ∙ ap₂ (λ (x y : ℕ). usedBy (withEntries entry x (gathered always place [] y))) ls ps,
+          (let total = named-length in
+          let same = n ∙ sym (count-same (λ b. not (isEmpty (entry b))) EntryInside l entry-told) ∙ ap (countBelow (λ b. not (isEmpty (entry b)))) ls in
+          omega arith),
+        ),
+      )
+
+  -- The test, the bits and the count of names as marking leaves them.
   pub named-refused : (r : Bool) → r ≡ all (within 1 (g .n - 1)) Named → not r ≡ true → (bits : ℕ → Bool) (count : ℕ) → Left (g .n) Named false bits count
   named-refused r f e bits count = (sym (not-of r e) ∙ f, λ (z : false ≡ true). absurd (true≢false (sym z)))
-
-  pub named-marked : (p l : ℕ) → p ≡ piecesFor (g .l) → l ≡ g .l → (r : Bool) → r ≡ all (within 1 (g .n - 1)) Named → not r ≡ false
-      → (bits : ℕ → Bool) → bits ≡ usedBy (withEntries entry l (gathered always place [] p))
-      → (count : ℕ) → count ≡ countBelow (λ b. not (isEmpty (entry b))) l → Left (g .n) Named true bits (p + count)
-  unfolding namedBy
-  named-marked p l ps ls r f e bits marks count counts =
-      (sym (not-false r e) ∙ f,
-      λ (z : true ≡ true). (
-        marks ∙ ap₂ (λ (x y : ℕ). usedBy (withEntries entry x (gathered always place [] y))) ls ps,
-        (let total = named-length in let same = counts ∙ ap (countBelow (λ b. not (isEmpty (entry b)))) ls in omega arith),
-      ))
 
 -- The bits with one more name.
 swap : (a b c : Bool) → cond a true (b || c) ≡ (b || (a || c))

@@ -1,11 +1,11 @@
 // The sectors that tables name, marked in a bit map. That none is named twice shows in how many bits are then set.
 ghost use mathlib.Core.Path.{_≡_};
-ghost use mathlib.Core.Bool.{true, cond, not, _&&_, _||_};
+ghost use mathlib.Core.Bool.{true, cond};
 ghost use mathlib.Core.List.{List, []};
 ghost use Prim.Native.Nat.{ℕ, suc, _*_, _-_, _≤_, _<_};
 ghost use lib.ListN.{length, replicate};
 ghost use Rattle.geometry.specs.Geometry.{within, mostBlocks, piecesFor};
-ghost use Rattle.layout.specs.Bounded.{at, allBelow, countBelow, all, always, gathered};
+ghost use Rattle.layout.specs.Bounded.{at, countBelow, all, always, gathered};
 ghost use Rattle.layout.specs.Entry.{isEmpty, sectorOf};
 ghost use Rattle.volume.specs.Tables.{bitAt, namedBy, usedBy};
 ghost use Rattle.names.specs.Marked.{withEntries};
@@ -17,95 +17,88 @@ pub struct Names {
     pub count: u32,
 }
 
-// Whether all were inside so far, and k is a sector from 1 to n - 1.
-fn still_inside(good: bool, n: u32, k: u32) -> bool
+// One more, if k is a sector from 1 to n - 1. Below n - 1 after one is taken from it, 0 wraps: one test for both ends.
+fn with_inside(count: u32, n: u32, k: u32) -> u32
+    requires { ⌜ count < mostBlocks ⌝ }
     requires { ⌜ 1 ≤ n ⌝ }
-    ensures { λ r. ⌜ r ≡ (good && within 1 (n - 1) k) ⌝ }
+    ensures { λ r. ⌜ r ≡ cond (within 1 (n - 1) k) (suc count) count ⌝ }
 {
-    if k < 1 {
-        return false;
+    if std::num::wrapping_sub_u32(k, 1) < n - 1 {
+        return count + 1;
     }
-    if n - 1 < k {
-        return false;
-    }
-    good
+    count
 }
 
-// The same of an entry: it is empty, or its sector is inside.
-fn entry_inside(good: bool, n: u32, entry: u32) -> bool
+// How many places are sectors from 1 to n - 1.
+fn places_inside(n: u32, places: &[u32]) -> u32
     requires { ⌜ 1 ≤ n ⌝ }
-    ensures { λ r. ⌜ r ≡ (good && (isEmpty entry || within 1 (n - 1) (sectorOf entry))) ⌝ }
+    requires { ⌜ length (now places) ≤ mostBlocks ⌝ }
+    ensures { λ r. ⌜ r ≡ countBelow (λ q. within 1 (n - 1) (at (now (places .entry)) q)) (length (now (places .entry))) ⌝ }
 {
-    if entry == 0 {
-        return good;
-    }
-    still_inside(good, n, blocks::sector_of(entry))
-}
-
-// Whether every place is a sector from 1 to n - 1.
-fn places_inside(n: u32, places: &[u32]) -> bool
-    requires { ⌜ 1 ≤ n ⌝ }
-    ensures { λ r. ⌜ r ≡ allBelow (λ q. within 1 (n - 1) (at (now (places .entry)) q)) (length (now (places .entry))) ⌝ }
-{
-    let mut good = true;
+    let mut count: u32 = 0;
     let mut i = 0;
     while i < places.len() {
-        good = still_inside(good, n, places[i]);
+        count = with_inside(count, n, places[i]);
         i += 1;
     }
-    good
+    count
 }
 
-// Whether every entry is empty or names a sector from 1 to n - 1. All are looked at, so that the compiler judges several at a time.
-fn entries_inside(n: u32, map: &[u32]) -> bool
+// How many entries name a sector from 1 to n - 1. All are looked at, so that the compiler judges several at a time.
+fn entries_inside(n: u32, map: &[u32]) -> u32
     requires { ⌜ 1 ≤ n ⌝ }
-    ensures { λ r. ⌜ r ≡ allBelow (λ b. isEmpty (at (now (map .entry)) b) || within 1 (n - 1) (sectorOf (at (now (map .entry)) b))) (length (now (map .entry))) ⌝ }
-{
-    let mut good = true;
-    let mut i = 0;
-    while i < map.len() {
-        good = entry_inside(good, n, map[i]);
-        i += 1;
-    }
-    good
-}
-
-// Whether every name is a sector from 1 to n - 1.
-fn names_inside(g: Geometry, map: &[u32], places: &[u32]) -> bool
-    requires { ⌜ 1 ≤ g .n ⌝ }
-    requires { ⌜ length (now map) ≡ g .l ⌝ }
-    requires { ⌜ length (now places) ≡ piecesFor (g .l) ⌝ }
-    ensures { λ r. ⌜ (r ≡ all (within 1 (g .n - 1)) (namedBy (g .l) (at (now (map .entry))) (at (now (places .entry))))) × (r ≡ true → ((q : ℕ) → q < length (now (places .entry)) → at (now (places .entry)) q < g .n) × ((b : ℕ) → b < length (now (map .entry)) → sectorOf (at (now (map .entry)) b) < g .n)) ⌝ }
-{
-    if !places_inside(g.n, places) {
-        return false;
-    }
-    entries_inside(g.n, map)
-}
-
-// One more, unless the entry is empty.
-fn with_entry(count: u32, entry: u32) -> u32
-    requires { ⌜ count < mostBlocks ⌝ }
-    ensures { λ r. ⌜ r ≡ cond (not (isEmpty entry)) (suc count) count ⌝ }
-{
-    if entry == 0 {
-        return count;
-    }
-    count + 1
-}
-
-// How many entries are not empty.
-fn count_entries(map: &[u32]) -> u32
     requires { ⌜ length (now map) ≤ mostBlocks ⌝ }
-    ensures { λ r. ⌜ (r ≡ countBelow (λ b. not (isEmpty (at (now (map .entry)) b))) (length (now (map .entry)))) × (r ≤ mostBlocks) ⌝ }
+    ensures { λ r. ⌜ (r ≡ countBelow (λ b. within 1 (n - 1) (sectorOf (at (now (map .entry)) b))) (length (now (map .entry)))) × (r ≤ mostBlocks) ⌝ }
 {
     let mut count: u32 = 0;
     let mut i = 0;
     while i < map.len() {
-        count = with_entry(count, map[i]);
+        count = with_inside(count, n, blocks::sector_of(map[i]));
         i += 1;
     }
     count
+}
+
+// One more, if the entry is empty.
+fn with_empty(count: u32, entry: u32) -> u32
+    requires { ⌜ count < mostBlocks ⌝ }
+    ensures { λ r. ⌜ r ≡ cond (isEmpty entry) (suc count) count ⌝ }
+{
+    if entry == 0 {
+        return count + 1;
+    }
+    count
+}
+
+// How many entries are empty.
+fn count_empty(map: &[u32]) -> u32
+    requires { ⌜ length (now map) ≤ mostBlocks ⌝ }
+    ensures { λ r. ⌜ (r ≡ countBelow (λ b. isEmpty (at (now (map .entry)) b)) (length (now (map .entry)))) × (r ≤ mostBlocks) ⌝ }
+{
+    let mut count: u32 = 0;
+    let mut i = 0;
+    while i < map.len() {
+        count = with_empty(count, map[i]);
+        i += 1;
+    }
+    count
+}
+
+// Whether every name is a sector from 1 to n - 1, given how many entries name one: the others are empty then, and every place is
+// one.
+fn all_inside(g: Geometry, map: &[u32], places: &[u32], entries: u32) -> bool
+    requires { ⌜ 1 ≤ g .n ⌝ }
+    requires { ⌜ g .l ≤ mostBlocks ⌝ }
+    requires { ⌜ length (now map) ≡ g .l ⌝ }
+    requires { ⌜ length (now places) ≡ piecesFor (g .l) ⌝ }
+    requires { ⌜ entries ≤ mostBlocks ⌝ }
+    requires { ⌜ entries ≡ countBelow (λ b. within 1 (g .n - 1) (sectorOf (at (now map) b))) (length (now map)) ⌝ }
+    ensures { λ r. ⌜ r ≡ all (within 1 (g .n - 1)) (namedBy (g .l) (at (now (map .entry))) (at (now (places .entry)))) ⌝ }
+{
+    if places_inside(g.n, places) as usize != places.len() {
+        return false;
+    }
+    (entries + count_empty(map)) as usize == map.len()
 }
 
 // Marks the live places beside sector 0.
@@ -158,14 +151,15 @@ pub fn mark_names(marks: &mut [u8], g: Geometry, map: &[u32], places: &[u32]) ->
     requires { ⌜ now marks ≡ replicate (length (now marks)) 0 ⌝ }
     ensures { λ r. ⌜ (r .inside ≡ all (within 1 (g .n - 1)) (namedBy (g .l) (at (now (map .entry))) (at (now (places .entry))))) × (r .inside ≡ true → (bitAt (now (marks .exit)) ≡ usedBy (namedBy (g .l) (at (now (map .entry))) (at (now (places .entry))))) × (r .count ≡ length (namedBy (g .l) (at (now (map .entry))) (at (now (places .entry)))))) × (r .count ≤ 24832) ⌝ }
 {
-    if !names_inside(g, map, places) {
+    let entries = entries_inside(g.n, map);
+    if !all_inside(g, map, places, entries) {
         return Names {
             inside: false,
             count: 0,
         };
     }
     mark_all(marks, map, places);
-    let count = places.len() as u32 + count_entries(map);
+    let count = places.len() as u32 + entries;
     Names {
         inside: true,
         count,
