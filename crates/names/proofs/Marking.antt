@@ -162,10 +162,6 @@ not-not : (a : Bool) → not (not a) ≡ a
 not-not true = refl
 not-not false = refl
 
--- The test, the bits and the count of names as marking leaves them.
-abbrev pub Left : ℕ → List ℕ → Bool → (ℕ → Bool) → ℕ → Type 0
-Left n named r bits count = (r ≡ all (within 1 (n - 1)) named) × (r ≡ true → (bits ≡ usedBy named) × (count ≡ length named))
-
 -- All that tables name: the live places, then the sectors of the entries.
 module _ (g : Geometry) (entry place : ℕ → ℕ) where
   abbrev Named : List ℕ
@@ -253,22 +249,22 @@ module _ (g : Geometry) (entry place : ℕ → ℕ) where
           let top = leb-true (sectorOf (entry b)) (g .n - 1) (and-r (leb 1 (sectorOf (entry b))) (leb (sectorOf (entry b)) (g .n - 1)) t) in
           omega arith) (bool? (isEmpty (entry b)))
 
-      pub named-marked : (bits : ℕ → Bool) → bits ≡ usedBy (withEntries entry l (gathered always place [] p))
-          → (named : ℕ) → named ≡ countBelow EntryInside l → Left (g .n) Named true bits (p + named)
-      unfolding namedBy
-      named-marked bits marks named n = (
-        sym inside,
-        λ (z : true ≡ true). (
-          marks ∙ ap₂ (λ (x y : ℕ). usedBy (withEntries entry x (gathered always place [] y))) ls ps,
-          (let total = named-length in
+      named-counted : (named : ℕ) → named ≡ countBelow EntryInside l → p + named ≡ length Named
+      named-counted named n =
+          let total = named-length in
           let same = n ∙ sym (count-same (λ b. not (isEmpty (entry b))) EntryInside l entry-told) ∙ ap (countBelow (λ b. not (isEmpty (entry b)))) ls in
-          omega arith),
-        ),
-      )
+          omega arith
 
-  -- The test, the bits and the count of names as marking leaves them.
-  pub named-refused : (r : Bool) → r ≡ all (within 1 (g .n - 1)) Named → not r ≡ true → (bits : ℕ → Bool) (count : ℕ) → Left (g .n) Named false bits count
-  named-refused r f e bits count = (sym (not-of r e) ∙ f, λ (z : false ≡ true). absurd (true≢false (sym z)))
+    -- What is told of the names.
+    pub told : 1 ≤ g .n → (r : Bool) → r ≡ all (within 1 (g .n - 1)) Named → (named : ℕ) → named ≡ countBelow EntryInside l
+        → r ≡ true → (p + named ≡ length Named) × ((q : ℕ) → q < p → place q < g .n) × ((b : ℕ) → b < l → sectorOf (entry b) < g .n)
+    told some r f named n e =
+        let inside = sym f ∙ e in
+        (named-counted inside named n, place-below inside some, entry-below inside some)
+
+    pub named-bits : (bits : ℕ → Bool) → bits ≡ usedBy (withEntries entry l (gathered always place [] p)) → bits ≡ usedBy Named
+    unfolding namedBy
+    named-bits bits marks = marks ∙ ap₂ (λ (x y : ℕ). usedBy (withEntries entry x (gathered always place [] y))) ls ps
 
 -- The bits with one more name.
 swap : (a b c : Bool) → cond a true (b || c) ≡ (b || (a || c))

@@ -2,8 +2,9 @@
 ghost use mathlib.Core.Path.{_≡_};
 ghost use mathlib.Core.Bool.{true, cond};
 ghost use mathlib.Core.List.{List, []};
-ghost use Prim.Native.Nat.{ℕ, suc, _*_, _-_, _≤_, _<_};
+ghost use Prim.Native.Nat.{ℕ, suc, _*_, _-_, _/_, _%_, _^_, _≤_, _<_};
 ghost use lib.ListN.{length, replicate};
+ghost use lib.Dec.{eqb};
 ghost use Rattle.geometry.specs.Geometry.{within, mostBlocks, piecesFor};
 ghost use Rattle.layout.specs.Bounded.{at, countBelow, all, always, gathered};
 ghost use Rattle.layout.specs.Entry.{isEmpty, sectorOf};
@@ -129,7 +130,7 @@ fn mark_entries(marks: &mut [u8], map: &[u32])
 }
 
 // Marks sector 0, the live places, and the sectors of the entries.
-fn mark_all(marks: &mut [u8], map: &[u32], places: &[u32])
+pub fn mark_all(marks: &mut [u8], map: &[u32], places: &[u32])
     requires { ⌜ 0 < length (now marks) ⌝ }
     requires { ⌜ now marks ≡ replicate (length (now marks)) 0 ⌝ }
     requires { ⌜ ((q : ℕ) → q < length (now places) → at (now places) q < 8 * length (now marks)) ⌝ }
@@ -141,27 +142,61 @@ fn mark_all(marks: &mut [u8], map: &[u32], places: &[u32])
     mark_entries(marks, map);
 }
 
-// Marks sector 0 and every sector that the tables name, where all of them are inside; otherwise nothing.
-pub fn mark_names(marks: &mut [u8], g: Geometry, map: &[u32], places: &[u32]) -> Names
+// A word of the map with the bit of sector k set.
+fn with_bit(word: u64, k: u32) -> u64
+    ensures { λ r. ⌜ ((j : ℕ) → j < 64 → eqb (r / 2 ^ j % 2) 1 ≡ cond (eqb j (k % 64)) true (eqb (word / 2 ^ j % 2) 1)) ⌝ }
+{
+    word | (1u64 << (k % 64))
+}
+
+// Marks the sectors of the entries in a map of 1,024. The word of 64 bits at hand is kept apart while one name after the other falls
+// into it: in so small a map many do, and each would wait for the one before to be stored.
+fn mark_few_entries(marks: &mut [u8], map: &[u32])
+    requires { ⌜ length (now marks) ≡ 128 ⌝ }
+    requires { ⌜ ((b : ℕ) → b < length (now map) → sectorOf (at (now map) b) < 1024) ⌝ }
+    ensures { λ _. ⌜ ((others : List ℕ) → bitAt (now (marks .entry)) ≡ usedBy others → bitAt (now (marks .exit)) ≡ usedBy (withEntries (at (now (map .entry))) (length (now (map .entry))) others)) ⌝ }
+{
+    let mut hand = 0;
+    let mut held = bits::word_at(marks, 0);
+    let mut i = 0;
+    'entries: while i < map.len() {
+        let k = blocks::sector_of(map[i]);
+        let q = (k / 64) as usize;
+        i += 1;
+        if q == hand {
+            held = with_bit(held, k);
+            continue 'entries;
+        }
+        bits::put_word(marks, hand, held);
+        hand = q;
+        held = with_bit(bits::word_at(marks, q), k);
+    }
+    bits::put_word(marks, hand, held);
+}
+
+// Marks the same in a map of 1,024.
+pub fn mark_few(marks: &mut [u8], map: &[u32], places: &[u32])
+    requires { ⌜ length (now marks) ≡ 128 ⌝ }
+    requires { ⌜ now marks ≡ replicate (length (now marks)) 0 ⌝ }
+    requires { ⌜ ((q : ℕ) → q < length (now places) → at (now places) q < 1024) ⌝ }
+    requires { ⌜ ((b : ℕ) → b < length (now map) → sectorOf (at (now map) b) < 1024) ⌝ }
+    ensures { λ _. ⌜ bitAt (now (marks .exit)) ≡ usedBy (withEntries (at (now (map .entry))) (length (now (map .entry))) (gathered always (at (now (places .entry))) [] (length (now (places .entry))))) ⌝ }
+{
+    bits::set_bit(marks, 0);
+    mark_places(marks, places);
+    mark_few_entries(marks, map);
+}
+
+// Whether every sector that the tables name is one from 1 to n - 1, and then how many names there are.
+pub fn judge_names(g: Geometry, map: &[u32], places: &[u32]) -> Names
     requires { ⌜ 1 ≤ g .n ⌝ }
-    requires { ⌜ g .n ≤ 8 * length (now marks) ⌝ }
     requires { ⌜ g .l ≤ mostBlocks ⌝ }
     requires { ⌜ length (now map) ≡ g .l ⌝ }
     requires { ⌜ length (now places) ≡ piecesFor (g .l) ⌝ }
-    requires { ⌜ now marks ≡ replicate (length (now marks)) 0 ⌝ }
-    ensures { λ r. ⌜ (r .inside ≡ all (within 1 (g .n - 1)) (namedBy (g .l) (at (now (map .entry))) (at (now (places .entry))))) × (r .inside ≡ true → (bitAt (now (marks .exit)) ≡ usedBy (namedBy (g .l) (at (now (map .entry))) (at (now (places .entry))))) × (r .count ≡ length (namedBy (g .l) (at (now (map .entry))) (at (now (places .entry)))))) × (r .count ≤ 24832) ⌝ }
+    ensures { λ r. ⌜ (r .inside ≡ all (within 1 (g .n - 1)) (namedBy (g .l) (at (now (map .entry))) (at (now (places .entry))))) × (r .inside ≡ true → (r .count ≡ length (namedBy (g .l) (at (now (map .entry))) (at (now (places .entry))))) × ((q : ℕ) → q < length (now (places .entry)) → at (now (places .entry)) q < g .n) × ((b : ℕ) → b < length (now (map .entry)) → sectorOf (at (now (map .entry)) b) < g .n)) × (r .count ≤ 24832) ⌝ }
 {
     let entries = entries_inside(g.n, map);
-    if !all_inside(g, map, places, entries) {
-        return Names {
-            inside: false,
-            count: 0,
-        };
-    }
-    mark_all(marks, map, places);
+    let inside = all_inside(g, map, places, entries);
     let count = places.len() as u32 + entries;
-    Names {
-        inside: true,
-        count,
-    }
+    Names { inside, count }
 }

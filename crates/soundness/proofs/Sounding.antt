@@ -3,6 +3,7 @@ use Prim.Native.Nat.{ℕ, _+_, _*_, _-_, _≤_, _<_}
 use mathlib.Core.Path.{_≡_, refl, sym, _∙_, ap, ap₂}
 use mathlib.Core.Bool.{Bool, true, false, not, _&&_, Bool·beq}
 use native.Mathlib.Omega.{arith}
+use lib.ListN.{length}
 use lib.Dec.{eqb, leb}
 use borrow.Author.Tests.{leb-true, eq-eqb, ne-eqb}
 use Rattle.geometry.specs.declared.Geometry.{Geometry}
@@ -14,7 +15,7 @@ use Rattle.soundness.specs.Parts.{namesSound}
 use Rattle.laws.proofs.Bounded.{and-l, and-r, not-of, allBelow-at, allBelow-is, count-le, count-same}
 use Rattle.laws.proofs.Names.{beq-true}
 use Rattle.names.proofs.Counting.{counted-once}
-use Rattle.names.proofs.Marking.{Left, not-false}
+use Rattle.names.proofs.Marking.{not-false}
 use Rattle.numbers.proofs.Numbering.{Agree}
 
 never : (x : Bool) → (x && false) ≡ false
@@ -69,21 +70,22 @@ module _ (g : Geometry) (entry place : ℕ → ℕ) (isUsed : ℕ → Bool) wher
   abbrev Sound : Bool
   Sound = namesSound g entry place isUsed
 
-  module _ (marks : ℕ → Bool) (r : Bool) (count : ℕ) (h : Left (g .n) Names r marks count) where
+  module _ (r : Bool) (h : r ≡ all (within 1 (g .n - 1)) Names) where
     pub names-fail : not r ≡ true → false ≡ Sound
     unfolding namesSound
-    names-fail e = sym (ap (λ (b : Bool). b && distinct Names && Bits && Room) (sym (h .0) ∙ not-of r e))
+    names-fail e = sym (ap (λ (b : Bool). b && distinct Names && Bits && Room) (sym h ∙ not-of r e))
 
     module _ (e : not r ≡ false) where
       inside : all (within 1 (g .n - 1)) Names ≡ true
-      inside = sym (h .0) ∙ not-false r e
+      inside = sym h ∙ not-false r e
 
       -- Bits that were compared with the marks were compared with the names.
-      module _ (s : Bool) (len : ℕ) (long : len ≡ usedBytes (g .n)) (t : s ≡ allBelow (λ k. Bool·beq (isUsed k) (marks k)) (8 * len)) where
+      module _ (s : Bool) (len : ℕ) (long : len ≡ usedBytes (g .n)) (marks : ℕ → Bool) (made : marks ≡ usedBy Names)
+          (t : s ≡ allBelow (λ k. Bool·beq (isUsed k) (marks k)) (8 * len)) where
         compared : s ≡ Bits
         compared =
             t
-            ∙ ap (λ (f : ℕ → Bool). allBelow (λ k. Bool·beq (isUsed k) (f k)) (8 * len)) (h .1 (not-false r e) .0)
+            ∙ ap (λ (f : ℕ → Bool). allBelow (λ k. Bool·beq (isUsed k) (f k)) (8 * len)) made
             ∙ ap (λ (x : ℕ). allBelow (λ k. Bool·beq (isUsed k) (usedBy Names k)) (8 * x)) long
 
         pub bits-fail : not s ≡ true → false ≡ Sound
@@ -96,17 +98,17 @@ module _ (g : Geometry) (entry place : ℕ → ℕ) (isUsed : ℕ → Bool) wher
         bits-pass f = sym compared ∙ not-false s f
 
       -- The used map is that of the names, so its free sectors are theirs.
-      pub room-decides : Bits ≡ true → 1 ≤ g .n → (free : ℕ) → free ≡ freeSectors (g .n) isUsed
+      pub room-decides : Bits ≡ true → 1 ≤ g .n → (free count : ℕ) → free ≡ freeSectors (g .n) isUsed → count ≡ length Names
           → (o : Bool) → o ≡ (eqb (free + count + 1) (g .n) && leb (piecesFor (g .l)) free) → o ≡ Sound
       unfolding namesSound freeSectors
-      room-decides bits some free counted o w =
+      room-decides bits some free count counted named o w =
           let free-is : free ≡ freeSectors (g .n) (usedBy Names) =
           counted
           ∙ count-same (λ k. not (isUsed k)) (λ k. not (usedBy Names k)) (g .n)
           (λ k b. ap not (beq-true (isUsed k) (usedBy Names k)
           (allBelow-at (λ k. Bool·beq (isUsed k) (usedBy Names k)) (8 * usedBytes (g .n)) bits k (omega arith)))) in
           w
-          ∙ ap₂ (λ (a b : Bool). a && b) (counted-once (g .n) some Names inside free count free-is (h .1 (not-false r e) .1)) (ap (leb (piecesFor (g .l))) counted)
+          ∙ ap₂ (λ (a b : Bool). a && b) (counted-once (g .n) some Names inside free count free-is named) (ap (leb (piecesFor (g .l))) counted)
           ∙ sym (ap₂ (λ (a b : Bool). a && distinct Names && b && Room) inside bits ∙ ap (λ (b : Bool). b && Room) (and-true (distinct Names)))
 
 beq-self : (b : Bool) → Bool·beq b b ≡ true

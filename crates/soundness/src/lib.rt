@@ -1,12 +1,15 @@
 // Sound tables ("consistent"), as a call checks them before it changes anything.
 ghost use mathlib.Core.Path.{_≡_};
+ghost use mathlib.Core.List.{[]};
 ghost use mathlib.Core.Bool.{true, _&&_, Bool·beq};
-ghost use Prim.Native.Nat.{_+_, _*_, _≤_};
-ghost use lib.ListN.{length, replicate};
+ghost use Prim.Native.Nat.{ℕ, _+_, _*_, _≤_, _<_};
+ghost use lib.ListN.{length};
 ghost use lib.Dec.{eqb, leb};
-ghost use Rattle.geometry.specs.Geometry.{piecesFor, usedBytes, geometryFits};
-ghost use Rattle.layout.specs.Bounded.{at, allBelow};
-ghost use Rattle.volume.specs.Tables.{bitAt, tablesOf, freeSectors, consistent};
+ghost use Rattle.geometry.specs.Geometry.{mostSectors, piecesFor, usedBytes, geometryFits};
+ghost use Rattle.layout.specs.Bounded.{at, allBelow, always, gathered};
+ghost use Rattle.layout.specs.Entry.{sectorOf};
+ghost use Rattle.volume.specs.Tables.{bitAt, usedBy, tablesOf, freeSectors, consistent};
+ghost use Rattle.names.specs.Marked.{withEntries};
 ghost use Rattle.soundness.specs.Parts.{namesSound};
 use geometry::Geometry;
 
@@ -47,75 +50,62 @@ pub fn once_with_room(g: Geometry, count: u32, free: u32) -> bool
     Geometry::pieces_for(g.l) <= free
 }
 
+// Whether the used bits are exactly sector 0 and the names, which are marked in a map of their own and then compared: in one of 1,024
+// bits, which is cleared sooner.
+fn few_bits_agree(map: &[u32], places: &[u32], used: &[u8]) -> bool
+    requires { ⌜ length (now used) ≤ 128 ⌝ }
+    requires { ⌜ ((q : ℕ) → q < length (now places) → at (now places) q < 1024) ⌝ }
+    requires { ⌜ ((b : ℕ) → b < length (now map) → sectorOf (at (now map) b) < 1024) ⌝ }
+    ensures { λ r. ⌜ r ≡ allBelow (λ k. Bool·beq (bitAt (now (used .entry)) k) (usedBy (withEntries (at (now (map .entry))) (length (now (map .entry))) (gathered always (at (now (places .entry))) [] (length (now (places .entry))))) k)) (8 * length (now (used .entry))) ⌝ }
+{
+    let mut marks = [0u8; 128];
+    names::mark_few(&mut marks, map, places);
+    bits_agree(used, &marks)
+}
+
+// The same for a volume of any size.
+fn all_bits_agree(map: &[u32], places: &[u32], used: &[u8]) -> bool
+    requires { ⌜ length (now used) ≤ 8192 ⌝ }
+    requires { ⌜ ((q : ℕ) → q < length (now places) → at (now places) q < 65536) ⌝ }
+    requires { ⌜ ((b : ℕ) → b < length (now map) → sectorOf (at (now map) b) < 65536) ⌝ }
+    ensures { λ r. ⌜ r ≡ allBelow (λ k. Bool·beq (bitAt (now (used .entry)) k) (usedBy (withEntries (at (now (map .entry))) (length (now (map .entry))) (gathered always (at (now (places .entry))) [] (length (now (places .entry))))) k)) (8 * length (now (used .entry))) ⌝ }
+{
+    let mut marks = [0u8; 8192];
+    names::mark_all(&mut marks, map, places);
+    bits_agree(used, &marks)
+}
+
+// The same, by the size of the volume.
+fn named_bits_agree(n: u32, map: &[u32], places: &[u32], used: &[u8]) -> bool
+    requires { ⌜ n ≤ mostSectors ⌝ }
+    requires { ⌜ length (now used) ≡ usedBytes n ⌝ }
+    requires { ⌜ ((q : ℕ) → q < length (now places) → at (now places) q < n) ⌝ }
+    requires { ⌜ ((b : ℕ) → b < length (now map) → sectorOf (at (now map) b) < n) ⌝ }
+    ensures { λ r. ⌜ r ≡ allBelow (λ k. Bool·beq (bitAt (now (used .entry)) k) (usedBy (withEntries (at (now (map .entry))) (length (now (map .entry))) (gathered always (at (now (places .entry))) [] (length (now (places .entry))))) k)) (8 * length (now (used .entry))) ⌝ }
+{
+    if n <= 1024 {
+        return few_bits_agree(map, places, used);
+    }
+    all_bits_agree(map, places, used)
+}
+
 // Whether the names lie inside and stand once, the used bits are exactly theirs, and P sectors are free, of which the count is given.
-// The names are marked in a map of their own, which is then compared.
-fn names_agree(
-    g: Geometry,
-    map: &[u32],
-    places: &[u32],
-    used: &[u8],
-    free: u32,
-    marks: &mut [u8],
-) -> bool
+fn names_agree(g: Geometry, map: &[u32], places: &[u32], used: &[u8], free: u32) -> bool
     requires { ⌜ geometryFits g ≡ true ⌝ }
     requires { ⌜ length (now map) ≡ g .l ⌝ }
     requires { ⌜ length (now places) ≡ piecesFor (g .l) ⌝ }
     requires { ⌜ length (now used) ≡ usedBytes (g .n) ⌝ }
     requires { ⌜ free ≡ freeSectors (g .n) (bitAt (now used)) ⌝ }
-    requires { ⌜ length (now used) ≤ length (now marks) ⌝ }
-    requires { ⌜ now marks ≡ replicate (length (now marks)) 0 ⌝ }
     ensures { λ r. ⌜ r ≡ namesSound g (at (now (map .entry))) (at (now (places .entry))) (bitAt (now (used .entry))) ⌝ }
 {
-    let named = names::mark_names(marks, g, map, places);
+    let named = names::judge_names(g, map, places);
     if !named.inside {
         return false;
     }
-    if !bits_agree(used, marks) {
+    if !named_bits_agree(g.n, map, places, used) {
         return false;
     }
     once_with_room(g, named.count, free)
-}
-
-// The same in a map of 1,024 bits, which is cleared sooner.
-fn few_names_agree(g: Geometry, map: &[u32], places: &[u32], used: &[u8], free: u32) -> bool
-    requires { ⌜ g .n ≤ 1024 ⌝ }
-    requires { ⌜ geometryFits g ≡ true ⌝ }
-    requires { ⌜ length (now map) ≡ g .l ⌝ }
-    requires { ⌜ length (now places) ≡ piecesFor (g .l) ⌝ }
-    requires { ⌜ length (now used) ≡ usedBytes (g .n) ⌝ }
-    requires { ⌜ free ≡ freeSectors (g .n) (bitAt (now used)) ⌝ }
-    ensures { λ r. ⌜ r ≡ namesSound g (at (now (map .entry))) (at (now (places .entry))) (bitAt (now (used .entry))) ⌝ }
-{
-    let mut marks = [0u8; 128];
-    names_agree(g, map, places, used, free, &mut marks)
-}
-
-// The same in a map for any volume.
-fn all_names_agree(g: Geometry, map: &[u32], places: &[u32], used: &[u8], free: u32) -> bool
-    requires { ⌜ geometryFits g ≡ true ⌝ }
-    requires { ⌜ length (now map) ≡ g .l ⌝ }
-    requires { ⌜ length (now places) ≡ piecesFor (g .l) ⌝ }
-    requires { ⌜ length (now used) ≡ usedBytes (g .n) ⌝ }
-    requires { ⌜ free ≡ freeSectors (g .n) (bitAt (now used)) ⌝ }
-    ensures { λ r. ⌜ r ≡ namesSound g (at (now (map .entry))) (at (now (places .entry))) (bitAt (now (used .entry))) ⌝ }
-{
-    let mut marks = [0u8; 8192];
-    names_agree(g, map, places, used, free, &mut marks)
-}
-
-// The same, in the map that suits the volume.
-fn are_names_sound(g: Geometry, map: &[u32], places: &[u32], used: &[u8], free: u32) -> bool
-    requires { ⌜ geometryFits g ≡ true ⌝ }
-    requires { ⌜ length (now map) ≡ g .l ⌝ }
-    requires { ⌜ length (now places) ≡ piecesFor (g .l) ⌝ }
-    requires { ⌜ length (now used) ≡ usedBytes (g .n) ⌝ }
-    requires { ⌜ free ≡ freeSectors (g .n) (bitAt (now used)) ⌝ }
-    ensures { λ r. ⌜ r ≡ namesSound g (at (now (map .entry))) (at (now (places .entry))) (bitAt (now (used .entry))) ⌝ }
-{
-    if g.n <= 1024 {
-        return few_names_agree(g, map, places, used, free);
-    }
-    all_names_agree(g, map, places, used, free)
 }
 
 // Whether the tables are sound, in a used map with so many free sectors.
@@ -137,7 +127,7 @@ pub fn is_consistent(
     requires { ⌜ free ≡ freeSectors (g .n) (bitAt (now used)) ⌝ }
     ensures { λ r. ⌜ r ≡ consistent g (tablesOf (now (map .entry)) (now (places .entry)) (now (numbers .entry)) (now (used .entry))) tail number ⌝ }
 {
-    if !are_names_sound(g, map, places, used, free) {
+    if !names_agree(g, map, places, used, free) {
         return false;
     }
     numbers::numbers_agree(places, numbers, tail, number)

@@ -8,12 +8,12 @@ use Rattle.soundness.proofs.Sounding.{blocks-some, sound-fails, numbers
 use Rattle.soundness.proofs.is_consistent.Statement.{statement}
 use Rattle.soundness.proofs.is_consistent.Tie as tie
 
-are-names-sound-requires : tie.Need-are-names-sound-requires
-are-names-sound-requires c κs = search needs
+names-agree-requires : tie.Need-names-agree-requires
+names-agree-requires c κs = search needs
 
 returns : tie.Need-returns
 returns c =
-    let s = c .before .are-names-sound in
+    let s = c .before .names-agree in
     let a = c .before .before .before .before .before .before .args in
     sound-fails (a .g) (tablesOf (a .map .now) (a .places .now) (a .numbers .now) (a .used .now)) (a .tail) (a .number) (s .result) (s .ensures) (c .if1 .taken)
 
@@ -27,7 +27,7 @@ numbers-agree-requires c κs =
 
 returns-2 : tie.Need-returns-2
 returns-2 c =
-    let s = c .before .before .are-names-sound in
+    let s = c .before .before .names-agree in
     let n = c .numbers-agree in
     let a = c .before .before .before .before .before .before .before .args in
     let p = c .before .before .before .before .before .before .before .pre in
@@ -35,4 +35,4 @@ returns-2 c =
     (length (a .numbers .now)) (p .1 .1 .1 .0) (n .result) (n .ensures)
 
 pub is-consistent-spec : {M : Type 1} → statement M
-is-consistent-spec = tie.close (tie.spec are-names-sound-requires returns numbers-agree-requires returns-2)
+is-consistent-spec = tie.close (tie.spec names-agree-requires returns numbers-agree-requires returns-2)
