@@ -2,7 +2,7 @@
 use Prim.Native.Nat.{ℕ, zero, suc, _+_, _-_, _%_, _≤_, _<_}
 use mathlib.Core.Path.{_≡_, refl, sym, _∙_, ap, subst}
 use mathlib.Core.Logic.{⊎-elim}
-use mathlib.Core.Bool.{Bool, true, false, _||_}
+use mathlib.Core.Bool.{true, false, not}
 use mathlib.Core.List.{List, [], _∷_}
 use native.Mathlib.Nat.{not-suc-le-zero, le-of-suc-le-suc}
 use native.Mathlib.Numerals.{add-one}
@@ -10,9 +10,9 @@ use native.Mathlib.Omega.{arith}
 use lib.ListN.{length, take, drop, length-drop}
 use lib.Seq.{take-all}
 use lib.Dec.{eqb}
-use borrow.Author.Tests.{eq-eqb, ne-eqb, eqb-true}
-use Rattle.layout.specs.Bounded.{at, anyBelow, elem, distinct, updated}
-use Rattle.laws.proofs.Bounded.{bool?, eq?, clash, or-r, updated-here, updated-other, anyBelow-at, anyBelow-is, elem-cons, elem-here, elem-there, distinct-head, distinct-rest, distinct-cons, not-elem}
+use borrow.Author.Tests.{eq-eqb, not-true}
+use Rattle.layout.specs.Bounded.{at, elem, distinct, gathered, isZero, updated}
+use Rattle.laws.proofs.Bounded.{bool?, lt?, eq?, clash, updated-here, updated-other, gathered-distinct, elem-cons, elem-here, elem-there, distinct-head, distinct-rest, distinct-cons, not-elem}
 
 elem-at : (k : ℕ) (xs : List ℕ) → elem k xs ≡ true → (i : ℕ) × (i < length xs) × (at xs i ≡ k)
 unfolding elem
@@ -53,69 +53,55 @@ pub equal-distinct : (xs : List ℕ) (i j : ℕ) → i < j → j < length xs →
 equal-distinct xs i j h g f =
     ⊎-elim (λ (e : distinct xs ≡ true). absurd (distinct-differ xs e i j h g f)) (λ (e : distinct xs ≡ false). e) (bool? (distinct xs))
 
--- Each number against those before it.
-pub or-same : (found : Bool) (a b : ℕ) → a ≡ b → true ≡ (found || eqb a b)
-or-same found a b e = sym (or-r found (eqb a b) (eq-eqb a b e))
+-- The residues of the numbers below i are marked, in bytes or in bits, and no two agree. 0 stands for none.
+module _ {A : Type 0} (mark : A) (m : ℕ) (num : ℕ → ℕ) where
+  abbrev Some : ℕ → Type 0
+  Some j = num j ≡ 0 → ⊥
 
-pub or-not : (found : Bool) (a b : ℕ) → (a ≡ b → ⊥) → found ≡ (found || eqb a b)
-or-not true a b d = refl
-or-not false a b d = sym (ne-eqb a b d)
-
-module _ (xs : List ℕ) (i : ℕ) where
-  -- Number i stands among those below j.
-  abbrev pub Stands : ℕ → Bool
-  Stands j = anyBelow (λ k. eqb (at xs i) (at xs k)) j
-
-  pub stands-none : false ≡ Stands 0
-  unfolding anyBelow
-  stands-none = refl
-
-  pub stands-next : (j : ℕ) (found found′ : Bool) → found ≡ Stands j → found′ ≡ (found || eqb (at xs i) (at xs j)) → found′ ≡ Stands (j + 1)
-  unfolding anyBelow
-  stands-next j found found′ e f = rw add-one (f ∙ ap (λ (b : Bool). b || eqb (at xs i) (at xs j)) e)
-
-  pub stands-equal : Stands i ≡ true → i < length xs → false ≡ distinct xs
-  stands-equal e h =
-      let s = anyBelow-at (λ k. eqb (at xs i) (at xs k)) i e in
-      sym (equal-distinct xs (s .0) i (s .1) h (sym (eqb-true (at xs i) (at xs (s .0)) (s .2))))
-
-  pub stands-differ : Stands i ≡ false → Differ xs i → Differ xs (i + 1)
-  stands-differ e d j k h g f =
-      ⊎-elim (λ (z : k ≡ i).
-      clash (Stands i) (anyBelow-is (λ m. eqb (at xs i) (at xs m)) i j (omega arith) (eq-eqb (at xs i) (at xs j) (sym (f ∙ ap (at xs) z)))) e)
-      (λ (z : k ≡ i → ⊥). d j k h (omega arith) f) (eq? k i)
-
-pub differ-none : (xs : List ℕ) → Differ xs 0
-differ-none xs j k h g f = absurd (not-suc-le-zero g)
-
--- The residues of the numbers below i are marked, in bytes or in bits, and no two agree.
-module _ {A : Type 0} (mark : A) (xs : List ℕ) where
   pub record Residues (seen : ℕ → A) (i : ℕ) : Type 0 where
-    pub marked : (j : ℕ) → j < i → seen (at xs j % 65536) ≡ mark
-    pub differ : Differ xs i
+    pub marked : (j : ℕ) → j < i → Some j → seen (num j % m) ≡ mark
+    pub differ : (j k : ℕ) → j < k → k < i → Some j → num j ≡ num k → ⊥
 
   pub residues-none : (seen : ℕ → A) → Residues seen 0
-  residues-none seen = record { marked = λ j g. absurd (not-suc-le-zero g); differ = differ-none xs }
+  residues-none seen = record { marked = λ j g. absurd (not-suc-le-zero g); differ = λ j k h g. absurd (not-suc-le-zero g) }
 
-  pub residues-more : (seen after : ℕ → A) (i : ℕ) → Residues seen i → (seen (at xs i % 65536) ≡ mark → ⊥) → after ≡ updated seen (at xs i % 65536) mark
-      → Residues after (i + 1)
-  residues-more seen after i r free u =
-      let k = at xs i % 65536 in
+  pub residues-skip : (seen : ℕ → A) (i : ℕ) → Residues seen i → num i ≡ 0 → Residues seen (i + 1)
+  residues-skip seen i r e =
       record {
-        marked = λ j h.
-            ap (λ (f : ℕ → A). f (at xs j % 65536)) u
-            ∙ ⊎-elim (λ (z : at xs j % 65536 ≡ k). ap (updated seen k mark) z ∙ updated-here seen k mark)
-            (λ (z : at xs j % 65536 ≡ k → ⊥).
-            updated-other seen k (at xs j % 65536) mark z
-            ∙ ⊎-elim (λ (y : j ≡ i). absurd (z (ap (λ (x : ℕ). at xs x % 65536) y))) (λ (y : j ≡ i → ⊥). r .marked j (omega arith)) (eq? j i))
-            (eq? (at xs j % 65536) k);
-        differ = λ j m h g f.
-            ⊎-elim (λ (y : m ≡ i). absurd (free (ap (λ (x : ℕ). seen (x % 65536)) (sym (f ∙ ap (at xs) y)) ∙ r .marked j (omega arith))))
-            (λ (y : m ≡ i → ⊥). r .differ j m h (omega arith) f) (eq? m i);
+        marked = λ j h d.
+            ⊎-elim (λ (y : j ≡ i). absurd (d (ap num y ∙ e))) (λ (y : j ≡ i → ⊥). r .marked j (omega arith) d) (eq? j i);
+        differ = λ j k h g d f.
+            ⊎-elim (λ (y : k ≡ i). d (f ∙ ap num y ∙ e)) (λ (y : k ≡ i → ⊥). r .differ j k h (omega arith) d f) (eq? k i);
       }
 
-  pub residues-distinct : (seen : ℕ → A) (i : ℕ) → Residues seen i → length xs ≤ i → distinct xs ≡ true
-  residues-distinct seen i r h = differ-distinct xs (λ j k a b. r .differ j k a (omega arith))
+  pub residues-more : (seen after : ℕ → A) (i : ℕ) → Residues seen i → (seen (num i % m) ≡ mark → ⊥) → after ≡ updated seen (num i % m) mark
+      → Residues after (i + 1)
+  residues-more seen after i r free u =
+      let k = num i % m in
+      record {
+        marked = λ j h d.
+            ap (λ (f : ℕ → A). f (num j % m)) u
+            ∙ ⊎-elim (λ (z : num j % m ≡ k). ap (updated seen k mark) z ∙ updated-here seen k mark)
+            (λ (z : num j % m ≡ k → ⊥).
+            updated-other seen k (num j % m) mark z
+            ∙ ⊎-elim (λ (y : j ≡ i). absurd (z (ap (λ (x : ℕ). num x % m) y))) (λ (y : j ≡ i → ⊥). r .marked j (omega arith) d) (eq? j i))
+            (eq? (num j % m) k);
+        differ = λ j l h g d f.
+            ⊎-elim (λ (y : l ≡ i). free (ap (λ (x : ℕ). seen (x % m)) (sym (f ∙ ap num y)) ∙ r .marked j (omega arith) d))
+            (λ (y : l ≡ i → ⊥). r .differ j l h (omega arith) d f) (eq? l i);
+      }
+
+  pub residues-distinct : (seen : ℕ → A) (i n : ℕ) → Residues seen i → n ≤ i → distinct (gathered (λ k. not (isZero (num k))) num [] n) ≡ true
+  unfolding distinct elem
+  residues-distinct seen i n r h =
+      gathered-distinct (λ k. not (isZero (num k))) num [] n refl (λ j g e. refl)
+      (λ j k a b e f q.
+      let d : Some j = λ (z : num j ≡ 0). clash (isZero (num j)) (eq-eqb (num j) 0 z) (not-true (isZero (num j)) e) in
+      let d′ : Some k = λ (z : num k ≡ 0). clash (isZero (num k)) (eq-eqb (num k) 0 z) (not-true (isZero (num k)) f) in
+      ⊎-elim (λ (y : j ≡ k). y)
+      (λ (y : j ≡ k → ⊥).
+      ⊎-elim (λ (x : j < k). absurd (r .differ j k x (omega arith) d q)) (λ (x : k ≤ j). absurd (r .differ k j (omega arith) (omega arith) d′ (sym q))) (lt? j k))
+      (eq? j k))
 
 -- What is lent from an index on, given up to the end.
 pub lent-end : (xs : List ℕ) (n from : ℕ) → length xs ≡ n → from ≤ length xs → take (n - from) (drop from xs) ≡ drop from xs

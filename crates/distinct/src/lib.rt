@@ -1,84 +1,76 @@
-// Whether numbers are all different, in time linear in their count whatever they are. A few are compared in pairs. If no two of
-// many agree in their lower 16 bits, they are; otherwise they are chained by their upper 14 bits, and the lower 18 of each chain's
-// numbers are stamped in a table.
+// Whether the numbers of n sectors are all different, in time linear in n whatever they are; 0 stands for none. If no two agree in their
+// lower bits, they are; otherwise they are chained by their upper 14 bits, and the lower 18 of each chain's numbers are stamped in a
+// table.
 ghost use mathlib.Core.Path.{_≡_};
-ghost use mathlib.Core.Bool.{true, false, not, _||_};
+ghost use mathlib.Core.Bool.{true, false, not};
 ghost use mathlib.Core.List.{[]};
 ghost use Prim.Native.Nat.{ℕ, _+_, _≤_, _<_};
 ghost use lib.ListN.{length, drop};
-ghost use lib.Dec.{eqb};
-ghost use Rattle.layout.specs.Bounded.{at, anyBelow, distinct, gathered, isZero};
+ghost use Rattle.layout.specs.Bounded.{at, distinct, gathered, isZero};
 ghost use Rattle.distinct.specs.Chains.{groupOf, lastIn, Back, Linked, Apart};
 
-// Whether one was found already, or a and b are the same.
-fn or_same(found: bool, a: u32, b: u32) -> bool
-    ensures { λ r. ⌜ r ≡ (found || eqb a b) ⌝ }
+// Whether no two numbers agree modulo the bits of the map: then they are all different. If two do, they may be different all the same.
+fn residues_apart(numbers: &[u32], n: u32, seen: &mut [u8]) -> bool
+    requires { ⌜ n ≤ length (now numbers) ⌝ }
+    requires { ⌜ 0 < length (now seen) ⌝ }
+    requires { ⌜ length (now seen) ≤ 8192 ⌝ }
+    ensures { λ r. ⌜ (r ≡ true → distinct (gathered (λ k. not (isZero (at (now (numbers .entry)) k))) (at (now (numbers .entry))) [] n) ≡ true) ⌝ }
 {
-    if a == b {
-        return true;
-    }
-    found
-}
-
-// Whether number i stands before i already. All are looked at, so that the compiler compares several at a time.
-fn stands_before(xs: &[u32], i: usize) -> bool
-    requires { ⌜ i < length (now xs) ⌝ }
-    ensures { λ r. ⌜ r ≡ anyBelow (λ j. eqb (at (now (xs .entry)) i) (at (now (xs .entry)) j)) i ⌝ }
-{
-    let number = xs[i];
-    let mut found = false;
-    let mut j = 0;
-    while j < i {
-        found = or_same(found, number, xs[j]);
-        j += 1;
-    }
-    found
-}
-
-// Whether numbers are all different: each against those before it.
-fn pairs_distinct(xs: &[u32]) -> bool
-    ensures { λ r. ⌜ r ≡ distinct (now (xs .entry)) ⌝ }
-{
-    let mut i = 0;
-    while i < xs.len() {
-        if stands_before(xs, i) {
+    let room = 8 * seen.len();
+    let mut k: u32 = 0;
+    'sectors: while k < n {
+        let number = numbers[k as usize];
+        if number == 0 {
+            k += 1;
+            continue 'sectors;
+        }
+        let residue = number as usize % room;
+        if bits::is_set(seen, residue) {
             return false;
         }
-        i += 1;
+        bits::set_bit(seen, residue);
+        k += 1;
     }
     true
 }
 
-// Whether no two numbers agree in their lower 16 bits: then they are all different. If two do, they may be different all the same.
-fn residues_distinct(xs: &[u32]) -> bool
-    ensures { λ r. ⌜ (r ≡ true → distinct (now (xs .entry)) ≡ true) ⌝ }
+// The same modulo 1,024, for a few numbers: the map is cleared soon.
+fn few_apart(numbers: &[u32], n: u32) -> bool
+    requires { ⌜ n ≤ length (now numbers) ⌝ }
+    ensures { λ r. ⌜ (r ≡ true → distinct (gathered (λ k. not (isZero (at (now (numbers .entry)) k))) (at (now (numbers .entry))) [] n) ≡ true) ⌝ }
 {
-    let mut seen = [0u8; 65536];
-    let mut i = 0;
-    while i < xs.len() {
-        let k = (xs[i] % 65536) as usize;
-        if seen[k] == 1 {
-            return false;
-        }
-        seen[k] = 1;
-        i += 1;
-    }
-    true
+    let mut seen = [0u8; 128];
+    residues_apart(numbers, n, &mut seen)
 }
 
-// The same by bits: each number takes longer, and the table is cleared sooner.
-fn few_residues_distinct(xs: &[u32]) -> bool
-    ensures { λ r. ⌜ (r ≡ true → distinct (now (xs .entry)) ≡ true) ⌝ }
+// The same modulo 65,536.
+fn some_apart(numbers: &[u32], n: u32) -> bool
+    requires { ⌜ n ≤ length (now numbers) ⌝ }
+    ensures { λ r. ⌜ (r ≡ true → distinct (gathered (λ k. not (isZero (at (now (numbers .entry)) k))) (at (now (numbers .entry))) [] n) ≡ true) ⌝ }
 {
     let mut seen = [0u8; 8192];
-    let mut i = 0;
-    while i < xs.len() {
-        let k = (xs[i] % 65536) as usize;
-        if bits::is_set(&seen, k) {
+    residues_apart(numbers, n, &mut seen)
+}
+
+// The same modulo 65,536, in bytes: each number takes less time, and the table is cleared later.
+fn many_apart(numbers: &[u32], n: u32) -> bool
+    requires { ⌜ n ≤ length (now numbers) ⌝ }
+    ensures { λ r. ⌜ (r ≡ true → distinct (gathered (λ k. not (isZero (at (now (numbers .entry)) k))) (at (now (numbers .entry))) [] n) ≡ true) ⌝ }
+{
+    let mut seen = [0u8; 65536];
+    let mut k: u32 = 0;
+    'sectors: while k < n {
+        let number = numbers[k as usize];
+        if number == 0 {
+            k += 1;
+            continue 'sectors;
+        }
+        let residue = (number % 65536) as usize;
+        if seen[residue] == 1 {
             return false;
         }
-        bits::set_bit(&mut seen, k);
-        i += 1;
+        seen[residue] = 1;
+        k += 1;
     }
     true
 }
@@ -143,8 +135,8 @@ fn groups_distinct(xs: &[u32], heads: &[u32], next: &[u16], stamps: &mut [u16]) 
     true
 }
 
-// Whether words are all different, by chains: never more than three steps for a word.
-fn chains_distinct(xs: &[u32]) -> bool
+// Whether words are all different, by chains: never more than three steps for one.
+fn words_distinct(xs: &[u32]) -> bool
     requires { ⌜ length (now xs) ≤ 65536 ⌝ }
     ensures { λ r. ⌜ r ≡ distinct (now (xs .entry)) ⌝ }
 {
@@ -153,42 +145,6 @@ fn chains_distinct(xs: &[u32]) -> bool
     let mut stamps = [0u16; 262144];
     link(xs, &mut heads, &mut next);
     groups_distinct(xs, &heads, &next, &mut stamps)
-}
-
-// Whether words are all different, by residues in bits first.
-fn few_distinct(xs: &[u32]) -> bool
-    requires { ⌜ length (now xs) ≤ 65536 ⌝ }
-    ensures { λ r. ⌜ r ≡ distinct (now (xs .entry)) ⌝ }
-{
-    if few_residues_distinct(xs) {
-        return true;
-    }
-    chains_distinct(xs)
-}
-
-// Whether words are all different, by residues in bytes first.
-fn many_distinct(xs: &[u32]) -> bool
-    requires { ⌜ length (now xs) ≤ 65536 ⌝ }
-    ensures { λ r. ⌜ r ≡ distinct (now (xs .entry)) ⌝ }
-{
-    if residues_distinct(xs) {
-        return true;
-    }
-    chains_distinct(xs)
-}
-
-// Whether words are all different. The fewer they are, the smaller is the table that is cleared for them; for a few it is none.
-fn words_distinct(xs: &[u32]) -> bool
-    requires { ⌜ length (now xs) ≤ 65536 ⌝ }
-    ensures { λ r. ⌜ r ≡ distinct (now (xs .entry)) ⌝ }
-{
-    if xs.len() < 64 {
-        return pairs_distinct(xs);
-    }
-    if xs.len() <= 1024 {
-        return few_distinct(xs);
-    }
-    many_distinct(xs)
 }
 
 // Gathers the numbers that are not 0 at the end of xs, the last first, and says where they begin.
@@ -212,13 +168,54 @@ fn gather(numbers: &[u32], n: u32, xs: &mut [u32]) -> usize
     from
 }
 
-// Whether no two of the n sectors have one number; 0 stands for none. The numbers are gathered in xs.
-pub fn numbers_distinct(numbers: &[u32], n: u32, xs: &mut [u32]) -> bool
+// Whether the numbers are all different, by chains. Its tables are large: it is called from two places, so that the compiler keeps
+// them out of its callers' frames.
+fn chains_distinct(numbers: &[u32], n: u32) -> bool
     requires { ⌜ n ≤ length (now numbers) ⌝ }
-    requires { ⌜ n ≤ length (now xs) ⌝ }
-    requires { ⌜ length (now xs) ≤ 65536 ⌝ }
+    requires { ⌜ n ≤ 65536 ⌝ }
     ensures { λ r. ⌜ r ≡ distinct (gathered (λ k. not (isZero (at (now (numbers .entry)) k))) (at (now (numbers .entry))) [] n) ⌝ }
 {
-    let from = gather(numbers, n, xs);
+    let mut xs = [0u32; 65536];
+    let from = gather(numbers, n, &mut xs);
     words_distinct(&xs[from..])
+}
+
+// Whether the numbers of at most 1,024 sectors are all different.
+fn few_distinct(numbers: &[u32], n: u32) -> bool
+    requires { ⌜ n ≤ length (now numbers) ⌝ }
+    requires { ⌜ n ≤ 65536 ⌝ }
+    ensures { λ r. ⌜ r ≡ distinct (gathered (λ k. not (isZero (at (now (numbers .entry)) k))) (at (now (numbers .entry))) [] n) ⌝ }
+{
+    if few_apart(numbers, n) {
+        return true;
+    }
+    if some_apart(numbers, n) {
+        return true;
+    }
+    chains_distinct(numbers, n)
+}
+
+// Whether the numbers of any number of sectors are all different.
+fn many_distinct(numbers: &[u32], n: u32) -> bool
+    requires { ⌜ n ≤ length (now numbers) ⌝ }
+    requires { ⌜ n ≤ 65536 ⌝ }
+    ensures { λ r. ⌜ r ≡ distinct (gathered (λ k. not (isZero (at (now (numbers .entry)) k))) (at (now (numbers .entry))) [] n) ⌝ }
+{
+    if many_apart(numbers, n) {
+        return true;
+    }
+    chains_distinct(numbers, n)
+}
+
+// Whether no two of the n sectors have one number; 0 stands for none. The fewer they are, the smaller is the table that is cleared
+// for them.
+pub fn numbers_distinct(numbers: &[u32], n: u32) -> bool
+    requires { ⌜ n ≤ length (now numbers) ⌝ }
+    requires { ⌜ n ≤ 65536 ⌝ }
+    ensures { λ r. ⌜ r ≡ distinct (gathered (λ k. not (isZero (at (now (numbers .entry)) k))) (at (now (numbers .entry))) [] n) ⌝ }
+{
+    if n <= 1024 {
+        return few_distinct(numbers, n);
+    }
+    many_distinct(numbers, n)
 }

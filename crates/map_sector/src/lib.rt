@@ -7,8 +7,8 @@ ghost use lib.ListN.{length, drop};
 ghost use lib.Dec.{eqb};
 ghost use Rattle.geometry.specs.Geometry.{sectorBytes, piecesFor, entriesPerPiece, branchRoom};
 ghost use Rattle.layout.specs.Bounded.{at, all, isZero};
-ghost use Rattle.layout.specs.Word.{wordsOf};
-ghost use Rattle.layout.specs.MapSector.{branchWords, entryWords, branchesFit, valid};
+ghost use Rattle.layout.specs.Word.{wordsOf, startsWith};
+ghost use Rattle.layout.specs.MapSector.{mapMark, branchWords, entryWords, branchesFit, valid};
 ghost use Rattle.map_sector.specs.Header.{fieldsFit, headerFits};
 use geometry::Geometry;
 
@@ -132,15 +132,13 @@ fn entries_fit(s: &[u8], l: u32) -> bool
     words::words_zero(s, 32 + held as usize, 128)
 }
 
-// Whether s is a map sector of a volume of n sectors and l blocks. Most sectors are decided by their first bytes; the sum comes last.
-pub fn is_valid(s: &[u8], g: Geometry) -> bool
+// Of a sector with the mark: whether it is signed. The sum comes last, being the dearest test.
+fn marked_valid(s: &[u8], g: Geometry) -> bool
     requires { ⌜ length (now s) ≡ sectorBytes ⌝ }
     requires { ⌜ 1 ≤ g .n ⌝ }
+    requires { ⌜ startsWith mapMark (now s) ≡ true ⌝ }
     ensures { λ r. ⌜ r ≡ valid g (now (s .entry)) (wordsOf (now (s .entry))) ⌝ }
 {
-    if !marks::starts_with(s, &marks::MAP_MARK) {
-        return false;
-    }
     if !header_fits(s, g.l) {
         return false;
     }
@@ -151,4 +149,16 @@ pub fn is_valid(s: &[u8], g: Geometry) -> bool
         return false;
     }
     sums::word_sum(s) == 0
+}
+
+// Whether s is a map sector of a volume of n sectors and l blocks. Most sectors are decided by their first bytes; the sum comes last.
+pub fn is_valid(s: &[u8], g: Geometry) -> bool
+    requires { ⌜ length (now s) ≡ sectorBytes ⌝ }
+    requires { ⌜ 1 ≤ g .n ⌝ }
+    ensures { λ r. ⌜ r ≡ valid g (now (s .entry)) (wordsOf (now (s .entry))) ⌝ }
+{
+    if !marks::starts_with(s, &marks::MAP_MARK) {
+        return false;
+    }
+    marked_valid(s, g)
 }

@@ -1,53 +1,49 @@
--- The tables start with zeros.
+-- What was gathered are the numbers that are not 0.
 use Prim.Native.Nat.{ℕ}
-use mathlib.Core.Path.{_∙_}
-use native.Mathlib.Omega.{arith}
+use mathlib.Core.Path.{_∙_, ap}
 use lib.ListN.{length-replicate}
-use Rattle.laws.proofs.Filling.{zeros-get}
+use Rattle.layout.specs.Bounded.{distinct}
+use Rattle.distinct.proofs.Equal.{lent-end}
 use borrow.Author.Needs.{needs}
 use Rattle.distinct.proofs.chains_distinct.Statement.{statement}
 use Rattle.distinct.proofs.chains_distinct.Tie as tie
 
-slice-aggregate-link : tie.Need-slice-aggregate-link
-slice-aggregate-link c = search needs
+slice-aggregate-gather : tie.Need-slice-aggregate-gather
+slice-aggregate-gather c = search needs
 
-slice-aggregate-link-2 : tie.Need-slice-aggregate-link-2
-slice-aggregate-link-2 c = search needs
+gather-requires : tie.Need-gather-requires
+gather-requires c κs = search needs
 
-link-requires : tie.Need-link-requires
-link-requires c κs =
-    let the-pre = c .before .before .before .pre in
-    let n = length-replicate {A = ℕ} 65536 0 in
-    (the-pre, (length-replicate {A = ℕ} 16384 0, (zeros-get 16384, omega arith)))
+mul-words-distinct : tie.Need-mul-words-distinct
+mul-words-distinct c = search needs
 
-slice-aggregate-groups-distinct : tie.Need-slice-aggregate-groups-distinct
-slice-aggregate-groups-distinct c = search needs
+sub-words-distinct : tie.Need-sub-words-distinct
+sub-words-distinct c = search needs
 
-slice-aggregate-groups-distinct-2 : tie.Need-slice-aggregate-groups-distinct-2
-slice-aggregate-groups-distinct-2 c = search needs
+part-words-distinct-start : tie.Need-part-words-distinct-start
+part-words-distinct-start c = search needs
 
-slice-aggregate-groups-distinct-3 : tie.Need-slice-aggregate-groups-distinct-3
-slice-aggregate-groups-distinct-3 c = search needs
+part-words-distinct-end : tie.Need-part-words-distinct-end
+part-words-distinct-end c = search needs
 
-groups-distinct-requires : tie.Need-groups-distinct-requires
-groups-distinct-requires c κs =
-    let the-link = c .before .before .before .before .before .link in
-    let the-pre = c .before .before .before .before .before .before .before .before .before .pre in
-    let n = the-link .kept .1 .1 .0 ∙ length-replicate {A = ℕ} 65536 0 in
-    (omega arith, (the-link .kept .1 .0 ∙ length-replicate {A = ℕ} 16384 0, (the-link .ensures, (length-replicate {A = ℕ} 262144 0, λ k. let z = zeros-get 262144 k in omega arith))))
+words-distinct-requires : tie.Need-words-distinct-requires
+words-distinct-requires c κs = search needs
 
 returns : tie.Need-returns
-returns c = search needs
+returns c =
+    let g = c .before .before .before .before .gather in
+    let long = g .kept .1 .1 .0 ∙ length-replicate {A = ℕ} 65536 0 in
+    c .words-distinct .ensures ∙ ap distinct (lent-end _ 65536 (g .result) long (g .ensures .0) ∙ g .ensures .1)
 
 pub chains-distinct-spec : {M : Type 1} → statement M
 chains-distinct-spec =
     tie.close
     (tie.spec
-    slice-aggregate-link
-    slice-aggregate-link-2
-    link-requires
-    slice-aggregate-groups-distinct
-    slice-aggregate-groups-distinct-2
-    slice-aggregate-groups-distinct-3
-    groups-distinct-requires
+    slice-aggregate-gather
+    gather-requires
+    mul-words-distinct
+    sub-words-distinct
+    part-words-distinct-start
+    part-words-distinct-end
+    words-distinct-requires
     returns)

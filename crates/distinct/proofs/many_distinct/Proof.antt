@@ -4,13 +4,11 @@ use borrow.Author.Needs.{needs}
 use Rattle.distinct.proofs.many_distinct.Statement.{statement}
 use Rattle.distinct.proofs.many_distinct.Tie as tie
 
-residues-distinct-requires : tie.Need-residues-distinct-requires
-residues-distinct-requires c κs = search needs
+many-apart-requires : tie.Need-many-apart-requires
+many-apart-requires c κs = search needs
 
 returns : tie.Need-returns
-returns c =
-    let the-residues-distinct = c .before .residues-distinct in
-    sym (the-residues-distinct .ensures (c .if1 .taken))
+returns c = sym (c .before .many-apart .ensures (c .if1 .taken))
 
 chains-distinct-requires : tie.Need-chains-distinct-requires
 chains-distinct-requires c κs = search needs
@@ -19,5 +17,4 @@ returns-2 : tie.Need-returns-2
 returns-2 c = search needs
 
 pub many-distinct-spec : {M : Type 1} → statement M
-many-distinct-spec =
-    tie.close (tie.spec residues-distinct-requires returns chains-distinct-requires returns-2)
+many-distinct-spec = tie.close (tie.spec many-apart-requires returns chains-distinct-requires returns-2)

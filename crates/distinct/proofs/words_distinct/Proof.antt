@@ -1,0 +1,53 @@
+-- The tables start with zeros.
+use Prim.Native.Nat.{ℕ}
+use mathlib.Core.Path.{_∙_}
+use native.Mathlib.Omega.{arith}
+use lib.ListN.{length-replicate}
+use Rattle.laws.proofs.Filling.{zeros-get}
+use borrow.Author.Needs.{needs}
+use Rattle.distinct.proofs.words_distinct.Statement.{statement}
+use Rattle.distinct.proofs.words_distinct.Tie as tie
+
+slice-aggregate-link : tie.Need-slice-aggregate-link
+slice-aggregate-link c = search needs
+
+slice-aggregate-link-2 : tie.Need-slice-aggregate-link-2
+slice-aggregate-link-2 c = search needs
+
+link-requires : tie.Need-link-requires
+link-requires c κs =
+    let the-pre = c .before .before .before .pre in
+    let n = length-replicate {A = ℕ} 65536 0 in
+    (the-pre, (length-replicate {A = ℕ} 16384 0, (zeros-get 16384, omega arith)))
+
+slice-aggregate-groups-distinct : tie.Need-slice-aggregate-groups-distinct
+slice-aggregate-groups-distinct c = search needs
+
+slice-aggregate-groups-distinct-2 : tie.Need-slice-aggregate-groups-distinct-2
+slice-aggregate-groups-distinct-2 c = search needs
+
+slice-aggregate-groups-distinct-3 : tie.Need-slice-aggregate-groups-distinct-3
+slice-aggregate-groups-distinct-3 c = search needs
+
+groups-distinct-requires : tie.Need-groups-distinct-requires
+groups-distinct-requires c κs =
+    let the-link = c .before .before .before .before .before .link in
+    let the-pre = c .before .before .before .before .before .before .before .before .before .pre in
+    let n = the-link .kept .1 .1 .0 ∙ length-replicate {A = ℕ} 65536 0 in
+    (omega arith, (the-link .kept .1 .0 ∙ length-replicate {A = ℕ} 16384 0, (the-link .ensures, (length-replicate {A = ℕ} 262144 0, λ k. let z = zeros-get 262144 k in omega arith))))
+
+returns : tie.Need-returns
+returns c = search needs
+
+pub words-distinct-spec : {M : Type 1} → statement M
+words-distinct-spec =
+    tie.close
+    (tie.spec
+    slice-aggregate-link
+    slice-aggregate-link-2
+    link-requires
+    slice-aggregate-groups-distinct
+    slice-aggregate-groups-distinct-2
+    slice-aggregate-groups-distinct-3
+    groups-distinct-requires
+    returns)
