@@ -15,12 +15,13 @@ use Rattle.geometry.specs.declared.Geometry.{Geometry}
 use Rattle.geometry.specs.Geometry.{within, piecesFor}
 use Rattle.layout.specs.Bounded.{at, all, updated}
 use Rattle.layout.specs.Word.{wordsOf}
-use Rattle.layout.specs.MapSector.{View, branchWords, fields}
+use Rattle.layout.specs.MapSector.{View, branchWords, fields, valid}
 use Rattle.volume.specs.Commit.{branchesIn}
 use Rattle.volume.specs.Recover.{numberIn, imageView, Walk, waitingNumber, targetWaits, targetsRead}
 use Rattle.laws.proofs.Bounded.{bool?, eq?, and-l, and-r, cond-true, cond-false, at-set, all-at}
 use Rattle.laws.proofs.Words.{length-wordsOf}
 use Rattle.signed.specs.Signed.{isSigned, signedAt, below}
+use Rattle.signed.proofs.SignedLaws.{is-signed}
 use Rattle.signed.proofs.ViewLaws.{view-signed, view-unsigned, signed-piece, signed-count, signed-branches}
 use Rattle.tournament.specs.Tournament.{ranked, keyAt, Tournament, Replayed, Keyed}
 use Rattle.tournament.proofs.TournamentLaws.{changed-to}
@@ -60,6 +61,11 @@ rekeyed n pieces p number key key′ tree tree′ e few inside room s r same =
 pub signed-here : (g : Geometry) (image : ℕ → List ℕ) (k : ℕ) (r v : Bool) → k < g .n → r ≡ isSigned g image k → r ≡ v → signedAt g image k ≡ v
 unfolding signedAt below
 signed-here g image k r v h e f = rw (lt-ltb k (g .n) h) (sym e ∙ f)
+
+-- As its bytes are judged.
+pub judged-here : (g : Geometry) (image : ℕ → List ℕ) (k : ℕ) (s : List ℕ) (r v : Bool) → k < g .n → s ≡ image k → r ≡ valid g s (wordsOf s) → r ≡ v
+    → signedAt g image k ≡ v
+judged-here g image k s r v h is e f = signed-here g image k r v h (sym (is-signed g image k s r r is e refl)) f
 
 module _ (g : Geometry) (image : ℕ → List ℕ) (holder : ℕ) (waiting tree taken : List ℕ) (w : Waits (piecesFor (g .l)) (imageView g image) waiting tree taken)
     (target : ℕ) where

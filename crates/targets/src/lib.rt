@@ -1,4 +1,4 @@
-// The targets that a walk reads: whether a sector is signed, and which sector then waits.
+// The targets that a walk reads, and which of them then wait.
 ghost use mathlib.Core.Path.{_≡_};
 ghost use mathlib.Core.Bool.{true};
 ghost use Prim.Native.Nat.{_*_, _<_, _≤_};
@@ -7,28 +7,9 @@ ghost use Rattle.geometry.specs.Geometry.{sectorBytes, piecesFor};
 ghost use Rattle.volume.specs.Tables.{sectorAt};
 ghost use Rattle.volume.specs.Commit.{branchesIn};
 ghost use Rattle.volume.specs.Recover.{imageView, numberIn, targetWaits, targetsRead};
-ghost use Rattle.signed.specs.Signed.{isSigned, signedAt};
-ghost use Rattle.targets.specs.Waiting.{Known, walkOf, mayWait, Waits};
+ghost use Rattle.signed.specs.Signed.{signedAt};
+ghost use Rattle.targets.specs.Waiting.{walkOf, mayWait, Waits};
 use geometry::Geometry;
-
-// Whether sector k is signed. That is found when it is first seen, and kept.
-fn is_signed(seen: &mut [u8], good: &mut [u8], image: &[u8], g: Geometry, k: u32) -> bool
-    requires { ⌜ length (now image) ≡ sectorBytes * g .n ⌝ }
-    requires { ⌜ k < g .n ⌝ }
-    requires { ⌜ Known g (sectorAt (now image)) (now seen) (now good) ⌝ }
-    ensures { λ r. ⌜ (r ≡ isSigned g (sectorAt (now (image .entry))) k) × Known g (sectorAt (now (image .entry))) (now (seen .exit)) (now (good .exit)) ⌝ }
-{
-    if bits::is_set(seen, k as usize) {
-        return bits::is_set(good, k as usize);
-    }
-    bits::set_bit(seen, k as usize);
-    let s = images::sector(image, k as usize);
-    if !map_sector::is_valid(s, g) {
-        return false;
-    }
-    bits::set_bit(good, k as usize);
-    true
-}
 
 // Whether a target waits if it is signed: it is lower in number than the holder, of a piece not done, and newer than what waits for the piece.
 fn may_wait(tree: &[u64], taken: &[u32], holder: u32, number: u32, p: usize) -> bool
@@ -50,8 +31,6 @@ fn may_wait(tree: &[u64], taken: &[u32], holder: u32, number: u32, p: usize) -> 
 
 // Reads a target. One that would not wait is not summed: it changes nothing, signed or not.
 fn read_target(
-    seen: &mut [u8],
-    good: &mut [u8],
     waiting: &mut [u32],
     tree: &mut [u64],
     taken: &[u32],
@@ -63,9 +42,8 @@ fn read_target(
     requires { ⌜ length (now image) ≡ sectorBytes * g .n ⌝ }
     requires { ⌜ 1 ≤ target ⌝ }
     requires { ⌜ target < g .n ⌝ }
-    requires { ⌜ Known g (sectorAt (now image)) (now seen) (now good) ⌝ }
     requires { ⌜ Waits (piecesFor (g .l)) (imageView g (sectorAt (now image))) (now waiting) (now tree) (now taken) ⌝ }
-    ensures { λ _. ⌜ (walkOf (now (waiting .exit)) (now (taken .entry)) ≡ targetWaits (imageView g (sectorAt (now (image .entry)))) holder (walkOf (now (waiting .entry)) (now (taken .entry))) target (imageView g (sectorAt (now (image .entry))) target)) × Known g (sectorAt (now (image .entry))) (now (seen .exit)) (now (good .exit)) × Waits (piecesFor (g .l)) (imageView g (sectorAt (now (image .entry)))) (now (waiting .exit)) (now (tree .exit)) (now (taken .entry)) ⌝ }
+    ensures { λ _. ⌜ (walkOf (now (waiting .exit)) (now (taken .entry)) ≡ targetWaits (imageView g (sectorAt (now (image .entry)))) holder (walkOf (now (waiting .entry)) (now (taken .entry))) target (imageView g (sectorAt (now (image .entry))) target)) × Waits (piecesFor (g .l)) (imageView g (sectorAt (now (image .entry)))) (now (waiting .exit)) (now (tree .exit)) (now (taken .entry)) ⌝ }
 {
     let s = images::sector(image, target as usize);
     let number = map_sector::number_of(s);
@@ -73,7 +51,7 @@ fn read_target(
     if !may_wait(tree, taken, holder, number, p) {
         return;
     }
-    if !is_signed(seen, good, image, g, target) {
+    if !map_sector::is_valid(s, g) {
         return;
     }
     waiting[p] = target;
@@ -82,8 +60,6 @@ fn read_target(
 
 // Reads the branches of sector k, in their order.
 pub fn read_targets(
-    seen: &mut [u8],
-    good: &mut [u8],
     waiting: &mut [u32],
     tree: &mut [u64],
     taken: &[u32],
@@ -93,9 +69,8 @@ pub fn read_targets(
 )
     requires { ⌜ length (now image) ≡ sectorBytes * g .n ⌝ }
     requires { ⌜ signedAt g (sectorAt (now image)) k ≡ true ⌝ }
-    requires { ⌜ Known g (sectorAt (now image)) (now seen) (now good) ⌝ }
     requires { ⌜ Waits (piecesFor (g .l)) (imageView g (sectorAt (now image))) (now waiting) (now tree) (now taken) ⌝ }
-    ensures { λ _. ⌜ (walkOf (now (waiting .exit)) (now (taken .entry)) ≡ targetsRead (imageView g (sectorAt (now (image .entry)))) (numberIn (imageView g (sectorAt (now (image .entry))) k)) (walkOf (now (waiting .entry)) (now (taken .entry))) (branchesIn (imageView g (sectorAt (now (image .entry))) k))) × Known g (sectorAt (now (image .entry))) (now (seen .exit)) (now (good .exit)) × Waits (piecesFor (g .l)) (imageView g (sectorAt (now (image .entry)))) (now (waiting .exit)) (now (tree .exit)) (now (taken .entry)) ⌝ }
+    ensures { λ _. ⌜ (walkOf (now (waiting .exit)) (now (taken .entry)) ≡ targetsRead (imageView g (sectorAt (now (image .entry)))) (numberIn (imageView g (sectorAt (now (image .entry))) k)) (walkOf (now (waiting .entry)) (now (taken .entry))) (branchesIn (imageView g (sectorAt (now (image .entry))) k))) × Waits (piecesFor (g .l)) (imageView g (sectorAt (now (image .entry)))) (now (waiting .exit)) (now (tree .exit)) (now (taken .entry)) ⌝ }
 {
     let s = images::sector(image, k as usize);
     let holder = map_sector::number_of(s);
@@ -103,7 +78,7 @@ pub fn read_targets(
     let mut i = 0;
     while i < count {
         let target = map_sector::branch_at(s, i);
-        read_target(seen, good, waiting, tree, taken, image, g, holder, target);
+        read_target(waiting, tree, taken, image, g, holder, target);
         i += 1;
     }
 }

@@ -16,18 +16,16 @@ use Rattle.geometry.specs.Geometry.{piecesFor}
 use Rattle.layout.specs.Bounded.{at, best, isZero, listFrom, updated}
 use Rattle.layout.specs.Word.{wordsOf}
 use Rattle.layout.specs.MapSector.{MapSector, View}
-use Rattle.volume.specs.Tables.{bitAt}
 use Rattle.volume.specs.Commit.{branchesIn}
 use Rattle.volume.specs.Recover.{numberIn, pieceIn, imageView, Walk, waitingNumber, targetWaits, targetsRead, walkStep, walkedFor, walkFrom}
 use Rattle.laws.proofs.Filling.{zeros-get}
 use Rattle.laws.proofs.Bounded.{bool?, eq?, cond-true, cond-false, length-listFrom, best-below, at-set}
 use Rattle.tournament.specs.Tournament.{ranked, keyAt, Replayed, Keyed}
 use Rattle.tournament.proofs.TournamentLaws.{keyed-first}
-use Rattle.signed.specs.Signed.{below, isSigned, signedAt}
-use Rattle.signed.proofs.SignedLaws.{marks-none}
+use Rattle.signed.specs.Signed.{signedAt}
 use Rattle.signed.proofs.Newest.{listed}
 use Rattle.signed.proofs.ViewLaws.{view-signed, view-unsigned, signed-piece}
-use Rattle.targets.specs.Waiting.{Known, walkOf, Waits}
+use Rattle.targets.specs.Waiting.{walkOf, Waits}
 use Rattle.targets.proofs.TargetLaws.{rekeyed}
 
 -- A sector with a number is signed.
@@ -198,24 +196,6 @@ zeros-part (suc n) (suc m) h = ap (λ (xs : List ℕ). 0 ∷ xs) (zeros-part n m
 
 pub keyed-for : {n m : ℕ} {key : ℕ → ℕ} {t : List ℕ} → n ≡ m → Keyed n key t → Keyed m key t
 keyed-for {key = key} {t = t} e s = subst (λ (x : ℕ). Keyed x key t) e s
-
--- Nothing is seen yet.
-off : (b : Bool) → (b && false) ≡ false
-off true = refl
-off false = refl
-
-zero-bits : bitAt (replicate 8192 0) ≡ (λ k. false)
-unfolding below
-zero-bits = marks-none (λ k. false) (replicate 8192 0) 8192 refl ∙ fun-ext (λ k. off (ltb k 0))
-
-pub known-none : (g : Geometry) (image : ℕ → List ℕ) → g .n ≤ 65536 → Known g image (replicate 8192 0) (replicate 8192 0)
-known-none g image h =
-    let long = length-replicate {A = ℕ} 8192 0 in
-    record {
-      seenRoom = omega arith;
-      goodRoom = omega arith;
-      told = zero-bits ∙ sym (ap {B = ℕ → Bool} (λ (f : ℕ → Bool). λ k. f k && isSigned g image k) zero-bits);
-    }
 
 -- What a walk takes is signed.
 module _ (pieces : ℕ) (view : View) where

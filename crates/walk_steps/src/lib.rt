@@ -9,24 +9,15 @@ ghost use Rattle.volume.specs.Tables.{sectorAt};
 ghost use Rattle.volume.specs.Recover.{imageView, walkStep, walkedFor, walkFrom};
 ghost use Rattle.tournament.specs.Tournament.{Keyed};
 ghost use Rattle.signed.specs.Signed.{signedAt};
-ghost use Rattle.targets.specs.Waiting.{Known, walkOf, Waits};
+ghost use Rattle.targets.specs.Waiting.{walkOf, Waits};
 use geometry::Geometry;
 
 // Takes the newest waiting sector and reads its branches. Nothing happens where none waits.
-fn walk_step(
-    seen: &mut [u8],
-    good: &mut [u8],
-    waiting: &mut [u32],
-    tree: &mut [u64],
-    taken: &mut [u32],
-    image: &[u8],
-    g: Geometry,
-)
+fn walk_step(waiting: &mut [u32], tree: &mut [u64], taken: &mut [u32], image: &[u8], g: Geometry)
     requires { ⌜ length (now image) ≡ sectorBytes * g .n ⌝ }
     requires { ⌜ 0 < piecesFor (g .l) ⌝ }
-    requires { ⌜ Known g (sectorAt (now image)) (now seen) (now good) ⌝ }
     requires { ⌜ Waits (piecesFor (g .l)) (imageView g (sectorAt (now image))) (now waiting) (now tree) (now taken) ⌝ }
-    ensures { λ _. ⌜ (walkOf (now (waiting .exit)) (now (taken .exit)) ≡ walkStep (piecesFor (g .l)) (imageView g (sectorAt (now (image .entry)))) (walkOf (now (waiting .entry)) (now (taken .entry)))) × Known g (sectorAt (now (image .entry))) (now (seen .exit)) (now (good .exit)) × Waits (piecesFor (g .l)) (imageView g (sectorAt (now (image .entry)))) (now (waiting .exit)) (now (tree .exit)) (now (taken .exit)) ⌝ }
+    ensures { λ _. ⌜ (walkOf (now (waiting .exit)) (now (taken .exit)) ≡ walkStep (piecesFor (g .l)) (imageView g (sectorAt (now (image .entry)))) (walkOf (now (waiting .entry)) (now (taken .entry)))) × Waits (piecesFor (g .l)) (imageView g (sectorAt (now (image .entry)))) (now (waiting .exit)) (now (tree .exit)) (now (taken .exit)) ⌝ }
 {
     let pieces = taken.len();
     let p = tournament::first(tree, pieces);
@@ -37,37 +28,26 @@ fn walk_step(
     waiting[p] = 0;
     tournament::change(tree, pieces, p, 0);
     taken[p] = k;
-    targets::read_targets(seen, good, waiting, tree, taken, image, g, k);
+    targets::read_targets(waiting, tree, taken, image, g, k);
 }
 
 // So many steps from where the tail waits.
-fn walk_steps(
-    seen: &mut [u8],
-    good: &mut [u8],
-    waiting: &mut [u32],
-    tree: &mut [u64],
-    taken: &mut [u32],
-    image: &[u8],
-    g: Geometry,
-)
+fn walk_steps(waiting: &mut [u32], tree: &mut [u64], taken: &mut [u32], image: &[u8], g: Geometry)
     requires { ⌜ length (now image) ≡ sectorBytes * g .n ⌝ }
     requires { ⌜ 0 < piecesFor (g .l) ⌝ }
-    requires { ⌜ Known g (sectorAt (now image)) (now seen) (now good) ⌝ }
     requires { ⌜ Waits (piecesFor (g .l)) (imageView g (sectorAt (now image))) (now waiting) (now tree) (now taken) ⌝ }
     ensures { λ _. ⌜ walkOf (now (waiting .exit)) (now (taken .exit)) ≡ walkedFor (piecesFor (g .l)) (imageView g (sectorAt (now (image .entry)))) (walkOf (now (waiting .entry)) (now (taken .entry))) (piecesFor (g .l)) ⌝ }
 {
     let pieces = Geometry::pieces_for(g.l);
     let mut step: u32 = 0;
     while step < pieces {
-        walk_step(seen, good, waiting, tree, taken, image, g);
+        walk_step(waiting, tree, taken, image, g);
         step += 1;
     }
 }
 
 // A walk from the tail, where nothing waits and nothing is taken yet.
 fn walk_waiting(
-    seen: &mut [u8],
-    good: &mut [u8],
     waiting: &mut [u32],
     tree: &mut [u64],
     taken: &mut [u32],
@@ -79,7 +59,6 @@ fn walk_waiting(
     requires { ⌜ length (now image) ≡ sectorBytes * g .n ⌝ }
     requires { ⌜ 1 ≤ tail ⌝ }
     requires { ⌜ signedAt g (sectorAt (now image)) tail ≡ true ⌝ }
-    requires { ⌜ Known g (sectorAt (now image)) (now seen) (now good) ⌝ }
     requires { ⌜ now waiting ≡ replicate (piecesFor (g .l)) 0 ⌝ }
     requires { ⌜ length (now tree) ≡ 512 ⌝ }
     requires { ⌜ Keyed (piecesFor (g .l)) (λ _. 0) (now tree) ⌝ }
@@ -90,7 +69,7 @@ fn walk_waiting(
     let p = map_sector::piece_of(s) as usize;
     waiting[p] = tail;
     tournament::change(tree, taken.len(), p, map_sector::number_of(s));
-    walk_steps(seen, good, waiting, tree, taken, image, g);
+    walk_steps(waiting, tree, taken, image, g);
 }
 
 // The sector that a walk from the tail takes for each piece, 0 for none.
@@ -102,20 +81,9 @@ pub fn walk_from(taken: &mut [u32], image: &[u8], g: Geometry, tail: u32)
     requires { ⌜ now taken ≡ replicate (piecesFor (g .l)) 0 ⌝ }
     ensures { λ _. ⌜ now (taken .exit) ≡ listFrom (walkFrom (piecesFor (g .l)) (imageView g (sectorAt (now (image .entry)))) tail) 0 (piecesFor (g .l)) ⌝ }
 {
-    let mut seen = [0u8; 8192];
-    let mut good = [0u8; 8192];
     let mut waiting = [0u32; 256];
     let mut tree = [0u64; 512];
     let pieces = Geometry::pieces_for(g.l) as usize;
     tournament::start(&mut tree, pieces);
-    walk_waiting(
-        &mut seen,
-        &mut good,
-        &mut waiting[..pieces],
-        &mut tree,
-        taken,
-        image,
-        g,
-        tail,
-    );
+    walk_waiting(&mut waiting[..pieces], &mut tree, taken, image, g, tail);
 }

@@ -6,7 +6,7 @@ use lib.ListN.{length}
 use borrow.Author.Tests.{not-true, not-false}
 use Rattle.volume.specs.Tables.{sectorAt}
 use Rattle.laws.proofs.Sectors.{sector-length}
-use Rattle.targets.proofs.TargetLaws.{tournament-of, signed-here, target-unsigned, piece-inside, target-left, target-put}
+use Rattle.targets.proofs.TargetLaws.{tournament-of, judged-here, target-unsigned, piece-inside, target-left, target-put}
 use borrow.Author.Needs.{needs}
 use Rattle.targets.proofs.read_target.Statement.{statement}
 use Rattle.targets.proofs.read_target.Tie as tie
@@ -39,35 +39,31 @@ returns c =
     let the-piece-of = c .before .before .before .piece-of in
     let the-number-of = c .before .before .before .before .number-of in
     let the-sector = c .before .before .before .before .before .sector in
-    let a = c .before .before .before .before .before .before .before .before .before .before .before .before .args in
-    let the-pre = c .before .before .before .before .before .before .before .before .before .before .before .before .pre in
-    let w = the-pre .1 .1 .1 .1 in (
+    let a = c .before .before .before .before .before .before .before .before .before .before .args in
+    let the-pre = c .before .before .before .before .before .before .before .before .before .before .pre in
+    let w = the-pre .1 .1 .1 in (
       target-left (a .g) (sectorAt (a .image .now)) (a .holder) (a .waiting .now) (a .tree .now) (a .taken .now) w (a .target)
           _ (the-sector .ensures) (the-number-of .result) (the-piece-of .result) (the-number-of .ensures) (the-piece-of .ensures) (the-may-wait .result) (the-may-wait .ensures) (not-true (the-may-wait .result) (c .if1 .taken)),
-      the-pre .1 .1 .1 .0,
       w,
     )
 
-is-signed-requires : tie.Need-is-signed-requires
-is-signed-requires c κs = search needs
+is-valid-requires : tie.Need-is-valid-requires
+is-valid-requires c κs =
+    let the-sector = c .before .before .before .before .before .sector in
+    (ap length (the-sector .ensures) ∙ sector-length _ _ (omega arith), omega arith)
 
 same-length-2 : tie.Need-same-length-2
 same-length-2 c = search needs
 
-same-length-3 : tie.Need-same-length-3
-same-length-3 c = search needs
-
-same-length-4 : tie.Need-same-length-4
-same-length-4 c = search needs
-
 returns-2 : tie.Need-returns-2
 returns-2 c =
-    let the-is-signed = c .before .before .before .before .before .is-signed in
-    let a = c .before .before .before .before .before .before .before .before .before .before .before .before .before .before .before .before .before .before .before .before .args in
-    let the-pre = c .before .before .before .before .before .before .before .before .before .before .before .before .before .before .before .before .before .before .before .before .pre in
-    let w = the-pre .1 .1 .1 .1 in
-    let unsigned = signed-here (a .g) (sectorAt (a .image .now)) (a .target) (the-is-signed .result) false (the-pre .1 .1 .0) (the-is-signed .ensures .0) (not-true (the-is-signed .result) (c .if2 .taken)) in
-    (target-unsigned (a .g) (sectorAt (a .image .now)) (a .holder) (a .waiting .now) (a .tree .now) (a .taken .now) w (a .target) unsigned, the-is-signed .ensures .1, w)
+    let the-is-valid = c .before .is-valid in
+    let the-sector = c .before .before .before .before .before .before .before .sector in
+    let a = c .before .before .before .before .before .before .before .before .before .before .before .before .args in
+    let the-pre = c .before .before .before .before .before .before .before .before .before .before .before .before .pre in
+    let w = the-pre .1 .1 .1 in
+    let unsigned = judged-here (a .g) (sectorAt (a .image .now)) (a .target) _ (the-is-valid .result) false (the-pre .1 .1 .0) (the-sector .ensures) (the-is-valid .ensures) (not-true (the-is-valid .result) (c .if2 .taken)) in
+    (target-unsigned (a .g) (sectorAt (a .image .now)) (a .holder) (a .waiting .now) (a .tree .now) (a .taken .now) w (a .target) unsigned, w)
 
 mul-waiting : tie.Need-mul-waiting
 mul-waiting c = search needs
@@ -75,15 +71,15 @@ mul-waiting c = search needs
 slice-write-waiting : tie.Need-slice-write-waiting
 slice-write-waiting c =
     let the-if2 = c .if2 in
-    let the-is-signed = c .before .before .before .before .before .is-signed in
-    let the-may-wait = c .before .before .before .before .before .before .before .before .before .may-wait in
-    let the-piece-of = c .before .before .before .before .before .before .before .before .before .before .before .piece-of in
-    let the-number-of = c .before .before .before .before .before .before .before .before .before .before .before .before .number-of in
-    let the-sector = c .before .before .before .before .before .before .before .before .before .before .before .before .before .sector in
-    let a = c .before .before .before .before .before .before .before .before .before .before .before .before .before .before .before .before .before .before .before .before .args in
-    let the-pre = c .before .before .before .before .before .before .before .before .before .before .before .before .before .before .before .before .before .before .before .before .pre in
-    let w = the-pre .1 .1 .1 .1 in
-    let signed = signed-here (a .g) (sectorAt (a .image .now)) (a .target) (the-is-signed .result) true (the-pre .1 .1 .0) (the-is-signed .ensures .0) (not-false (the-is-signed .result) (the-if2 .left)) in
+    let the-is-valid = c .before .is-valid in
+    let the-may-wait = c .before .before .before .may-wait in
+    let the-piece-of = c .before .before .before .before .before .piece-of in
+    let the-number-of = c .before .before .before .before .before .before .number-of in
+    let the-sector = c .before .before .before .before .before .before .before .sector in
+    let a = c .before .before .before .before .before .before .before .before .before .before .before .before .args in
+    let the-pre = c .before .before .before .before .before .before .before .before .before .before .before .before .pre in
+    let w = the-pre .1 .1 .1 in
+    let signed = judged-here (a .g) (sectorAt (a .image .now)) (a .target) _ (the-is-valid .result) true (the-pre .1 .1 .0) (the-sector .ensures) (the-is-valid .ensures) (not-false (the-is-valid .result) (the-if2 .left)) in
     let inside = piece-inside (a .g) (sectorAt (a .image .now)) (a .holder) (a .waiting .now) (a .tree .now) (a .taken .now) w (a .target)
     _ (the-sector .ensures) (the-number-of .result) (the-piece-of .result) (the-number-of .ensures) (the-piece-of .ensures) (the-may-wait .result) (the-may-wait .ensures) signed in
     let wl = w .waitingLong in
@@ -92,50 +88,43 @@ slice-write-waiting c =
 change-requires : tie.Need-change-requires
 change-requires c κs =
     let the-if2 = c .before .if2 in
-    let the-is-signed = c .before .before .before .before .before .before .is-signed in
-    let the-may-wait = c .before .before .before .before .before .before .before .before .before .before .may-wait in
-    let the-piece-of = c .before .before .before .before .before .before .before .before .before .before .before .before .piece-of in
-    let the-number-of = c .before .before .before .before .before .before .before .before .before .before .before .before .before .number-of in
-    let the-sector = c .before .before .before .before .before .before .before .before .before .before .before .before .before .before .sector in
-    let a = c .before .before .before .before .before .before .before .before .before .before .before .before .before .before .before .before .before .before .before .before .before .args in
-    let the-pre = c .before .before .before .before .before .before .before .before .before .before .before .before .before .before .before .before .before .before .before .before .before .pre in
-    let w = the-pre .1 .1 .1 .1 in
-    let signed = signed-here (a .g) (sectorAt (a .image .now)) (a .target) (the-is-signed .result) true (the-pre .1 .1 .0) (the-is-signed .ensures .0) (not-false (the-is-signed .result) (the-if2 .left)) in
+    let the-is-valid = c .before .before .is-valid in
+    let the-may-wait = c .before .before .before .before .may-wait in
+    let the-piece-of = c .before .before .before .before .before .before .piece-of in
+    let the-number-of = c .before .before .before .before .before .before .before .number-of in
+    let the-sector = c .before .before .before .before .before .before .before .before .sector in
+    let a = c .before .before .before .before .before .before .before .before .before .before .before .before .before .args in
+    let the-pre = c .before .before .before .before .before .before .before .before .before .before .before .before .before .pre in
+    let w = the-pre .1 .1 .1 in
+    let signed = judged-here (a .g) (sectorAt (a .image .now)) (a .target) _ (the-is-valid .result) true (the-pre .1 .1 .0) (the-sector .ensures) (the-is-valid .ensures) (not-false (the-is-valid .result) (the-if2 .left)) in
     let inside = piece-inside (a .g) (sectorAt (a .image .now)) (a .holder) (a .waiting .now) (a .tree .now) (a .taken .now) w (a .target)
     _ (the-sector .ensures) (the-number-of .result) (the-piece-of .result) (the-number-of .ensures) (the-piece-of .ensures) (the-may-wait .result) (the-may-wait .ensures) signed in
     let few = w .few in
     let tl = w .takenLong in
     (w .treeLong, (omega arith, (omega arith, tournament-of w)))
 
-same-length-5 : tie.Need-same-length-5
-same-length-5 c = search needs
+same-length-3 : tie.Need-same-length-3
+same-length-3 c = search needs
 
-same-length-6 : tie.Need-same-length-6
-same-length-6 c = search needs
-
-same-length-7 : tie.Need-same-length-7
-same-length-7 c = search needs
-
-same-length-8 : tie.Need-same-length-8
-same-length-8 c = search needs
+same-length-4 : tie.Need-same-length-4
+same-length-4 c = search needs
 
 returns-3 : tie.Need-returns-3
 returns-3 c =
     let the-change = c .before .before .change in
-    let the-if1 = c .before .before .before .before .before .before .before .before .before .before .before .before .if1 in
+    let the-if1 = c .before .before .before .before .before .before .if1 in
     let the-if2 = c .before .before .before .before .if2 in
-    let the-is-signed = c .before .before .before .before .before .before .before .before .before .is-signed in
-    let the-may-wait = c .before .before .before .before .before .before .before .before .before .before .before .before .before .may-wait in
-    let the-piece-of = c .before .before .before .before .before .before .before .before .before .before .before .before .before .before .before .piece-of in
-    let the-number-of = c .before .before .before .before .before .before .before .before .before .before .before .before .before .before .before .before .number-of in
-    let the-sector = c .before .before .before .before .before .before .before .before .before .before .before .before .before .before .before .before .before .sector in
-    let a = c .before .before .before .before .before .before .before .before .before .before .before .before .before .before .before .before .before .before .before .before .before .before .before .before .args in
-    let the-pre = c .before .before .before .before .before .before .before .before .before .before .before .before .before .before .before .before .before .before .before .before .before .before .before .before .pre in
-    let w = the-pre .1 .1 .1 .1 in
-    let signed = signed-here (a .g) (sectorAt (a .image .now)) (a .target) (the-is-signed .result) true (the-pre .1 .1 .0) (the-is-signed .ensures .0) (not-false (the-is-signed .result) (the-if2 .left)) in
-    let r = target-put (a .g) (sectorAt (a .image .now)) (a .holder) (a .waiting .now) (a .tree .now) (a .taken .now) w (a .target)
-    _ (the-sector .ensures) (the-number-of .result) (the-piece-of .result) (the-number-of .ensures) (the-piece-of .ensures) (the-may-wait .result) (the-may-wait .ensures) signed (the-pre .1 .0) (not-false (the-may-wait .result) (the-if1 .left)) _ (the-change .kept .0) (the-change .ensures) in
-    (r .0, the-is-signed .ensures .1, r .1)
+    let the-is-valid = c .before .before .before .before .before .is-valid in
+    let the-may-wait = c .before .before .before .before .before .before .before .may-wait in
+    let the-piece-of = c .before .before .before .before .before .before .before .before .before .piece-of in
+    let the-number-of = c .before .before .before .before .before .before .before .before .before .before .number-of in
+    let the-sector = c .before .before .before .before .before .before .before .before .before .before .before .sector in
+    let a = c .before .before .before .before .before .before .before .before .before .before .before .before .before .before .before .before .args in
+    let the-pre = c .before .before .before .before .before .before .before .before .before .before .before .before .before .before .before .before .pre in
+    let w = the-pre .1 .1 .1 in
+    let signed = judged-here (a .g) (sectorAt (a .image .now)) (a .target) _ (the-is-valid .result) true (the-pre .1 .1 .0) (the-sector .ensures) (the-is-valid .ensures) (not-false (the-is-valid .result) (the-if2 .left)) in
+    target-put (a .g) (sectorAt (a .image .now)) (a .holder) (a .waiting .now) (a .tree .now) (a .taken .now) w (a .target)
+    _ (the-sector .ensures) (the-number-of .result) (the-piece-of .result) (the-number-of .ensures) (the-piece-of .ensures) (the-may-wait .result) (the-may-wait .ensures) signed (the-pre .1 .0) (not-false (the-may-wait .result) (the-if1 .left)) _ (the-change .kept .0) (the-change .ensures)
 
 pub read-target-spec : {M : Type 1} → statement M
 read-target-spec =
@@ -148,16 +137,12 @@ read-target-spec =
     may-wait-requires
     same-length
     returns
-    is-signed-requires
+    is-valid-requires
     same-length-2
-    same-length-3
-    same-length-4
     returns-2
     mul-waiting
     slice-write-waiting
     change-requires
-    same-length-5
-    same-length-6
-    same-length-7
-    same-length-8
+    same-length-3
+    same-length-4
     returns-3)

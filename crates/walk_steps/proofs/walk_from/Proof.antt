@@ -4,9 +4,8 @@ use mathlib.Core.Path.{sym, _∙_, ap}
 use native.Mathlib.Omega.{arith}
 use lib.ListN.{replicate, length-replicate}
 use lib.Seq.{length-take-le}
-use Rattle.volume.specs.Tables.{sectorAt}
-use Rattle.soundness.proofs.Sounding.{blocks-most, sectors-most}
-use Rattle.walk_steps.proofs.WalkLaws.{known-none, zeros-part, keyed-for}
+use Rattle.soundness.proofs.Sounding.{blocks-most}
+use Rattle.walk_steps.proofs.WalkLaws.{zeros-part, keyed-for}
 use borrow.Author.Needs.{needs}
 use Rattle.walk_steps.proofs.walk_from.Statement.{statement}
 use Rattle.walk_steps.proofs.walk_from.Tie as tie
@@ -29,39 +28,33 @@ start-requires c κs =
     let q = the-pieces-for .ensures in
     (length-replicate {A = ℕ} 512 0, omega arith)
 
-slice-aggregate-walk-waiting : tie.Need-slice-aggregate-walk-waiting
-slice-aggregate-walk-waiting c = search needs
-
-slice-aggregate-walk-waiting-2 : tie.Need-slice-aggregate-walk-waiting-2
-slice-aggregate-walk-waiting-2 c = search needs
-
 array-borrow-prefix-waiting : tie.Need-array-borrow-prefix-waiting
 array-borrow-prefix-waiting c =
-    let the-pieces-for = c .before .before .before .before .before .pieces-for in
-    let a = c .before .before .before .before .before .before .before .before .args in
-    let the-pre = c .before .before .before .before .before .before .before .before .pre in
+    let the-pieces-for = c .before .before .before .pieces-for in
+    let a = c .before .before .before .before .before .before .args in
+    let the-pre = c .before .before .before .before .before .before .pre in
     let m = blocks-most (a .g) (the-pre .0) in
     let q = the-pieces-for .ensures in
     omega arith
 
-slice-aggregate-walk-waiting-3 : tie.Need-slice-aggregate-walk-waiting-3
-slice-aggregate-walk-waiting-3 c =
-    let the-pieces-for = c .before .before .before .before .before .before .pieces-for in
-    let a = c .before .before .before .before .before .before .before .before .before .args in
-    let the-pre = c .before .before .before .before .before .before .before .before .before .pre in
+slice-aggregate-walk-waiting : tie.Need-slice-aggregate-walk-waiting
+slice-aggregate-walk-waiting c =
+    let the-pieces-for = c .before .before .before .before .pieces-for in
+    let a = c .before .before .before .before .before .before .before .args in
+    let the-pre = c .before .before .before .before .before .before .before .pre in
     let m = blocks-most (a .g) (the-pre .0) in
     let q = the-pieces-for .ensures in
     sym (length-take-le (the-pieces-for .result) (replicate {A = ℕ} 256 0) (omega arith))
 
-slice-aggregate-walk-waiting-4 : tie.Need-slice-aggregate-walk-waiting-4
-slice-aggregate-walk-waiting-4 c = search needs
+slice-aggregate-walk-waiting-2 : tie.Need-slice-aggregate-walk-waiting-2
+slice-aggregate-walk-waiting-2 c = search needs
 
 walk-waiting-requires : tie.Need-walk-waiting-requires
 walk-waiting-requires c κs =
-    let the-start = c .before .before .before .before .before .before .start in
-    let the-pieces-for = c .before .before .before .before .before .before .before .before .pieces-for in
-    let a = c .before .before .before .before .before .before .before .before .before .before .before .args in
-    let the-pre = c .before .before .before .before .before .before .before .before .before .before .before .pre in
+    let the-start = c .before .before .before .before .start in
+    let the-pieces-for = c .before .before .before .before .before .before .pieces-for in
+    let a = c .before .before .before .before .before .before .before .before .before .args in
+    let the-pre = c .before .before .before .before .before .before .before .before .before .pre in
     let m = blocks-most (a .g) (the-pre .0) in
     let q = the-pieces-for .ensures in
     let z = zeros-part (the-pieces-for .result) 256 (omega arith) ∙ ap (λ (x : ℕ). replicate {A = ℕ} x 0) q in
@@ -73,7 +66,7 @@ walk-waiting-requires c κs =
           the-pre .1 .1 .0,
           (
             the-pre .1 .1 .1 .0,
-            (known-none (a .g) (sectorAt (a .image .now)) (sectors-most (a .g) (the-pre .0)), (z, (the-start .kept .0 ∙ length-replicate {A = ℕ} 512 0, (keyed, the-pre .1 .1 .1 .1)))),
+            (z, (the-start .kept .0 ∙ length-replicate {A = ℕ} 512 0, (keyed, the-pre .1 .1 .1 .1))),
           ),
         ),
       ),
@@ -93,11 +86,9 @@ walk-from-spec =
     cast-pieces
     slice-aggregate-start
     start-requires
+    array-borrow-prefix-waiting
     slice-aggregate-walk-waiting
     slice-aggregate-walk-waiting-2
-    array-borrow-prefix-waiting
-    slice-aggregate-walk-waiting-3
-    slice-aggregate-walk-waiting-4
     walk-waiting-requires
     same-length
     returns)

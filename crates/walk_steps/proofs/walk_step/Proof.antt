@@ -10,8 +10,8 @@ use Rattle.walk_steps.proofs.walk_step.Tie as tie
 
 first-requires : tie.Need-first-requires
 first-requires c κs =
-    let the-pre = c .before .before .before .before .before .before .before .pre in
-    let w = the-pre .1 .1 .1 in
+    let the-pre = c .before .before .before .before .before .pre in
+    let w = the-pre .1 .1 in
     let few = w .few in
     let tl = w .takenLong in
     (w .treeLong, (omega arith, (omega arith, tournament-of w)))
@@ -26,9 +26,9 @@ returns : tie.Need-returns
 returns c =
     let the-key-of = c .before .key-of in
     let the-first = c .before .before .before .first in
-    let the-pre = c .before .before .before .before .before .before .before .before .before .before .before .pre in
-    let w = the-pre .1 .1 .1 in
-    (step-none _ _ _ _ _ w (the-pre .1 .0) (the-first .result) (the-first .ensures .0) (the-key-of .result) (the-key-of .ensures) (c .if1 .taken), the-pre .1 .1 .0, w)
+    let the-pre = c .before .before .before .before .before .before .before .before .before .pre in
+    let w = the-pre .1 .1 in
+    (step-none _ _ _ _ _ w (the-pre .1 .0) (the-first .result) (the-first .ensures .0) (the-key-of .result) (the-key-of .ensures) (c .if1 .taken), w)
 
 mul-k : tie.Need-mul-k
 mul-k c = search needs
@@ -45,8 +45,8 @@ slice-write-waiting c = search needs
 change-requires : tie.Need-change-requires
 change-requires c κs =
     let the-first = c .before .before .before .before .before .first in
-    let the-pre = c .before .before .before .before .before .before .before .before .before .before .before .before .before .pre in
-    let w = the-pre .1 .1 .1 in
+    let the-pre = c .before .before .before .before .before .before .before .before .before .before .before .pre in
+    let w = the-pre .1 .1 in
     let few = w .few in
     let tl = w .takenLong in
     (w .treeLong, (omega arith, (the-first .ensures .1, tournament-of w)))
@@ -59,44 +59,38 @@ slice-write-taken c = search needs
 
 read-targets-requires : tie.Need-read-targets-requires
 read-targets-requires c κs =
-    let the-change = c .before .before .before .before .before .before .before .change in
-    let the-if1 = c .before .before .before .before .before .before .before .before .before .before .if1 in
-    let the-key-of = c .before .before .before .before .before .before .before .before .before .before .before .key-of in
-    let the-first = c .before .before .before .before .before .before .before .before .before .before .before .before .before .first in
-    let the-pre = c .before .before .before .before .before .before .before .before .before .before .before .before .before .before .before .before .before .before .before .before .before .pre in
-    let w = the-pre .1 .1 .1 in
+    let the-change = c .before .before .before .before .before .change in
+    let the-if1 = c .before .before .before .before .before .before .before .before .if1 in
+    let the-key-of = c .before .before .before .before .before .before .before .before .before .key-of in
+    let the-first = c .before .before .before .before .before .before .before .before .before .before .before .first in
+    let the-pre = c .before .before .before .before .before .before .before .before .before .before .before .before .before .before .before .before .before .pre in
+    let w = the-pre .1 .1 in
     let signed = newest-signed _ _ _ _ _ w (the-pre .1 .0) (the-first .result) (the-first .ensures .0) (the-key-of .result) (the-key-of .ensures) (the-if1 .left) in
     let waits = done-waits _ _ _ _ _ w (the-pre .1 .0) (the-first .result) (the-first .ensures .0) (the-key-of .result) (the-key-of .ensures) (the-if1 .left) _ (the-change .kept .0) (the-change .ensures) in
-    (the-pre .0, (signed, (the-pre .1 .1 .0, waits)))
+    (the-pre .0, (signed, waits))
 
 same-length-2 : tie.Need-same-length-2
-same-length-2 c = search needs
+same-length-2 c =
+    let the-read-targets = c .before .before .before .before .read-targets in
+    let the-first = c .before .before .before .before .before .before .before .before .before .before .before .before .before .before .before .before .first in
+    let a = c .before .before .before .before .before .before .before .before .before .before .before .before .before .before .before .before .before .before .before .before .before .before .args in
+    the-read-targets .kept .0 ∙ length-set (a .waiting .now) (the-first .result) 0
 
 same-length-3 : tie.Need-same-length-3
 same-length-3 c = search needs
 
 same-length-4 : tie.Need-same-length-4
-same-length-4 c =
-    let the-read-targets = c .before .before .before .before .before .before .before .before .read-targets in
-    let the-first = c .before .before .before .before .before .before .before .before .before .before .before .before .before .before .before .before .before .before .before .before .before .before .first in
-    let a = c .before .before .before .before .before .before .before .before .before .before .before .before .before .before .before .before .before .before .before .before .before .before .before .before .before .before .before .before .before .before .args in
-    the-read-targets .kept .1 .1 .0 ∙ length-set (a .waiting .now) (the-first .result) 0
-
-same-length-5 : tie.Need-same-length-5
-same-length-5 c = search needs
-
-same-length-6 : tie.Need-same-length-6
-same-length-6 c = search needs
+same-length-4 c = search needs
 
 returns-2 : tie.Need-returns-2
 returns-2 c =
-    let the-read-targets = c .before .before .before .before .before .before .before .before .read-targets in
-    let the-if1 = c .before .before .before .before .before .before .before .before .before .before .before .before .before .before .before .before .before .before .before .if1 in
-    let the-key-of = c .before .before .before .before .before .before .before .before .before .before .before .before .before .before .before .before .before .before .before .before .key-of in
-    let the-first = c .before .before .before .before .before .before .before .before .before .before .before .before .before .before .before .before .before .before .before .before .before .before .first in
-    let the-pre = c .before .before .before .before .before .before .before .before .before .before .before .before .before .before .before .before .before .before .before .before .before .before .before .before .before .before .before .before .before .before .pre in
-    let w = the-pre .1 .1 .1 in
-    (step-some _ _ _ _ _ w (the-pre .1 .0) (the-first .result) (the-first .ensures .0) (the-key-of .result) (the-key-of .ensures) (the-if1 .left) _ (the-read-targets .ensures .0), the-read-targets .ensures .1, the-read-targets .ensures .2)
+    let the-read-targets = c .before .before .before .before .read-targets in
+    let the-if1 = c .before .before .before .before .before .before .before .before .before .before .before .before .before .if1 in
+    let the-key-of = c .before .before .before .before .before .before .before .before .before .before .before .before .before .before .key-of in
+    let the-first = c .before .before .before .before .before .before .before .before .before .before .before .before .before .before .before .before .first in
+    let the-pre = c .before .before .before .before .before .before .before .before .before .before .before .before .before .before .before .before .before .before .before .before .before .before .pre in
+    let w = the-pre .1 .1 in
+    (step-some _ _ _ _ _ w (the-pre .1 .0) (the-first .result) (the-first .ensures .0) (the-key-of .result) (the-key-of .ensures) (the-if1 .left) _ (the-read-targets .ensures .0), the-read-targets .ensures .1)
 
 pub walk-step-spec : {M : Type 1} → statement M
 walk-step-spec =
@@ -117,6 +111,4 @@ walk-step-spec =
     same-length-2
     same-length-3
     same-length-4
-    same-length-5
-    same-length-6
     returns-2)
