@@ -4,13 +4,35 @@ ghost use mathlib.Core.Bool.{true};
 ghost use Prim.Native.Nat.{_*_, _≤_, _<_};
 ghost use lib.ListN.{length, replicate};
 ghost use Rattle.geometry.specs.Geometry.{sectorBytes, piecesFor, geometryFits};
-ghost use Rattle.layout.specs.Bounded.{listFrom};
+ghost use Rattle.layout.specs.Bounded.{best, listFrom};
 ghost use Rattle.volume.specs.Tables.{sectorAt};
-ghost use Rattle.volume.specs.Recover.{imageView, walkStep, walkedFor, walkFrom};
-ghost use Rattle.tournament.specs.Tournament.{Keyed};
+ghost use Rattle.volume.specs.Recover.{imageView, waitingNumber, walkStep, walkedFor, walkFrom};
 ghost use Rattle.signed.specs.Signed.{signedAt};
 ghost use Rattle.targets.specs.Waiting.{walkOf, Waits};
 use geometry::Geometry;
+
+// Takes the sector that waits at p, the newest, and reads its branches.
+fn take_and_read(
+    waiting: &mut [u32],
+    tree: &mut [u64],
+    taken: &mut [u32],
+    image: &[u8],
+    g: Geometry,
+    p: usize,
+)
+    requires { ⌜ length (now image) ≡ sectorBytes * g .n ⌝ }
+    requires { ⌜ Waits (piecesFor (g .l)) (imageView g (sectorAt (now image))) (now waiting) (now tree) (now taken) ⌝ }
+    requires { ⌜ p < piecesFor (g .l) ⌝ }
+    requires { ⌜ p ≡ best (waitingNumber (imageView g (sectorAt (now image))) (walkOf (now waiting) (now taken))) (piecesFor (g .l)) ⌝ }
+    requires { ⌜ (waitingNumber (imageView g (sectorAt (now image))) (walkOf (now waiting) (now taken)) p ≡ 0 → ⊥) ⌝ }
+    ensures { λ _. ⌜ (walkOf (now (waiting .exit)) (now (taken .exit)) ≡ walkStep (piecesFor (g .l)) (imageView g (sectorAt (now (image .entry)))) (walkOf (now (waiting .entry)) (now (taken .entry)))) × Waits (piecesFor (g .l)) (imageView g (sectorAt (now (image .entry)))) (now (waiting .exit)) (now (tree .exit)) (now (taken .exit)) ⌝ }
+{
+    let k = waiting[p];
+    tournament::change(tree, taken.len(), p, 0);
+    waiting[p] = 0;
+    taken[p] = k;
+    targets::read_targets(waiting, tree, taken, image, g, k);
+}
 
 // Takes the newest waiting sector and reads its branches. Nothing happens where none waits.
 fn walk_step(waiting: &mut [u32], tree: &mut [u64], taken: &mut [u32], image: &[u8], g: Geometry)
@@ -19,16 +41,11 @@ fn walk_step(waiting: &mut [u32], tree: &mut [u64], taken: &mut [u32], image: &[
     requires { ⌜ Waits (piecesFor (g .l)) (imageView g (sectorAt (now image))) (now waiting) (now tree) (now taken) ⌝ }
     ensures { λ _. ⌜ (walkOf (now (waiting .exit)) (now (taken .exit)) ≡ walkStep (piecesFor (g .l)) (imageView g (sectorAt (now (image .entry)))) (walkOf (now (waiting .entry)) (now (taken .entry)))) × Waits (piecesFor (g .l)) (imageView g (sectorAt (now (image .entry)))) (now (waiting .exit)) (now (tree .exit)) (now (taken .exit)) ⌝ }
 {
-    let pieces = taken.len();
-    let p = tournament::first(tree, pieces);
-    if tournament::key_of(tree, pieces, p) == 0 {
+    let p = tournament::first(tree, taken.len());
+    if tournament::key_of(tree, taken.len(), p) == 0 {
         return;
     }
-    let k = waiting[p];
-    waiting[p] = 0;
-    tournament::change(tree, pieces, p, 0);
-    taken[p] = k;
-    targets::read_targets(waiting, tree, taken, image, g, k);
+    take_and_read(waiting, tree, taken, image, g, p);
 }
 
 // So many steps from where the tail waits.
@@ -38,8 +55,8 @@ fn walk_steps(waiting: &mut [u32], tree: &mut [u64], taken: &mut [u32], image: &
     requires { ⌜ Waits (piecesFor (g .l)) (imageView g (sectorAt (now image))) (now waiting) (now tree) (now taken) ⌝ }
     ensures { λ _. ⌜ walkOf (now (waiting .exit)) (now (taken .exit)) ≡ walkedFor (piecesFor (g .l)) (imageView g (sectorAt (now (image .entry)))) (walkOf (now (waiting .entry)) (now (taken .entry))) (piecesFor (g .l)) ⌝ }
 {
-    let pieces = Geometry::pieces_for(g.l);
-    let mut step: u32 = 0;
+    let pieces = taken.len();
+    let mut step = 0;
     while step < pieces {
         walk_step(waiting, tree, taken, image, g);
         step += 1;
@@ -55,20 +72,16 @@ fn walk_waiting(
     g: Geometry,
     tail: u32,
 )
-    requires { ⌜ piecesFor (g .l) ≤ 256 ⌝ }
     requires { ⌜ length (now image) ≡ sectorBytes * g .n ⌝ }
     requires { ⌜ 1 ≤ tail ⌝ }
     requires { ⌜ signedAt g (sectorAt (now image)) tail ≡ true ⌝ }
     requires { ⌜ now waiting ≡ replicate (piecesFor (g .l)) 0 ⌝ }
-    requires { ⌜ length (now tree) ≡ 512 ⌝ }
-    requires { ⌜ Keyed (piecesFor (g .l)) (λ _. 0) (now tree) ⌝ }
     requires { ⌜ now taken ≡ replicate (piecesFor (g .l)) 0 ⌝ }
+    requires { ⌜ Waits (piecesFor (g .l)) (imageView g (sectorAt (now image))) (now waiting) (now tree) (now taken) ⌝ }
     ensures { λ _. ⌜ now (taken .exit) ≡ listFrom (walkFrom (piecesFor (g .l)) (imageView g (sectorAt (now (image .entry)))) tail) 0 (piecesFor (g .l)) ⌝ }
 {
     let s = images::sector(image, tail as usize);
-    let p = map_sector::piece_of(s) as usize;
-    waiting[p] = tail;
-    tournament::change(tree, taken.len(), p, map_sector::number_of(s));
+    targets::put_in(waiting, tree, s, tail);
     walk_steps(waiting, tree, taken, image, g);
 }
 
@@ -83,7 +96,7 @@ pub fn walk_from(taken: &mut [u32], image: &[u8], g: Geometry, tail: u32)
 {
     let mut waiting = [0u32; 256];
     let mut tree = [0u64; 512];
-    let pieces = Geometry::pieces_for(g.l) as usize;
+    let pieces = taken.len();
     tournament::start(&mut tree, pieces);
     walk_waiting(&mut waiting[..pieces], &mut tree, taken, image, g, tail);
 }
