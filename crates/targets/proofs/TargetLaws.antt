@@ -1,8 +1,8 @@
 -- A target that is read, and the branches of a sector one after the other.
-use Prim.Native.Nat.{ℕ, suc, _+_, _-_, _≤_, _<_}
-use mathlib.Core.Path.{_≡_, refl, sym, _∙_, ap, subst}
+use Prim.Native.Nat.{ℕ, suc, _+_, _*_, _-_, _≤_, _<_}
+use mathlib.Core.Path.{_≡_, refl, sym, _∙_, ap, ap₂, subst}
 use mathlib.Core.Logic.{⊎-elim}
-use mathlib.Core.Bool.{Bool, true, false, cond}
+use mathlib.Core.Bool.{Bool, true, false, cond, _&&_, true≢false}
 use mathlib.Core.List.{List}
 use mathlib.Core.Option.{some}
 use native.Mathlib.Numerals.{add-one}
@@ -12,19 +12,25 @@ use lib.Seq.{getD-take, drop-cons, length-take-le}
 use lib.Dec.{leb, ltb}
 use borrow.Author.Tests.{eq-eqb, ne-eqb, lt-ltb, le-ltb, leb-true}
 use Rattle.geometry.specs.declared.Geometry.{Geometry}
-use Rattle.geometry.specs.Geometry.{within, piecesFor}
+use Rattle.geometry.specs.Geometry.{sectorBytes, within, piecesFor}
 use Rattle.layout.specs.Bounded.{at, all, updated}
 use Rattle.layout.specs.Word.{wordsOf}
-use Rattle.layout.specs.MapSector.{View, branchWords, fields}
+use Rattle.layout.specs.MapSector.{View, branchWords, fields, valid}
+use Rattle.volume.specs.Tables.{sectorAt}
 use Rattle.volume.specs.Commit.{branchesIn}
 use Rattle.volume.specs.Recover.{numberIn, imageView, Walk, waitingNumber, targetWaits, targetsRead}
 use Rattle.laws.proofs.Bounded.{bool?, eq?, and-l, and-r, cond-true, cond-false, at-set, all-at}
 use Rattle.laws.proofs.Words.{length-wordsOf}
+use Rattle.laws.proofs.Sectors.{sector-length}
 use Rattle.signed.specs.Signed.{isSigned, signedAt, below}
-use Rattle.signed.proofs.ViewLaws.{view-signed, view-unsigned, signed-piece, signed-count, signed-branches}
+use Rattle.signed.proofs.ViewLaws.{inside, view-signed, valid-view, invalid-view, valid-piece, signed-count, signed-branches}
 use Rattle.tournament.specs.Tournament.{ranked, keyAt, Tournament, Replayed, Keyed}
 use Rattle.tournament.proofs.TournamentLaws.{changed-to}
-use Rattle.targets.specs.Waiting.{walkOf, mayWait, Waits}
+use Rattle.targets.specs.Waiting.{walkOf, mayWait, doesWait, Waits, Put}
+
+and-out : (a b : Bool) → (a && b) ≡ false → b ≡ true → a ≡ false
+and-out true b e t = absurd (true≢false (sym t ∙ e))
+and-out false b e t = refl
 
 -- The tests of a target, one after the other.
 module _ (tree taken : List ℕ) (holder number p : ℕ) where
@@ -45,10 +51,6 @@ module _ (tree taken : List ℕ) (holder number p : ℕ) where
     unfolding mayWait
     newer-waits h z v e = rw (lt-ltb p (length taken) b, lt-ltb number holder h, eq-eqb (at taken p) 0 z) (ap (λ (x : ℕ). ltb x number) e)
 
--- The tournament has an entry for each piece.
-pub tournament-of : {pieces : ℕ} {view : View} {waiting tree taken : List ℕ} → Waits pieces view waiting tree taken → Tournament (length taken) tree
-tournament-of {tree = tree} w = subst (λ (n : ℕ). Tournament n tree) (sym (w .takenLong)) (w .keyed .tournament)
-
 -- Another number waits for piece p.
 pub rekeyed : (n pieces p number : ℕ) (key key′ : ℕ → ℕ) (tree tree′ : List ℕ) → n ≡ pieces → pieces ≤ 256 → p < pieces → length tree ≡ 512
     → Keyed pieces key tree → Replayed n (set tree (n + p) (ranked n p number)) tree′ → ((j : ℕ) → j < pieces → updated key p number j ≡ key′ j)
@@ -61,89 +63,127 @@ pub signed-here : (g : Geometry) (image : ℕ → List ℕ) (k : ℕ) (r v : Boo
 unfolding signedAt below
 signed-here g image k r v h e f = rw (lt-ltb k (g .n) h) (sym e ∙ f)
 
+-- The test of a target's bytes, after the one of its header.
+module _ (g : Geometry) (tree taken : List ℕ) (holder : ℕ) (s : List ℕ) (number p : ℕ) (num : number ≡ at (wordsOf s) 2) (piece : p ≡ at (wordsOf s) 4) (r : Bool)
+    (judged : r ≡ mayWait tree taken holder number p) where
+  header : r ≡ mayWait tree taken holder (at (wordsOf s) 2) (at (wordsOf s) 4)
+  header = judged ∙ ap₂ (λ (x y : ℕ). mayWait tree taken holder x y) num piece
+
+  pub header-decides : r ≡ false → false ≡ doesWait g tree taken holder s
+  unfolding doesWait
+  header-decides t = ap (λ (b : Bool). b && valid g s (wordsOf s)) (sym t ∙ header)
+
+  pub sum-decides : r ≡ true → (v : Bool) → v ≡ valid g s (wordsOf s) → v ≡ doesWait g tree taken holder s
+  unfolding doesWait
+  sum-decides t v e = e ∙ ap (λ (b : Bool). b && valid g s (wordsOf s)) (sym t ∙ header)
+
+pub put-done : (s : List ℕ) (k : ℕ) (waiting tree : List ℕ) (p number : ℕ) → p ≡ at (wordsOf s) 4 → number ≡ at (wordsOf s) 2 → (tree′ : List ℕ)
+    → Replayed (length waiting) (set tree (length waiting + p) (ranked (length waiting) p number)) tree′ → Put s k waiting tree (set waiting p k) tree′
+put-done s k waiting tree p number e f tree′ r =
+    record {
+      placed = ap (λ (x : ℕ). set waiting x k) e;
+      replayed = subst (λ (x : ℕ). Replayed (length waiting) (set tree (length waiting + at (wordsOf s) 4) (ranked (length waiting) (at (wordsOf s) 4) x)) tree′) f
+          (subst (λ (x : ℕ). Replayed (length waiting) (set tree (length waiting + x) (ranked (length waiting) x number)) tree′) e r);
+    }
+
+-- A signed sector k with the bytes s comes to wait.
+module _ (g : Geometry) (view : View) (waiting tree taken : List ℕ) (w : Waits (piecesFor (g .l)) view waiting tree taken) (s : List ℕ)
+    (signed : valid g s (wordsOf s) ≡ true) where
+  put-inside : at (wordsOf s) 4 < piecesFor (g .l)
+  put-inside = valid-piece g (λ _. s) s signed
+
+  pub put-ready : length s ≡ 512
+      → (length s ≡ 512) × ((at (wordsOf s) 4 < length waiting) × ((length waiting ≤ 256) × ((length tree ≡ 512) × Tournament (length waiting) tree)))
+  put-ready size =
+      let i = put-inside in
+      let long = w .waitingLong in
+      let few = w .few in
+      (size, (omega arith, (omega arith, (w .treeLong, subst (λ (n : ℕ). Tournament n tree) (sym long) (w .keyed .tournament)))))
+
+  module _ (k : ℕ) (low : 1 ≤ k) (says : view k ≡ some (fields (wordsOf s))) where
+    abbrev pub put : Walk
+    put = record { waiting = updated (at waiting) (at (wordsOf s) 4) k; taken = at taken }
+
+    -- The numbers of what waits, with the sector in its place.
+    keys-put : (j : ℕ) → updated (waitingNumber view (walkOf waiting taken)) (at (wordsOf s) 4) (at (wordsOf s) 2) j ≡ waitingNumber view put j
+    unfolding numberIn
+    keys-put j =
+        ⊎-elim (λ (z : j ≡ at (wordsOf s) 4).
+        rw (eq-eqb j (at (wordsOf s) 4) z, ne-eqb k 0 (λ (y : k ≡ 0). omega arith)) (sym (ap numberIn says)))
+        (λ (d : j ≡ at (wordsOf s) 4 → ⊥). rw (ne-eqb j (at (wordsOf s) 4) d) refl) (eq? j (at (wordsOf s) 4))
+
+    pub put-waits : (waiting′ tree′ : List ℕ) → Put s k waiting tree waiting′ tree′ → length tree′ ≡ length tree
+        → (walkOf waiting′ taken ≡ put) × Waits (piecesFor (g .l)) view waiting′ tree′ taken
+    put-waits waiting′ tree′ done kept =
+        let i = put-inside in
+        let long = w .waitingLong in
+        let same : walkOf waiting′ taken ≡ put =
+        ap (λ (h : ℕ → ℕ). record { waiting = h; taken = at taken }) (ap (λ (xs : List ℕ). at xs) (done .placed) ∙ at-set waiting (at (wordsOf s) 4) k (omega arith)) in (
+          same,
+          record {
+            few = w .few;
+            waitingLong = ap length (done .placed) ∙ length-set waiting (at (wordsOf s) 4) k ∙ long;
+            treeLong = kept ∙ w .treeLong;
+            takenLong = w .takenLong;
+            keyed = rekeyed (length waiting) (piecesFor (g .l)) (at (wordsOf s) 4) (at (wordsOf s) 2) (waitingNumber view (walkOf waiting taken))
+                (waitingNumber view (walkOf waiting′ taken)) tree tree′ long (w .few) i (w .treeLong) (w .keyed) (done .replayed)
+                (λ j h. keys-put j ∙ ap (λ (x : Walk). waitingNumber view x j) (sym same));
+          },
+        )
+
+-- A target that was judged by its bytes.
 module _ (g : Geometry) (image : ℕ → List ℕ) (holder : ℕ) (waiting tree taken : List ℕ) (w : Waits (piecesFor (g .l)) (imageView g image) waiting tree taken)
-    (target : ℕ) where
+    (target : ℕ) (h : target < g .n) (s : List ℕ) (is : s ≡ image target) (r : Bool) (judged : r ≡ doesWait g tree taken holder s) where
   abbrev view : View
   view = imageView g image
 
-  pub target-unsigned : signedAt g image target ≡ false → walkOf waiting taken ≡ targetWaits view holder (walkOf waiting taken) target (view target)
-  unfolding targetWaits
-  target-unsigned e = sym (ap (targetWaits view holder (walkOf waiting taken) target) (view-unsigned g image target e))
+  abbrev now : Walk
+  now = walkOf waiting taken
 
-  -- What its header says.
-  module _ (s : List ℕ) (is : s ≡ image target) (number p : ℕ) (num : number ≡ at (wordsOf s) 2) (piece : p ≡ at (wordsOf s) 4) (r : Bool)
-      (judged : r ≡ mayWait tree taken holder number p) where
-    abbrev waits? : Bool
-    waits? = mayWait tree taken holder number p
+  abbrev may : Bool
+  may = mayWait tree taken holder (at (wordsOf s) 2) (at (wordsOf s) 4)
 
-    next : Walk
-    next = record { waiting = updated (at waiting) p target; taken = at taken }
+  abbrev next : Walk
+  next = record { waiting = updated (at waiting) (at (wordsOf s) 4) target; taken = at taken }
 
-    -- Where it is signed.
-    module _ (e : signedAt g image target ≡ true) where
-      pub piece-inside : p < piecesFor (g .l)
-      piece-inside = let h = signed-piece g image target e in let f = piece ∙ ap (λ (x : List ℕ). at (wordsOf x) 4) is in omega arith
+  read-is : valid g s (wordsOf s) ≡ true → targetWaits view holder now target (view target) ≡ cond may next now
+  unfolding targetWaits mayWait
+  read-is v =
+      let i = valid-piece g image s v in
+      let long = w .takenLong in
+      ap (targetWaits view holder now target) (valid-view g image target h s is _ refl v)
+      ∙ rw (sym (ap (λ (n : ℕ). keyAt n tree (at (wordsOf s) 4)) long ∙ w .keyed .keys (at (wordsOf s) 4) i), lt-ltb (at (wordsOf s) 4) (length taken) (omega arith)) refl
 
-      says : view target ≡ some (fields (wordsOf s))
-      says = view-signed g image target e ∙ ap (λ (x : List ℕ). some (fields (wordsOf x))) (sym is)
+  pub target-out : r ≡ false → (now ≡ targetWaits view holder now target (view target)) × Waits (piecesFor (g .l)) view waiting tree taken
+  unfolding doesWait targetWaits
+  target-out t = (
+    ⊎-elim (λ (v : valid g s (wordsOf s) ≡ true). sym (read-is v ∙ cond-false may next now (and-out may (valid g s (wordsOf s)) (sym judged ∙ t) v)))
+        (λ (v : valid g s (wordsOf s) ≡ false). sym (ap (targetWaits view holder now target) (invalid-view g image target h s is _ refl v))) (bool? (valid g s (wordsOf s))),
+    w,
+  )
 
-      before-is : keyAt (length taken) tree p ≡ waitingNumber view (walkOf waiting taken) p
-      before-is = ap (λ (n : ℕ). keyAt n tree p) (w .takenLong) ∙ w .keyed .keys p piece-inside
+  target-valid : r ≡ true → valid g s (wordsOf s) ≡ true
+  unfolding doesWait
+  target-valid t = and-r may (valid g s (wordsOf s)) (sym judged ∙ t)
 
-      read-is : targetWaits view holder (walkOf waiting taken) target (view target) ≡ cond waits? next (walkOf waiting taken)
-      unfolding targetWaits next mayWait
-      read-is =
-          let i = piece-inside in
-          let tl = w .takenLong in
-          ap (targetWaits view holder (walkOf waiting taken) target) says
-          ∙ rw (sym num, sym piece, sym before-is, lt-ltb p (length taken) (omega arith)) refl
+  pub target-ready : length s ≡ 512 → r ≡ true
+      → (length s ≡ 512) × ((at (wordsOf s) 4 < length waiting) × ((length waiting ≤ 256) × ((length tree ≡ 512) × Tournament (length waiting) tree)))
+  target-ready size t = put-ready g view waiting tree taken w s (target-valid t) size
 
-      number-is : numberIn (view target) ≡ number
-      unfolding numberIn
-      number-is = ap numberIn says ∙ sym num
-
-      -- The numbers of what waits, with the target in its place.
-      keys-next : 1 ≤ target → (j : ℕ) → updated (waitingNumber view (walkOf waiting taken)) p number j ≡ waitingNumber view next j
-      unfolding next
-      keys-next low j =
-          ⊎-elim (λ (z : j ≡ p).
-          rw (eq-eqb j p z, ne-eqb target 0 (λ (y : target ≡ 0). omega arith)) (sym number-is))
-          (λ (d : j ≡ p → ⊥). rw (ne-eqb j p d) refl) (eq? j p)
-
-      pub target-put : 1 ≤ target → r ≡ true → (tree′ : List ℕ) → length tree′ ≡ length tree
-          → Replayed (length taken) (set tree (length taken + p) (ranked (length taken) p number)) tree′
-          → (walkOf (set waiting p target) taken ≡ targetWaits view holder (walkOf waiting taken) target (view target))
-          × Waits (piecesFor (g .l)) view (set waiting p target) tree′ taken
-      unfolding next
-      target-put low t tree′ long replayed =
-          let i = piece-inside in
-          let wl = w .waitingLong in
-          let same : walkOf (set waiting p target) taken ≡ next =
-          ap (λ (h : ℕ → ℕ). record { waiting = h; taken = at taken }) (at-set waiting p target (omega arith)) in (
-            same ∙ sym (read-is ∙ cond-true waits? next (walkOf waiting taken) (sym judged ∙ t)),
-            record {
-              few = w .few;
-              waitingLong = length-set waiting p target ∙ wl;
-              treeLong = long ∙ w .treeLong;
-              takenLong = w .takenLong;
-              keyed = rekeyed (length taken) (piecesFor (g .l)) p number (waitingNumber view (walkOf waiting taken)) (waitingNumber view (walkOf (set waiting p target) taken))
-                  tree tree′ (w .takenLong) (w .few) i (w .treeLong) (w .keyed) replayed
-                  (λ j h. keys-next low j ∙ ap (λ (x : Walk). waitingNumber view x j) (sym same));
-            },
-          )
-
-    -- One that would not wait changes nothing, signed or not.
-    pub target-left : r ≡ false → walkOf waiting taken ≡ targetWaits view holder (walkOf waiting taken) target (view target)
-    target-left t =
-        ⊎-elim (λ (e : signedAt g image target ≡ true). sym (read-is e ∙ cond-false waits? next (walkOf waiting taken) (sym judged ∙ t)))
-        (λ (e : signedAt g image target ≡ false). target-unsigned e) (bool? (signedAt g image target))
+  pub target-in : 1 ≤ target → r ≡ true → (waiting′ tree′ : List ℕ) → Put s target waiting tree waiting′ tree′ → length tree′ ≡ length tree
+      → (walkOf waiting′ taken ≡ targetWaits view holder now target (view target)) × Waits (piecesFor (g .l)) view waiting′ tree′ taken
+  unfolding doesWait
+  target-in low t waiting′ tree′ done kept =
+      let v = target-valid t in
+      let put = put-waits g view waiting tree taken w s v target low (valid-view g image target h s is _ refl v) waiting′ tree′ done kept in
+      (put .0 ∙ sym (read-is v ∙ cond-true may next now (and-l may (valid g s (wordsOf s)) (sym judged ∙ t))), put .1)
 
 -- The branches of a signed sector.
 module _ (g : Geometry) (image : ℕ → List ℕ) (k : ℕ) (e : signedAt g image k ≡ true) (size : length (image k) ≡ 512) (s : List ℕ) (is : s ≡ image k) where
   abbrev seen : View
   seen = imageView g image
 
-  pub holder-is : (r : ℕ) → r ≡ at (wordsOf s) 2 → r ≡ numberIn (seen k)
+  holder-is : (r : ℕ) → r ≡ at (wordsOf s) 2 → r ≡ numberIn (seen k)
   unfolding numberIn
   holder-is r f = f ∙ ap (λ (x : List ℕ). at (wordsOf x) 2) is ∙ sym (ap numberIn (view-signed g image k e))
 
@@ -152,7 +192,7 @@ module _ (g : Geometry) (image : ℕ → List ℕ) (k : ℕ) (e : signedAt g ima
   branches-are = ap branchesIn (view-signed g image k e) ∙ ap (λ (x : List ℕ). take (at (wordsOf x) 6) (branchWords (wordsOf x))) (sym is)
 
   module _ (count : ℕ) (f : count ≡ at (wordsOf s) 6) where
-    pub count-most : count ≤ 24
+    count-most : count ≤ 24
     count-most = let h = signed-count g image k e in let u = f ∙ ap (λ (x : List ℕ). at (wordsOf x) 6) is in omega arith
 
     words-long : length (branchWords (wordsOf s)) ≡ 24
@@ -168,7 +208,7 @@ module _ (g : Geometry) (image : ℕ → List ℕ) (k : ℕ) (e : signedAt g ima
         ap length branches-are ∙ length-take-le (at (wordsOf s) 6) (branchWords (wordsOf s)) (omega arith) ∙ sym f
 
     module _ (i target : ℕ) (h : i < count) (u : target ≡ at (branchWords (wordsOf s)) i) where
-      pub target-is : target ≡ at (branchesIn (seen k)) i
+      target-is : target ≡ at (branchesIn (seen k)) i
       target-is =
           u ∙ sym (ap (λ (xs : List ℕ). at xs i) branches-are ∙ getD-take (at (wordsOf s) 6) (branchWords (wordsOf s)) i 0 (omega arith))
 
@@ -180,28 +220,74 @@ module _ (g : Geometry) (image : ℕ → List ℕ) (k : ℕ) (e : signedAt g ima
           (ap (all (within 1 (g .n - 1))) (branches-are ∙ ap (λ (x : List ℕ). take (at (wordsOf x) 6) (branchWords (wordsOf x))) is) ∙ signed-branches g image k e)
           (omega arith)
 
-      pub target-low : 1 ≤ target
+      target-low : 1 ≤ target
       target-low = leb-true 1 target (and-l (leb 1 target) (leb target (g .n - 1)) in-range)
 
-      pub target-high : k < g .n → target < g .n
+      target-high : k < g .n → target < g .n
       target-high b = let z = leb-true target (g .n - 1) (and-r (leb 1 target) (leb target (g .n - 1)) in-range) in omega arith
 
--- One branch after the other.
-module _ (view : View) (holder : ℕ) (bs : List ℕ) where
-  abbrev pub Reading : Walk → Walk → ℕ → Type 0
-  Reading start w i = targetsRead view holder start bs ≡ targetsRead view holder w (drop i bs)
+-- What a loop over the branches of sector k goes by, with its bytes s.
+pub record Held (g : Geometry) (im : List ℕ) (k : ℕ) (s : List ℕ) (holder count : ℕ) : Type 0 where
+  pub sized : length im ≡ sectorBytes * g .n
+  pub bytes : length s ≡ 512
+  pub most : count ≤ 24
+  pub held : holder ≡ numberIn (imageView g (sectorAt im) k)
+  pub counted : length (branchesIn (imageView g (sectorAt im) k)) ≡ count
+  pub targets : (i target : ℕ) → i < count → target ≡ at (branchWords (wordsOf s)) i
+      → (target ≡ at (branchesIn (imageView g (sectorAt im) k)) i) × (1 ≤ target) × (target < g .n)
+
+pub sector-size : (n : ℕ) (im : List ℕ) (k : ℕ) (s : List ℕ) → length im ≡ sectorBytes * n → k < n → s ≡ sectorAt im k → length s ≡ 512
+sector-size n im k s e h is = ap length is ∙ sector-length im k (omega arith)
+
+pub holds : (g : Geometry) (im : List ℕ) (k : ℕ) (s : List ℕ) (holder count : ℕ) → length im ≡ sectorBytes * g .n → signedAt g (sectorAt im) k ≡ true
+    → s ≡ sectorAt im k → holder ≡ at (wordsOf s) 2 → count ≡ at (wordsOf s) 6 → Held g im k s holder count
+holds g im k s holder count sized e is num f =
+    let h = inside g (sectorAt im) k e in
+    let size = sector-length im k (omega arith) in
+    record {
+      sized = sized;
+      bytes = ap length is ∙ size;
+      most = count-most g (sectorAt im) k e size s is count f;
+      held = holder-is g (sectorAt im) k e size s is holder num;
+      counted = count-is g (sectorAt im) k e size s is count f;
+      targets = λ i target b u. (
+        target-is g (sectorAt im) k e size s is count f i target b u,
+        target-low g (sectorAt im) k e size s is count f i target b u,
+        target-high g (sectorAt im) k e size s is count f i target b u h,
+      );
+    }
+
+-- One branch after the other: what is left to be read from here is what was to be read at the start.
+module _ (g : Geometry) (im : List ℕ) (k : ℕ) where
+  abbrev seen-in : View
+  seen-in = imageView g (sectorAt im)
+
+  abbrev listed : List ℕ
+  listed = branchesIn (imageView g (sectorAt im) k)
+
+  unfoldable pub Reading : Walk → Walk → ℕ → Type 0
+  Reading start w i = targetsRead seen-in (numberIn (seen-in k)) start listed ≡ targetsRead seen-in (numberIn (seen-in k)) w (drop i listed)
 
   pub reading-starts : (w : Walk) → Reading w w 0
+  unfolding Reading
   reading-starts w = refl
 
-  pub reading-more : (start w w′ : Walk) (i target : ℕ) → i < length bs → target ≡ at bs i → Reading start w i
-      → w′ ≡ targetWaits view holder w target (view target) → Reading start w′ (i + 1)
-  unfolding targetsRead
-  reading-more start w w′ i target h e r u =
-      r ∙ ap (targetsRead view holder w) (drop-cons bs i 0 h)
-      ∙ ap (λ (x : Walk). targetsRead view holder x (drop (suc i) bs)) (ap (λ (x : ℕ). targetWaits view holder w x (view x)) (sym e) ∙ sym u)
-      ∙ ap (λ (x : ℕ). targetsRead view holder w′ (drop x bs)) (sym (add-one i))
+  module _ (start w : Walk) (i : ℕ) where
+    pub reading-more : (target : ℕ) {s : List ℕ} {holder count : ℕ} (w′ : Walk) → Held g im k s holder count → i < count → target ≡ at (branchWords (wordsOf s)) i
+        → Reading start w i → w′ ≡ targetWaits seen-in holder w target (seen-in target) → Reading start w′ (i + 1)
+    unfolding targetsRead Reading
+    reading-more target {holder = holder} w′ h b u r e =
+        let many = h .counted in
+        let here = h .targets i target b u .0 in
+        r ∙ ap (targetsRead seen-in (numberIn (seen-in k)) w) (drop-cons listed i 0 (omega arith))
+        ∙ ap (λ (x : Walk). targetsRead seen-in (numberIn (seen-in k)) x (drop (suc i) listed))
+        (ap (λ (x : ℕ). targetWaits seen-in (numberIn (seen-in k)) w x (seen-in x)) (sym here) ∙ ap (λ (x : ℕ). targetWaits seen-in x w target (seen-in target)) (sym (h .held)) ∙ sym e)
+        ∙ ap (λ (x : ℕ). targetsRead seen-in (numberIn (seen-in k)) w′ (drop x listed)) (sym (add-one i))
 
-  pub reading-ends : (start w : Walk) (i : ℕ) → length bs ≤ i → Reading start w i → w ≡ targetsRead view holder start bs
-  unfolding targetsRead
-  reading-ends start w i h r = sym (r ∙ ap (targetsRead view holder w) (drop-of-length-le bs h))
+    pub reading-ends : {s : List ℕ} {holder count : ℕ} → Held g im k s holder count → count ≤ i → Reading start w i
+        → w ≡ targetsRead seen-in (numberIn (seen-in k)) start listed
+    unfolding targetsRead Reading
+    reading-ends h b r =
+        let many = h .counted in
+        let past : length listed ≤ i = omega arith in
+        sym (r ∙ ap (targetsRead seen-in (numberIn (seen-in k)) w) (drop-of-length-le listed past))

@@ -1,34 +1,18 @@
-// The targets that a walk reads: whether a sector is signed, and which sector then waits.
+// The targets that a walk reads, and which of them then wait.
 ghost use mathlib.Core.Path.{_≡_};
 ghost use mathlib.Core.Bool.{true};
 ghost use Prim.Native.Nat.{_*_, _<_, _≤_};
 ghost use lib.ListN.{length};
 ghost use Rattle.geometry.specs.Geometry.{sectorBytes, piecesFor};
+ghost use Rattle.layout.specs.Bounded.{at};
+ghost use Rattle.layout.specs.Word.{wordsOf};
 ghost use Rattle.volume.specs.Tables.{sectorAt};
 ghost use Rattle.volume.specs.Commit.{branchesIn};
 ghost use Rattle.volume.specs.Recover.{imageView, numberIn, targetWaits, targetsRead};
-ghost use Rattle.signed.specs.Signed.{isSigned, signedAt};
-ghost use Rattle.targets.specs.Waiting.{Known, walkOf, mayWait, Waits};
+ghost use Rattle.tournament.specs.Tournament.{Tournament};
+ghost use Rattle.signed.specs.Signed.{signedAt};
+ghost use Rattle.targets.specs.Waiting.{walkOf, mayWait, doesWait, Waits, Put};
 use geometry::Geometry;
-
-// Whether sector k is signed. That is found when it is first seen, and kept.
-fn is_signed(seen: &mut [u8], good: &mut [u8], image: &[u8], g: Geometry, k: u32) -> bool
-    requires { ⌜ length (now image) ≡ sectorBytes * g .n ⌝ }
-    requires { ⌜ k < g .n ⌝ }
-    requires { ⌜ Known g (sectorAt (now image)) (now seen) (now good) ⌝ }
-    ensures { λ r. ⌜ (r ≡ isSigned g (sectorAt (now (image .entry))) k) × Known g (sectorAt (now (image .entry))) (now (seen .exit)) (now (good .exit)) ⌝ }
-{
-    if bits::is_set(seen, k as usize) {
-        return bits::is_set(good, k as usize);
-    }
-    bits::set_bit(seen, k as usize);
-    let s = images::sector(image, k as usize);
-    if !map_sector::is_valid(s, g) {
-        return false;
-    }
-    bits::set_bit(good, k as usize);
-    true
-}
 
 // Whether a target waits if it is signed: it is lower in number than the holder, of a piece not done, and newer than what waits for the piece.
 fn may_wait(tree: &[u64], taken: &[u32], holder: u32, number: u32, p: usize) -> bool
@@ -48,10 +32,39 @@ fn may_wait(tree: &[u64], taken: &[u32], holder: u32, number: u32, p: usize) -> 
     tournament::key_of(tree, taken.len(), p) < number as u64
 }
 
-// Reads a target. One that would not wait is not summed: it changes nothing, signed or not.
+// Whether a target with the bytes s waits. One that would not by its header is not summed: it changes nothing, signed or not.
+fn does_wait(tree: &[u64], taken: &[u32], s: &[u8], g: Geometry, holder: u32) -> bool
+    requires { ⌜ length (now tree) ≡ 512 ⌝ }
+    requires { ⌜ length (now taken) ≤ 256 ⌝ }
+    requires { ⌜ length (now s) ≡ sectorBytes ⌝ }
+    requires { ⌜ 1 ≤ g .n ⌝ }
+    ensures { λ r. ⌜ r ≡ doesWait g (now (tree .entry)) (now (taken .entry)) holder (now (s .entry)) ⌝ }
+{
+    let number = map_sector::number_of(s);
+    let p = map_sector::piece_of(s) as usize;
+    if !may_wait(tree, taken, holder, number, p) {
+        return false;
+    }
+    map_sector::is_valid(s, g)
+}
+
+// Puts sector k with the bytes s in where it waits for its piece.
+pub fn put_in(waiting: &mut [u32], tree: &mut [u64], s: &[u8], k: u32)
+    requires { ⌜ length (now s) ≡ sectorBytes ⌝ }
+    requires { ⌜ at (wordsOf (now s)) 4 < length (now waiting) ⌝ }
+    requires { ⌜ length (now waiting) ≤ 256 ⌝ }
+    requires { ⌜ length (now tree) ≡ 512 ⌝ }
+    requires { ⌜ Tournament (length (now waiting)) (now tree) ⌝ }
+    ensures { λ _. ⌜ Put (now (s .entry)) k (now (waiting .entry)) (now (tree .entry)) (now (waiting .exit)) (now (tree .exit)) ⌝ }
+{
+    let p = map_sector::piece_of(s) as usize;
+    let number = map_sector::number_of(s);
+    tournament::change(tree, waiting.len(), p, number);
+    waiting[p] = k;
+}
+
+// Reads a target.
 fn read_target(
-    seen: &mut [u8],
-    good: &mut [u8],
     waiting: &mut [u32],
     tree: &mut [u64],
     taken: &[u32],
@@ -63,27 +76,18 @@ fn read_target(
     requires { ⌜ length (now image) ≡ sectorBytes * g .n ⌝ }
     requires { ⌜ 1 ≤ target ⌝ }
     requires { ⌜ target < g .n ⌝ }
-    requires { ⌜ Known g (sectorAt (now image)) (now seen) (now good) ⌝ }
     requires { ⌜ Waits (piecesFor (g .l)) (imageView g (sectorAt (now image))) (now waiting) (now tree) (now taken) ⌝ }
-    ensures { λ _. ⌜ (walkOf (now (waiting .exit)) (now (taken .entry)) ≡ targetWaits (imageView g (sectorAt (now (image .entry)))) holder (walkOf (now (waiting .entry)) (now (taken .entry))) target (imageView g (sectorAt (now (image .entry))) target)) × Known g (sectorAt (now (image .entry))) (now (seen .exit)) (now (good .exit)) × Waits (piecesFor (g .l)) (imageView g (sectorAt (now (image .entry)))) (now (waiting .exit)) (now (tree .exit)) (now (taken .entry)) ⌝ }
+    ensures { λ _. ⌜ (walkOf (now (waiting .exit)) (now (taken .entry)) ≡ targetWaits (imageView g (sectorAt (now (image .entry)))) holder (walkOf (now (waiting .entry)) (now (taken .entry))) target (imageView g (sectorAt (now (image .entry))) target)) × Waits (piecesFor (g .l)) (imageView g (sectorAt (now (image .entry)))) (now (waiting .exit)) (now (tree .exit)) (now (taken .entry)) ⌝ }
 {
     let s = images::sector(image, target as usize);
-    let number = map_sector::number_of(s);
-    let p = map_sector::piece_of(s) as usize;
-    if !may_wait(tree, taken, holder, number, p) {
+    if !does_wait(tree, taken, s, g, holder) {
         return;
     }
-    if !is_signed(seen, good, image, g, target) {
-        return;
-    }
-    waiting[p] = target;
-    tournament::change(tree, taken.len(), p, number);
+    put_in(waiting, tree, s, target);
 }
 
 // Reads the branches of sector k, in their order.
 pub fn read_targets(
-    seen: &mut [u8],
-    good: &mut [u8],
     waiting: &mut [u32],
     tree: &mut [u64],
     taken: &[u32],
@@ -93,9 +97,8 @@ pub fn read_targets(
 )
     requires { ⌜ length (now image) ≡ sectorBytes * g .n ⌝ }
     requires { ⌜ signedAt g (sectorAt (now image)) k ≡ true ⌝ }
-    requires { ⌜ Known g (sectorAt (now image)) (now seen) (now good) ⌝ }
     requires { ⌜ Waits (piecesFor (g .l)) (imageView g (sectorAt (now image))) (now waiting) (now tree) (now taken) ⌝ }
-    ensures { λ _. ⌜ (walkOf (now (waiting .exit)) (now (taken .entry)) ≡ targetsRead (imageView g (sectorAt (now (image .entry)))) (numberIn (imageView g (sectorAt (now (image .entry))) k)) (walkOf (now (waiting .entry)) (now (taken .entry))) (branchesIn (imageView g (sectorAt (now (image .entry))) k))) × Known g (sectorAt (now (image .entry))) (now (seen .exit)) (now (good .exit)) × Waits (piecesFor (g .l)) (imageView g (sectorAt (now (image .entry)))) (now (waiting .exit)) (now (tree .exit)) (now (taken .entry)) ⌝ }
+    ensures { λ _. ⌜ (walkOf (now (waiting .exit)) (now (taken .entry)) ≡ targetsRead (imageView g (sectorAt (now (image .entry)))) (numberIn (imageView g (sectorAt (now (image .entry))) k)) (walkOf (now (waiting .entry)) (now (taken .entry))) (branchesIn (imageView g (sectorAt (now (image .entry))) k))) × Waits (piecesFor (g .l)) (imageView g (sectorAt (now (image .entry)))) (now (waiting .exit)) (now (tree .exit)) (now (taken .entry)) ⌝ }
 {
     let s = images::sector(image, k as usize);
     let holder = map_sector::number_of(s);
@@ -103,7 +106,7 @@ pub fn read_targets(
     let mut i = 0;
     while i < count {
         let target = map_sector::branch_at(s, i);
-        read_target(seen, good, waiting, tree, taken, image, g, holder, target);
+        read_target(waiting, tree, taken, image, g, holder, target);
         i += 1;
     }
 }

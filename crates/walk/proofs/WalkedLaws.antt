@@ -1,5 +1,5 @@
 -- What a walk left, against what the definition finds.
-use Prim.Native.Nat.{ℕ, zero, suc, _+_, _-_, _≤_, _<_}
+use Prim.Native.Nat.{ℕ, zero, suc, _+_, _*_, _-_, _≤_, _<_}
 use mathlib.Core.Path.{_≡_, refl, sym, _∙_, ap, subst}
 use mathlib.Core.Logic.{⊎-elim}
 use mathlib.Core.Bool.{Bool, true, false, cond, not, _&&_, true≢false}
@@ -11,26 +11,27 @@ use lib.ListN.{length}
 use lib.Dec.{eqb, leb}
 use borrow.Author.Tests.{eq-eqb, leb-true, not-true, not-false}
 use Rattle.geometry.specs.declared.Geometry.{Geometry}
-use Rattle.geometry.specs.Geometry.{within, piecesFor}
+use Rattle.geometry.specs.Geometry.{sectorBytes, within, piecesFor, geometryFits}
 use Rattle.answer.specs.declared.Answer.the-variants.{Walked}
 use Rattle.layout.specs.Bounded.{at, allBelow, isZero, listFrom, tabled}
 use Rattle.layout.specs.Word.{wordsOf}
 use Rattle.layout.specs.MapSector.{MapSector, View, fields}
 use Rattle.layout.specs.ParkRecord.{Parked, parkedIn}
-use Rattle.volume.specs.Tables.{Tables, tablesOf, namedBy, usedBy, bitAt, consistent}
+use Rattle.volume.specs.Tables.{Tables, sectorAt, tablesOf, namedBy, usedBy, bitAt, consistent}
 use Rattle.volume.specs.Commit.{branchesIn}
-use Rattle.volume.specs.Recover.{numberIn, imageView, tablesFrom, walkFrom, branchCount, walkedLog, walkComplete, walkFinding, walkStarts, findingFrom, scanFinding, Finding, found, parkSectorCleared, isBlank}
+use Rattle.volume.specs.Recover.{numberIn, imageView, tablesFrom, walkFrom, branchCount, walkedLog, walkComplete, walkFinding, walkStarts, findingFrom, findingOf, scanFinding, Finding, found, parkSectorCleared, isBlank}
 use Rattle.laws.proofs.Bounded.{bool?, eq?, clash, and-l, cond-true, cond-false, allBelow-at, length-listFrom, listFrom-same}
+use Rattle.laws.proofs.Sectors.{sector-length}
+use Rattle.soundness.proofs.Sounding.{blocks-most}
 use Rattle.signed.specs.Signed.{signedAt}
 use Rattle.log_tables.specs.LogTables.{tablesNamed, mapFrom}
 use Rattle.signed.proofs.Newest.{listed}
-use Rattle.signed.proofs.ViewLaws.{inside, view-signed, view-unsigned}
+use Rattle.signed.proofs.ViewLaws.{inside, view-signed, view-unsigned, signed-count}
 use Rattle.scan.proofs.ScanLaws.{live-tables, used-same}
 use Rattle.walk_start.specs.Starting.{startOf}
-use Rattle.walk.specs.Walking.{Left, branchWordCount, walkFound}
+use Rattle.walk.specs.Walking.{Left, branchWordCount}
 use Rattle.walk_start.specs.declared.Start.{Start}
 use Rattle.walk_start.specs.declared.Start.the-variants.{Tail, Nowhere}
-use Rattle.walk.specs.declared.Way.the-variants.{Log, Scan}
 use Rattle.targets.proofs.TargetLaws.{count-is}
 use Rattle.walk_steps.proofs.WalkLaws.{number-signed, walk-signed}
 
@@ -136,7 +137,7 @@ module _ (image : ℕ → List ℕ) (place : ℕ → ℕ) where
   unfolding branchWordCount
   count-more count i x e f = rw add-one (ap (λ (c : ℕ). c + x) e ∙ ap (λ (y : ℕ). branchWordCount image place i + y) f)
 
-  pub branches-counted : (g : Geometry) (m : ℕ) → ((p : ℕ) → p < m → signedAt g image (place p) ≡ true) → ((p : ℕ) → p < m → length (image (place p)) ≡ 512)
+  branches-counted : (g : Geometry) (m : ℕ) → ((p : ℕ) → p < m → signedAt g image (place p) ≡ true) → ((p : ℕ) → p < m → length (image (place p)) ≡ 512)
       → branchCount (imageView g image) place m ≡ branchWordCount image place m
   unfolding branchCount branchWordCount
   branches-counted g zero s h = refl
@@ -204,17 +205,17 @@ module _ (g : Geometry) (image : ℕ → List ℕ) (o : Option Parked) where
   abbrev seen : View
   seen = imageView g image
 
-  pub walk-nowhere : Nowhere ≡ startOf (g .n) seen o → (sector0 : List ℕ) → findingFrom g seen sector0 o ≡ scanFinding g seen sector0
+  walk-nowhere : Nowhere ≡ startOf (g .n) seen o → (sector0 : List ℕ) → findingFrom g seen sector0 o ≡ scanFinding g seen sector0
   walk-nowhere e sector0 = from-nowhere g seen sector0 o e
 
   module _ (tail number : ℕ) (e : Tail tail number ≡ startOf (g .n) seen o) (sector0 : List ℕ) where
     starting : walkStarts (g .n) (record { number = number; tail = tail }) (seen tail) ≡ true
     starting = from-tail g seen sector0 tail number o e .1
 
-    pub tail-from : 1 ≤ tail
+    tail-from : 1 ≤ tail
     tail-from = starts-from g seen sector0 tail number (seen tail) starting
 
-    pub tail-signed : signedAt g image tail ≡ true
+    tail-signed : signedAt g image tail ≡ true
     unfolding walkStarts
     tail-signed =
         ⊎-elim (λ (z : signedAt g image tail ≡ true). z)
@@ -240,7 +241,7 @@ module _ (g : Geometry) (image : ℕ → List ℕ) (o : Option Parked) where
     unfolding walkFinding walkedLog
     walking-is = refl
 
-    pub walk-incomplete : (r : Bool) → r ≡ walkComplete g (walkedLog (g .l) seen (record { number = number; tail = tail })) → not r ≡ true
+    walk-incomplete : (r : Bool) → r ≡ walkComplete g (walkedLog (g .l) seen (record { number = number; tail = tail })) → not r ≡ true
         → findingFrom g seen sector0 o ≡ scanFinding g seen sector0
     walk-incomplete r f u =
         finds ∙ walking-is
@@ -254,7 +255,7 @@ module _ (g : Geometry) (image : ℕ → List ℕ) (o : Option Parked) where
           ap (λ (h : ℕ → ℕ). 2 + branchCount seen h (piecesFor (g .l))) (sym (ap (λ (t : Tables). t .place) (left .tables)))
           ∙ ap (λ (x : ℕ). 2 + x) (branches-counted image (at places) g (piecesFor (g .l)) (left .signed) size)
 
-      pub walk-finds : (count : ℕ) → count ≡ branchWordCount image (at places) (length places)
+      walk-finds : (count : ℕ) → count ≡ branchWordCount image (at places) (length places)
           → findingFrom g seen sector0 o
           ≡ found (record { tables = tablesOf map places numbers used; tail = tail; number = number }) (Walked (2 + count)) (parkSectorCleared (isBlank sector0))
       walk-finds count h =
@@ -264,11 +265,11 @@ module _ (g : Geometry) (image : ℕ → List ℕ) (o : Option Parked) where
           ∙ ap (λ (x : ℕ). found (record { tables = tablesOf map places numbers used; tail = tail; number = number }) (Walked x) (parkSectorCleared (isBlank sector0)))
           (reads-are ∙ ap (λ (x : ℕ). 2 + x) (ap (branchWordCount image (at places)) (sym (left .long)) ∙ sym h))
 
--- The same, as the code answers it.
+-- The same, by the park record that stands in sector 0.
 module _ (g : Geometry) (image : ℕ → List ℕ) where
-  pub found-nowhere : (t : Tables) → Nowhere ≡ startOf (g .n) (imageView g image) (parkedIn (image 0)) → walkFound Scan g (imageView g image) (image 0) t
-  unfolding walkFound
-  found-nowhere t e = walk-nowhere g image (parkedIn (image 0)) e (image 0)
+  pub found-nowhere : Nowhere ≡ startOf (g .n) (imageView g image) (parkedIn (image 0))
+      → findingOf g (imageView g image) (image 0) ≡ scanFinding g (imageView g image) (image 0)
+  found-nowhere e = walk-nowhere g image (parkedIn (image 0)) e (image 0)
 
   module _ (tail number : ℕ) (e : Tail tail number ≡ startOf (g .n) (imageView g image) (parkedIn (image 0))) where
     pub found-low : 1 ≤ tail
@@ -278,13 +279,33 @@ module _ (g : Geometry) (image : ℕ → List ℕ) where
     found-signed = tail-signed g image (parkedIn (image 0)) tail number e (image 0)
 
     module _ (r : Bool) (f : r ≡ walkComplete g (walkedLog (g .l) (imageView g image) (record { number = number; tail = tail }))) where
-      pub found-incomplete : not r ≡ true → (t : Tables) → walkFound Scan g (imageView g image) (image 0) t
-      unfolding walkFound
-      found-incomplete u t = walk-incomplete g image (parkedIn (image 0)) tail number e (image 0) r f u
+      pub found-incomplete : not r ≡ true → findingOf g (imageView g image) (image 0) ≡ scanFinding g (imageView g image) (image 0)
+      found-incomplete u = walk-incomplete g image (parkedIn (image 0)) tail number e (image 0) r f u
 
-      pub found-log : not r ≡ false → (map places numbers used : List ℕ) → Left g image tail map places numbers used
-          → ((p : ℕ) → p < piecesFor (g .l) → length (image (at places p)) ≡ 512) → (count : ℕ) → count ≡ branchWordCount image (at places) (length places)
-          → walkFound (Log tail number (2 + count)) g (imageView g image) (image 0) (tablesOf map places numbers used)
-      unfolding walkFound
-      found-log u map places numbers used left size count h =
-          walk-finds g image (parkedIn (image 0)) tail number e (image 0) r f u map places numbers used left size count h
+pub found-room : (g : Geometry) (im : List ℕ) (tail number : ℕ) → Tail tail number ≡ startOf (g .n) (imageView g (sectorAt im)) (parkedIn (sectorAt im 0))
+    → length im ≡ sectorBytes * g .n → sectorBytes ≤ length im
+found-room g im tail number e sized = let h = inside g (sectorAt im) tail (found-signed g (sectorAt im) tail number e) in omega arith
+
+-- A complete walk: its places are sectors with branches to count, and what it found.
+module _ (g : Geometry) (im : List ℕ) (sized : length im ≡ sectorBytes * g .n) (tail : ℕ) (map places numbers used : List ℕ)
+    (left : Left g (sectorAt im) tail map places numbers used) where
+  place-size : (p : ℕ) → p < piecesFor (g .l) → sectorBytes * at places p + sectorBytes ≤ length im
+  place-size p h = let b = inside g (sectorAt im) (at places p) (left .signed p h) in omega arith
+
+  pub count-ready : geometryFits g ≡ true
+      → (length places ≤ 256)
+      × (((p : ℕ) → p < length places → sectorBytes * at places p + sectorBytes ≤ length im)
+      × ((p : ℕ) → p < length places → at (wordsOf (sectorAt im (at places p))) 6 ≤ 24))
+  count-ready fits =
+      let long = left .long in
+      let most = blocks-most g fits in
+      (omega arith, (λ p h. place-size p (omega arith), λ p h. signed-count g (sectorAt im) (at places p) (left .signed p (omega arith))))
+
+  pub found-log : (number : ℕ) → Tail tail number ≡ startOf (g .n) (imageView g (sectorAt im)) (parkedIn (sectorAt im 0)) → (r : Bool)
+      → r ≡ walkComplete g (walkedLog (g .l) (imageView g (sectorAt im)) (record { number = number; tail = tail })) → not r ≡ false → (count : ℕ)
+      → count ≡ branchWordCount (sectorAt im) (at places) (length places)
+      → findingOf g (imageView g (sectorAt im)) (sectorAt im 0)
+      ≡ found (record { tables = tablesOf map places numbers used; tail = tail; number = number }) (Walked (2 + count)) (parkSectorCleared (isBlank (sectorAt im 0)))
+  found-log number e r f u count h =
+      walk-finds g (sectorAt im) (parkedIn (sectorAt im 0)) tail number e (sectorAt im 0) r f u map places numbers used left
+      (λ p b. sector-length im (at places p) (place-size p b)) count h

@@ -6,15 +6,11 @@ use mathlib.Core.List.{List}
 use lib.ListN.{length}
 use Rattle.geometry.specs.declared.Geometry.{Geometry}
 use Rattle.geometry.specs.Geometry.{piecesFor}
-use Rattle.answer.specs.declared.Answer.the-variants.{Walked}
 use Rattle.layout.specs.Bounded.{at}
 use Rattle.layout.specs.Word.{wordsOf}
-use Rattle.layout.specs.MapSector.{View}
-use Rattle.volume.specs.Tables.{Tables, tablesOf}
-use Rattle.volume.specs.Recover.{tablesFrom, walkFrom, imageView, found, scanFinding, findingOf, parkSectorCleared, isBlank}
+use Rattle.volume.specs.Tables.{tablesOf}
+use Rattle.volume.specs.Recover.{tablesFrom, walkFrom, imageView}
 use Rattle.signed.specs.Signed.{signedAt}
-use Rattle.walk.specs.declared.Way.{Way}
-use Rattle.walk.specs.declared.Way.the-variants.{Log, Scan}
 
 -- The tables that a complete walk leaves: the sectors that it took are signed, and the tables are theirs.
 pub record Left (g : Geometry) (image : ℕ → List ℕ) (tail : ℕ) (map places numbers used : List ℕ) : Type 0 where
@@ -26,9 +22,3 @@ pub record Left (g : Geometry) (image : ℕ → List ℕ) (tail : ℕ) (map plac
 unfoldable pub branchWordCount : (ℕ → List ℕ) → (ℕ → ℕ) → ℕ → ℕ
 branchWordCount image place zero = 0
 branchWordCount image place (suc p) = branchWordCount image place p + at (wordsOf (image (place p))) 6
-
--- What a walk found, given the tables that it left; where it found nothing, the scan decides.
-unfoldable pub walkFound : Way → Geometry → View → List ℕ → Tables → Type 0
-walkFound (Log tail number read) g view sector0 t =
-    findingOf g view sector0 ≡ found (record { tables = t; tail = tail; number = number }) (Walked read) (parkSectorCleared (isBlank sector0))
-walkFound Scan g view sector0 t = findingOf g view sector0 ≡ scanFinding g view sector0

@@ -6,21 +6,14 @@ ghost use lib.ListN.{length};
 ghost use Rattle.geometry.specs.Geometry.{sectorBytes, piecesFor, usedBytes, geometryFits};
 ghost use Rattle.layout.specs.Bounded.{at, allBelow, listFrom, isZero};
 ghost use Rattle.layout.specs.Word.{wordsOf};
-ghost use Rattle.volume.specs.Tables.{sectorAt, tablesOf};
+ghost use Rattle.volume.specs.Tables.{sectorAt};
 ghost use Rattle.volume.specs.Recover.{imageView, walkedLog, walkComplete};
 ghost use Rattle.signed.specs.Signed.{signedAt};
 ghost use Rattle.log_tables.specs.LogTables.{mapFrom};
-ghost use Rattle.walk.specs.Walking.{Left, branchWordCount, walkFound};
+ghost use Rattle.walk.specs.Walking.{Left, branchWordCount};
 use geometry::Geometry;
 use log_tables::agrees;
 use log_tables::fill_map;
-use walk_start::Start;
-
-pub enum Way {
-    // The tail, its number, and the sectors read.
-    Log { tail: u32, number: u32, read: u32 },
-    Scan,
-}
 
 // Whether every piece is done.
 fn all_taken(taken: &[u32]) -> bool
@@ -62,7 +55,7 @@ fn walk_fill(image: &[u8], places: &[u32], map: &mut [u32], numbers: &mut [u32])
 }
 
 // Whether a walk from the tail takes a sector for every piece, and the tables are sound. They then stand in what was lent.
-fn walk_tables(
+pub fn walk_tables(
     image: &[u8],
     g: Geometry,
     tail: u32,
@@ -92,7 +85,7 @@ fn walk_tables(
 }
 
 // The branches of the sectors at these places.
-fn count_branches(image: &[u8], places: &[u32]) -> u32
+pub fn count_branches(image: &[u8], places: &[u32]) -> u32
     requires { ⌜ length (now places) ≤ 256 ⌝ }
     requires { ⌜ ((p : ℕ) → p < length (now places) → sectorBytes * at (now places) p + sectorBytes ≤ length (now image)) ⌝ }
     requires { ⌜ ((p : ℕ) → p < length (now places) → at (wordsOf (sectorAt (now image) (at (now places) p))) 6 ≤ 24) ⌝ }
@@ -106,33 +99,4 @@ fn count_branches(image: &[u8], places: &[u32]) -> u32
         i += 1;
     }
     count
-}
-
-// Finds the log by a walk from the tail that the park record names. The tables are then in what was lent.
-pub fn walk(
-    image: &[u8],
-    g: Geometry,
-    map: &mut [u32],
-    places: &mut [u32],
-    numbers: &mut [u32],
-    used: &mut [u8],
-) -> Way
-    requires { ⌜ geometryFits g ≡ true ⌝ }
-    requires { ⌜ length (now image) ≡ sectorBytes * g .n ⌝ }
-    requires { ⌜ length (now map) ≡ g .l ⌝ }
-    requires { ⌜ length (now places) ≡ piecesFor (g .l) ⌝ }
-    requires { ⌜ length (now numbers) ≡ piecesFor (g .l) ⌝ }
-    requires { ⌜ length (now used) ≡ usedBytes (g .n) ⌝ }
-    ensures { λ r. ⌜ walkFound r g (imageView g (sectorAt (now (image .entry)))) (sectorAt (now (image .entry)) 0) (tablesOf (now (map .exit)) (now (places .exit)) (now (numbers .exit)) (now (used .exit))) ⌝ }
-{
-    match walk_start::parked_at(image, g) {
-        Start::Nowhere => Way::Scan,
-        Start::Tail { tail, number } => {
-            if !walk_tables(image, g, tail, number, map, places, numbers, used) {
-                return Way::Scan;
-            }
-            let read = 2 + count_branches(image, places);
-            Way::Log { tail, number, read }
-        }
-    }
 }

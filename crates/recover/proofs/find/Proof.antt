@@ -1,13 +1,11 @@
--- The walk answers, or the scan does.
-use mathlib.Core.Path.{_∙_}
+-- A walk where a tail was parked, otherwise a scan.
+use mathlib.Core.Path.{sym, _∙_}
 use native.Mathlib.Omega.{arith}
-use Rattle.checks.proofs.SizeLaws.{size-passed, volume-passed, volume-range}
-use Rattle.recover.proofs.RecoverLaws.{walk-found, walk-failed}
+use Rattle.checks.proofs.SizeLaws.{size-passed}
+use Rattle.recover.proofs.RecoverLaws.{asked-for, asked-scan, image-ready, tables-ready, park-ready}
 use borrow.Author.Needs.{needs}
 use Rattle.recover.proofs.find.Statement.{statement}
 use Rattle.recover.proofs.find.Tie as tie
-use Rattle.resume.proofs.after_walk.Reads as after-walk-reads
-use Rattle.recover_by_scan.proofs.by_scan.Reads as by-scan-reads
 
 cast-volume : tie.Need-cast-volume
 cast-volume c =
@@ -19,47 +17,33 @@ cast-volume c =
 volume-requires : tie.Need-volume-requires
 volume-requires c κs = search needs
 
-walk-requires : tie.Need-walk-requires
-walk-requires c κs =
-    let the-pre = c .before .before .before .before .before .before .before .before .before .before .before .pre in
-    let the-volume = c .before .before .before .before .before .volume in
-    let s = volume-passed _ _ _ _ _ _ (the-volume .result) (the-volume .ensures) the-pre in
-    (volume-range _ _ _ _ _ _ (the-volume .result) (the-volume .ensures) the-pre, (s .image, (s .map, (s .places, (s .numbers, s .used)))))
+parked-at-requires : tie.Need-parked-at-requires
+parked-at-requires c κs =
+    let the-volume = c .before .volume in
+    let the-pre = c .before .before .before .before .before .before .before .pre in
+    park-ready _ _ _ _ _ _ (the-volume .result) (the-volume .ensures) the-pre
 
 enum-told : tie.Need-enum-told
 enum-told c = search needs
 
 by-scan-requires : tie.Need-by-scan-requires
 by-scan-requires c κs =
-    let the-walk = c .before .before .before .before .before .before .before .before .before .before .before .before .before .before .before .walk in
-    let the-pre = c .before .before .before .before .before .before .before .before .before .before .before .before .before .before .before .before .before .before .before .before .before .before .before .before .before .before .before .pre in
-    let a = c .before .before .before .before .before .before .before .before .before .before .before .before .before .before .before .before .before .before .before .before .before .before .before .before .before .before .before .args in
-    let the-volume = c .before .before .before .before .before .before .before .before .before .before .before .before .before .before .before .before .before .before .before .before .before .volume in
-    let s = volume-passed (a .image .now) (a .map .now) (a .places .now) (a .numbers .now) (a .used .now) (a .settings) (the-volume .result) (the-volume .ensures) the-pre in (
-      volume-range (a .image .now) (a .map .now) (a .places .now) (a .numbers .now) (a .used .now) (a .settings) (the-volume .result) (the-volume .ensures) the-pre,
-      (
-        s .image,
-        (
-          the-walk .kept .1 .1 .0 ∙ s .map,
-          (
-            the-walk .kept .1 .1 .1 .0 ∙ s .places,
-            (the-walk .kept .1 .1 .1 .1 .0 ∙ s .numbers, the-walk .kept .1 .1 .1 .1 .1 .0 ∙ s .used),
-          ),
-        ),
-      ),
-    )
+    let the-volume = c .before .before .before .before .before .before .before .before .before .volume in
+    let the-pre = c .before .before .before .before .before .before .before .before .before .before .before .before .before .before .before .pre in
+    let here = image-ready _ _ _ _ _ _ (the-volume .result) (the-volume .ensures) the-pre in
+    (here .0, (here .1, tables-ready _ _ _ _ _ _ (the-volume .result) (the-volume .ensures) the-pre))
 
-enum-known-way : tie.Need-enum-known-way
-enum-known-way c = search needs
+enum-known-tail : tie.Need-enum-known-tail
+enum-known-tail c = search needs
 
-after-walk-requires : tie.Need-after-walk-requires
-after-walk-requires c κs =
-    let the-pre = c .before .before .before .before .before .before .before .before .before .before .before .before .before .before .before .before .before .before .before .before .before .before .before .before .before .before .before .before .pre in
-    let the-volume = c .before .before .before .before .before .before .before .before .before .before .before .before .before .before .before .before .before .before .before .before .before .before .volume in
-    let s = volume-passed _ _ _ _ _ _ (the-volume .result) (the-volume .ensures) the-pre in
-    let e = s .image in
-    let h = s .range .least in
-    omega arith
+by-walk-requires : tie.Need-by-walk-requires
+by-walk-requires c κs =
+    let the-tail = c .before .before .before .before .before .before .tail in
+    let the-parked-at = c .before .before .before .before .before .before .before .before .parked-at in
+    let the-volume = c .before .before .before .before .before .before .before .before .before .before .volume in
+    let the-pre = c .before .before .before .before .before .before .before .before .before .before .before .before .before .before .before .before .pre in
+    let here = image-ready _ _ _ _ _ _ (the-volume .result) (the-volume .ensures) the-pre in
+    (here .0, (here .1, (sym (the-tail .given .1) ∙ the-parked-at .ensures, tables-ready _ _ _ _ _ _ (the-volume .result) (the-volume .ensures) the-pre)))
 
 same-length : tie.Need-same-length
 same-length c = search needs
@@ -80,12 +64,9 @@ returns : tie.Need-returns
 returns c =
     let the-by-scan = c .before .before .before .before .before .before .before .before .before .before .by-scan in
     let the-enum-told = c .before .before .before .before .before .before .before .before .before .before .before .before .before .before .before .before .enum-told in
-    let the-walk = c .before .before .before .before .before .before .before .before .before .before .before .before .before .before .before .before .before .before .before .before .before .before .before .before .before .before .walk in
-    let the-volume = c .before .before .before .before .before .before .before .before .before .before .before .before .before .before .before .before .before .before .before .before .before .before .before .before .before .before .before .before .before .before .before .before .volume in
-    walk-failed _ (the-volume .result) _ _ _ _ _ _
-    (the-walk .last .1 .1 .0) (the-walk .last .1 .1 .1 .0) (the-walk .last .1 .1 .1 .1 .0) (the-walk .last .1 .1 .1 .1 .1 .0)
-    (the-volume .ensures) (the-walk .kept .1 .1 .0) (the-walk .kept .1 .1 .1 .0) (the-walk .kept .1 .1 .1 .1 .0) (the-walk .kept .1 .1 .1 .1 .1 .0)
-    (the-walk .result) (the-walk .ensures) _ (the-enum-told .given .1) (the-by-scan .ensures)
+    let the-parked-at = c .before .before .before .before .before .before .before .before .before .before .before .before .before .before .before .before .before .before .parked-at in
+    let the-volume = c .before .before .before .before .before .before .before .before .before .before .before .before .before .before .before .before .before .before .before .before .volume in
+    asked-scan _ _ _ _ _ _ (the-volume .result) (the-volume .ensures) _ _ (sym (the-enum-told .given .1) ∙ the-parked-at .ensures) (the-by-scan .ensures)
 
 same-length-6 : tie.Need-same-length-6
 same-length-6 c = search needs
@@ -104,14 +85,9 @@ same-length-10 c = search needs
 
 returns-2 : tie.Need-returns-2
 returns-2 c =
-    let the-after-walk = c .before .before .before .before .before .before .before .before .before .before .after-walk in
-    let the-way = c .before .before .before .before .before .before .before .before .before .before .before .before .before .before .before .before .before .way in
-    let the-walk = c .before .before .before .before .before .before .before .before .before .before .before .before .before .before .before .before .before .before .before .before .before .before .before .before .before .before .before .walk in
-    let the-volume = c .before .before .before .before .before .before .before .before .before .before .before .before .before .before .before .before .before .before .before .before .before .before .before .before .before .before .before .before .before .before .before .before .before .volume in
-    walk-found _ (the-volume .result) _ _ _ _ _ _
-    (the-walk .last .1 .1 .0) (the-walk .last .1 .1 .1 .0) (the-walk .last .1 .1 .1 .1 .0) (the-walk .last .1 .1 .1 .1 .1 .0)
-    (the-volume .ensures) (the-walk .kept .1 .1 .0) (the-walk .kept .1 .1 .1 .0) (the-walk .kept .1 .1 .1 .1 .0) (the-walk .kept .1 .1 .1 .1 .1 .0)
-    (the-walk .result) (the-walk .ensures) _ _ _ _ (the-way .given .1) (the-after-walk .ensures)
+    let the-by-walk = c .before .before .before .before .before .before .before .before .before .before .by-walk in
+    let the-volume = c .before .before .before .before .before .before .before .before .before .before .before .before .before .before .before .before .before .before .before .before .before .volume in
+    asked-for _ _ _ _ _ _ (the-volume .result) (the-volume .ensures) _ _ (the-by-walk .ensures)
 
 pub find-spec : {M : Type 1} → statement M
 find-spec =
@@ -119,11 +95,11 @@ find-spec =
     (tie.spec
     cast-volume
     volume-requires
-    walk-requires
+    parked-at-requires
     enum-told
     by-scan-requires
-    enum-known-way
-    after-walk-requires
+    enum-known-tail
+    by-walk-requires
     same-length
     same-length-2
     same-length-3

@@ -1,12 +1,7 @@
--- A target that would not wait changes nothing, nor does an unsigned one.
-use mathlib.Core.Path.{_∙_, ap}
-use mathlib.Core.Bool.{true, false}
+-- A target that does not wait changes nothing; another is put in.
 use native.Mathlib.Omega.{arith}
-use lib.ListN.{length}
 use borrow.Author.Tests.{not-true, not-false}
-use Rattle.volume.specs.Tables.{sectorAt}
-use Rattle.laws.proofs.Sectors.{sector-length}
-use Rattle.targets.proofs.TargetLaws.{tournament-of, signed-here, target-unsigned, piece-inside, target-left, target-put}
+use Rattle.targets.proofs.TargetLaws.{sector-size, target-out, target-ready, target-in}
 use borrow.Author.Needs.{needs}
 use Rattle.targets.proofs.read_target.Statement.{statement}
 use Rattle.targets.proofs.read_target.Tie as tie
@@ -14,42 +9,35 @@ use Rattle.targets.proofs.read_target.Tie as tie
 sector-requires : tie.Need-sector-requires
 sector-requires c κs = search needs
 
-number-of-requires : tie.Need-number-of-requires
-number-of-requires c κs =
-    let the-sector = c .sector in
-    ap length (the-sector .ensures) ∙ sector-length _ _ (omega arith)
-
-piece-of-requires : tie.Need-piece-of-requires
-piece-of-requires c κs =
+does-wait-requires : tie.Need-does-wait-requires
+does-wait-requires c κs =
     let the-sector = c .before .sector in
-    ap length (the-sector .ensures) ∙ sector-length _ _ (omega arith)
-
-cast-p : tie.Need-cast-p
-cast-p c = search needs
-
-may-wait-requires : tie.Need-may-wait-requires
-may-wait-requires c κs = search needs
+    let the-pre = c .before .before .before .before .before .before .pre in
+    let w = the-pre .1 .1 .1 in
+    let few = w .few in
+    let long = w .takenLong in
+    let h = the-pre .1 .1 .0 in
+    (w .treeLong, (omega arith, (sector-size _ _ _ _ (the-pre .0) h (the-sector .ensures), omega arith)))
 
 same-length : tie.Need-same-length
 same-length c = search needs
 
 returns : tie.Need-returns
 returns c =
-    let the-may-wait = c .before .may-wait in
-    let the-piece-of = c .before .before .before .piece-of in
-    let the-number-of = c .before .before .before .before .number-of in
-    let the-sector = c .before .before .before .before .before .sector in
-    let a = c .before .before .before .before .before .before .before .before .before .before .before .before .args in
-    let the-pre = c .before .before .before .before .before .before .before .before .before .before .before .before .pre in
-    let w = the-pre .1 .1 .1 .1 in (
-      target-left (a .g) (sectorAt (a .image .now)) (a .holder) (a .waiting .now) (a .tree .now) (a .taken .now) w (a .target)
-          _ (the-sector .ensures) (the-number-of .result) (the-piece-of .result) (the-number-of .ensures) (the-piece-of .ensures) (the-may-wait .result) (the-may-wait .ensures) (not-true (the-may-wait .result) (c .if1 .taken)),
-      the-pre .1 .1 .1 .0,
-      w,
-    )
+    let the-does-wait = c .before .does-wait in
+    let the-sector = c .before .before .before .sector in
+    let the-pre = c .before .before .before .before .before .before .before .before .pre in
+    target-out _ _ _ _ _ _ (the-pre .1 .1 .1) _ (the-pre .1 .1 .0) _ (the-sector .ensures) (the-does-wait .result) (the-does-wait .ensures)
+    (not-true (the-does-wait .result) (c .if1 .taken))
 
-is-signed-requires : tie.Need-is-signed-requires
-is-signed-requires c κs = search needs
+put-in-requires : tie.Need-put-in-requires
+put-in-requires c κs =
+    let the-if1 = c .before .before .if1 in
+    let the-does-wait = c .before .before .before .does-wait in
+    let the-sector = c .before .before .before .before .before .sector in
+    let the-pre = c .before .before .before .before .before .before .before .before .before .before .pre in
+    target-ready _ _ _ _ _ _ (the-pre .1 .1 .1) _ (the-pre .1 .1 .0) _ (the-sector .ensures) (the-does-wait .result) (the-does-wait .ensures)
+    (sector-size _ _ _ _ (the-pre .0) (the-pre .1 .1 .0) (the-sector .ensures)) (not-false (the-does-wait .result) (the-if1 .left))
 
 same-length-2 : tie.Need-same-length-2
 same-length-2 c = search needs
@@ -57,107 +45,25 @@ same-length-2 c = search needs
 same-length-3 : tie.Need-same-length-3
 same-length-3 c = search needs
 
-same-length-4 : tie.Need-same-length-4
-same-length-4 c = search needs
-
 returns-2 : tie.Need-returns-2
 returns-2 c =
-    let the-is-signed = c .before .before .before .before .before .is-signed in
-    let a = c .before .before .before .before .before .before .before .before .before .before .before .before .before .before .before .before .before .before .before .before .args in
-    let the-pre = c .before .before .before .before .before .before .before .before .before .before .before .before .before .before .before .before .before .before .before .before .pre in
-    let w = the-pre .1 .1 .1 .1 in
-    let unsigned = signed-here (a .g) (sectorAt (a .image .now)) (a .target) (the-is-signed .result) false (the-pre .1 .1 .0) (the-is-signed .ensures .0) (not-true (the-is-signed .result) (c .if2 .taken)) in
-    (target-unsigned (a .g) (sectorAt (a .image .now)) (a .holder) (a .waiting .now) (a .tree .now) (a .taken .now) w (a .target) unsigned, the-is-signed .ensures .1, w)
-
-mul-waiting : tie.Need-mul-waiting
-mul-waiting c = search needs
-
-slice-write-waiting : tie.Need-slice-write-waiting
-slice-write-waiting c =
-    let the-if2 = c .if2 in
-    let the-is-signed = c .before .before .before .before .before .is-signed in
-    let the-may-wait = c .before .before .before .before .before .before .before .before .before .may-wait in
-    let the-piece-of = c .before .before .before .before .before .before .before .before .before .before .before .piece-of in
-    let the-number-of = c .before .before .before .before .before .before .before .before .before .before .before .before .number-of in
-    let the-sector = c .before .before .before .before .before .before .before .before .before .before .before .before .before .sector in
-    let a = c .before .before .before .before .before .before .before .before .before .before .before .before .before .before .before .before .before .before .before .before .args in
-    let the-pre = c .before .before .before .before .before .before .before .before .before .before .before .before .before .before .before .before .before .before .before .before .pre in
-    let w = the-pre .1 .1 .1 .1 in
-    let signed = signed-here (a .g) (sectorAt (a .image .now)) (a .target) (the-is-signed .result) true (the-pre .1 .1 .0) (the-is-signed .ensures .0) (not-false (the-is-signed .result) (the-if2 .left)) in
-    let inside = piece-inside (a .g) (sectorAt (a .image .now)) (a .holder) (a .waiting .now) (a .tree .now) (a .taken .now) w (a .target)
-    _ (the-sector .ensures) (the-number-of .result) (the-piece-of .result) (the-number-of .ensures) (the-piece-of .ensures) (the-may-wait .result) (the-may-wait .ensures) signed in
-    let wl = w .waitingLong in
-    omega arith
-
-change-requires : tie.Need-change-requires
-change-requires c κs =
-    let the-if2 = c .before .if2 in
-    let the-is-signed = c .before .before .before .before .before .before .is-signed in
-    let the-may-wait = c .before .before .before .before .before .before .before .before .before .before .may-wait in
-    let the-piece-of = c .before .before .before .before .before .before .before .before .before .before .before .before .piece-of in
-    let the-number-of = c .before .before .before .before .before .before .before .before .before .before .before .before .before .number-of in
-    let the-sector = c .before .before .before .before .before .before .before .before .before .before .before .before .before .before .sector in
-    let a = c .before .before .before .before .before .before .before .before .before .before .before .before .before .before .before .before .before .before .before .before .before .args in
-    let the-pre = c .before .before .before .before .before .before .before .before .before .before .before .before .before .before .before .before .before .before .before .before .before .pre in
-    let w = the-pre .1 .1 .1 .1 in
-    let signed = signed-here (a .g) (sectorAt (a .image .now)) (a .target) (the-is-signed .result) true (the-pre .1 .1 .0) (the-is-signed .ensures .0) (not-false (the-is-signed .result) (the-if2 .left)) in
-    let inside = piece-inside (a .g) (sectorAt (a .image .now)) (a .holder) (a .waiting .now) (a .tree .now) (a .taken .now) w (a .target)
-    _ (the-sector .ensures) (the-number-of .result) (the-piece-of .result) (the-number-of .ensures) (the-piece-of .ensures) (the-may-wait .result) (the-may-wait .ensures) signed in
-    let few = w .few in
-    let tl = w .takenLong in
-    (w .treeLong, (omega arith, (omega arith, tournament-of w)))
-
-same-length-5 : tie.Need-same-length-5
-same-length-5 c = search needs
-
-same-length-6 : tie.Need-same-length-6
-same-length-6 c = search needs
-
-same-length-7 : tie.Need-same-length-7
-same-length-7 c = search needs
-
-same-length-8 : tie.Need-same-length-8
-same-length-8 c = search needs
-
-returns-3 : tie.Need-returns-3
-returns-3 c =
-    let the-change = c .before .before .change in
-    let the-if1 = c .before .before .before .before .before .before .before .before .before .before .before .before .if1 in
-    let the-if2 = c .before .before .before .before .if2 in
-    let the-is-signed = c .before .before .before .before .before .before .before .before .before .is-signed in
-    let the-may-wait = c .before .before .before .before .before .before .before .before .before .before .before .before .before .may-wait in
-    let the-piece-of = c .before .before .before .before .before .before .before .before .before .before .before .before .before .before .before .piece-of in
-    let the-number-of = c .before .before .before .before .before .before .before .before .before .before .before .before .before .before .before .before .number-of in
-    let the-sector = c .before .before .before .before .before .before .before .before .before .before .before .before .before .before .before .before .before .sector in
-    let a = c .before .before .before .before .before .before .before .before .before .before .before .before .before .before .before .before .before .before .before .before .before .before .before .before .args in
-    let the-pre = c .before .before .before .before .before .before .before .before .before .before .before .before .before .before .before .before .before .before .before .before .before .before .before .before .pre in
-    let w = the-pre .1 .1 .1 .1 in
-    let signed = signed-here (a .g) (sectorAt (a .image .now)) (a .target) (the-is-signed .result) true (the-pre .1 .1 .0) (the-is-signed .ensures .0) (not-false (the-is-signed .result) (the-if2 .left)) in
-    let r = target-put (a .g) (sectorAt (a .image .now)) (a .holder) (a .waiting .now) (a .tree .now) (a .taken .now) w (a .target)
-    _ (the-sector .ensures) (the-number-of .result) (the-piece-of .result) (the-number-of .ensures) (the-piece-of .ensures) (the-may-wait .result) (the-may-wait .ensures) signed (the-pre .1 .0) (not-false (the-may-wait .result) (the-if1 .left)) _ (the-change .kept .0) (the-change .ensures) in
-    (r .0, the-is-signed .ensures .1, r .1)
+    let the-put-in = c .before .before .before .before .put-in in
+    let the-if1 = c .before .before .before .before .before .before .before .if1 in
+    let the-does-wait = c .before .before .before .before .before .before .before .before .does-wait in
+    let the-sector = c .before .before .before .before .before .before .before .before .before .before .sector in
+    let the-pre = c .before .before .before .before .before .before .before .before .before .before .before .before .before .before .before .pre in
+    target-in _ _ _ _ _ _ (the-pre .1 .1 .1) _ (the-pre .1 .1 .0) _ (the-sector .ensures) (the-does-wait .result) (the-does-wait .ensures)
+    (the-pre .1 .0) (not-false (the-does-wait .result) (the-if1 .left)) _ _ (the-put-in .ensures) (the-put-in .kept .1 .0)
 
 pub read-target-spec : {M : Type 1} → statement M
 read-target-spec =
     tie.close
     (tie.spec
     sector-requires
-    number-of-requires
-    piece-of-requires
-    cast-p
-    may-wait-requires
+    does-wait-requires
     same-length
     returns
-    is-signed-requires
+    put-in-requires
     same-length-2
     same-length-3
-    same-length-4
-    returns-2
-    mul-waiting
-    slice-write-waiting
-    change-requires
-    same-length-5
-    same-length-6
-    same-length-7
-    same-length-8
-    returns-3)
+    returns-2)

@@ -1,20 +1,13 @@
--- The newest that waits is signed, and its branches are read.
-use mathlib.Core.Path.{_∙_}
-use native.Mathlib.Omega.{arith}
-use lib.ListN.{length-set}
-use Rattle.targets.proofs.TargetLaws.{tournament-of}
-use Rattle.walk_steps.proofs.WalkLaws.{step-none, newest-signed, done-waits, step-some}
+-- Nothing waits, or the newest is taken.
+use Rattle.walk_steps.proofs.WalkLaws.{entry-ready, step-none, step-ready}
 use borrow.Author.Needs.{needs}
 use Rattle.walk_steps.proofs.walk_step.Statement.{statement}
 use Rattle.walk_steps.proofs.walk_step.Tie as tie
 
 first-requires : tie.Need-first-requires
 first-requires c κs =
-    let the-pre = c .before .before .before .before .before .before .before .pre in
-    let w = the-pre .1 .1 .1 in
-    let few = w .few in
-    let tl = w .takenLong in
-    (w .treeLong, (omega arith, (omega arith, tournament-of w)))
+    let the-pre = c .before .before .before .before .before .pre in
+    entry-ready (the-pre .1 .1) 0 (the-pre .1 .0)
 
 key-of-requires : tie.Need-key-of-requires
 key-of-requires c κs = search needs
@@ -26,48 +19,16 @@ returns : tie.Need-returns
 returns c =
     let the-key-of = c .before .key-of in
     let the-first = c .before .before .before .first in
-    let the-pre = c .before .before .before .before .before .before .before .before .before .before .before .pre in
-    let w = the-pre .1 .1 .1 in
-    (step-none _ _ _ _ _ w (the-pre .1 .0) (the-first .result) (the-first .ensures .0) (the-key-of .result) (the-key-of .ensures) (c .if1 .taken), the-pre .1 .1 .0, w)
+    let the-pre = c .before .before .before .before .before .before .before .before .before .pre in
+    step-none _ _ _ _ _ (the-pre .1 .1) _ (the-pre .1 .0) (the-first .ensures .0) (the-key-of .result) (the-key-of .ensures) (c .if1 .taken)
 
-mul-k : tie.Need-mul-k
-mul-k c = search needs
-
-slice-read-k : tie.Need-slice-read-k
-slice-read-k c = search needs
-
-mul-waiting : tie.Need-mul-waiting
-mul-waiting c = search needs
-
-slice-write-waiting : tie.Need-slice-write-waiting
-slice-write-waiting c = search needs
-
-change-requires : tie.Need-change-requires
-change-requires c κs =
-    let the-first = c .before .before .before .before .before .first in
-    let the-pre = c .before .before .before .before .before .before .before .before .before .before .before .before .before .pre in
-    let w = the-pre .1 .1 .1 in
-    let few = w .few in
-    let tl = w .takenLong in
-    (w .treeLong, (omega arith, (the-first .ensures .1, tournament-of w)))
-
-mul-taken : tie.Need-mul-taken
-mul-taken c = search needs
-
-slice-write-taken : tie.Need-slice-write-taken
-slice-write-taken c = search needs
-
-read-targets-requires : tie.Need-read-targets-requires
-read-targets-requires c κs =
-    let the-change = c .before .before .before .before .before .before .before .change in
-    let the-if1 = c .before .before .before .before .before .before .before .before .before .before .if1 in
-    let the-key-of = c .before .before .before .before .before .before .before .before .before .before .before .key-of in
-    let the-first = c .before .before .before .before .before .before .before .before .before .before .before .before .before .first in
-    let the-pre = c .before .before .before .before .before .before .before .before .before .before .before .before .before .before .before .before .before .before .before .before .before .pre in
-    let w = the-pre .1 .1 .1 in
-    let signed = newest-signed _ _ _ _ _ w (the-pre .1 .0) (the-first .result) (the-first .ensures .0) (the-key-of .result) (the-key-of .ensures) (the-if1 .left) in
-    let waits = done-waits _ _ _ _ _ w (the-pre .1 .0) (the-first .result) (the-first .ensures .0) (the-key-of .result) (the-key-of .ensures) (the-if1 .left) _ (the-change .kept .0) (the-change .ensures) in
-    (the-pre .0, (signed, (the-pre .1 .1 .0, waits)))
+take-and-read-requires : tie.Need-take-and-read-requires
+take-and-read-requires c κs =
+    let the-if1 = c .before .before .before .if1 in
+    let the-key-of = c .before .before .before .before .key-of in
+    let the-first = c .before .before .before .before .before .before .first in
+    let the-pre = c .before .before .before .before .before .before .before .before .before .before .before .before .pre in
+    step-ready _ _ _ _ _ (the-pre .1 .1) _ (the-pre .1 .0) (the-first .ensures .0) (the-key-of .result) (the-key-of .ensures) (the-pre .0) (the-if1 .left)
 
 same-length-2 : tie.Need-same-length-2
 same-length-2 c = search needs
@@ -76,27 +37,10 @@ same-length-3 : tie.Need-same-length-3
 same-length-3 c = search needs
 
 same-length-4 : tie.Need-same-length-4
-same-length-4 c =
-    let the-read-targets = c .before .before .before .before .before .before .before .before .read-targets in
-    let the-first = c .before .before .before .before .before .before .before .before .before .before .before .before .before .before .before .before .before .before .before .before .before .before .first in
-    let a = c .before .before .before .before .before .before .before .before .before .before .before .before .before .before .before .before .before .before .before .before .before .before .before .before .before .before .before .before .before .before .args in
-    the-read-targets .kept .1 .1 .0 ∙ length-set (a .waiting .now) (the-first .result) 0
-
-same-length-5 : tie.Need-same-length-5
-same-length-5 c = search needs
-
-same-length-6 : tie.Need-same-length-6
-same-length-6 c = search needs
+same-length-4 c = search needs
 
 returns-2 : tie.Need-returns-2
-returns-2 c =
-    let the-read-targets = c .before .before .before .before .before .before .before .before .read-targets in
-    let the-if1 = c .before .before .before .before .before .before .before .before .before .before .before .before .before .before .before .before .before .before .before .if1 in
-    let the-key-of = c .before .before .before .before .before .before .before .before .before .before .before .before .before .before .before .before .before .before .before .before .key-of in
-    let the-first = c .before .before .before .before .before .before .before .before .before .before .before .before .before .before .before .before .before .before .before .before .before .before .first in
-    let the-pre = c .before .before .before .before .before .before .before .before .before .before .before .before .before .before .before .before .before .before .before .before .before .before .before .before .before .before .before .before .before .before .pre in
-    let w = the-pre .1 .1 .1 in
-    (step-some _ _ _ _ _ w (the-pre .1 .0) (the-first .result) (the-first .ensures .0) (the-key-of .result) (the-key-of .ensures) (the-if1 .left) _ (the-read-targets .ensures .0), the-read-targets .ensures .1, the-read-targets .ensures .2)
+returns-2 c = search needs
 
 pub walk-step-spec : {M : Type 1} → statement M
 walk-step-spec =
@@ -106,17 +50,8 @@ walk-step-spec =
     key-of-requires
     same-length
     returns
-    mul-k
-    slice-read-k
-    mul-waiting
-    slice-write-waiting
-    change-requires
-    mul-taken
-    slice-write-taken
-    read-targets-requires
+    take-and-read-requires
     same-length-2
     same-length-3
     same-length-4
-    same-length-5
-    same-length-6
     returns-2)
