@@ -43,6 +43,9 @@ fn by_walk(
     ensures { λ r. ⌜ after r (memory (now (image .exit)) (now (map .exit)) (now (places .exit)) (now (numbers .exit)) (now (used .exit))) ≡ recovered g allowance (memory (now (image .entry)) (now (map .entry)) (now (places .entry)) (now (numbers .entry)) (now (used .entry))) (findingOf g (imageView g (sectorAt (now (image .entry)))) (sectorAt (now (image .entry)) 0)) ⌝ }
 {
     if !walk::walk_tables(image, g, tail, number, map, places, numbers, used) {
+        if g.n <= 1024 {
+            return recover_by_scan::by_small_scan(image, map, places, numbers, used, g, allowance);
+        }
         return recover_by_scan::by_scan(image, map, places, numbers, used, g, allowance);
     }
     let read = 2 + walk::count_branches(image, places);
@@ -60,7 +63,7 @@ fn by_walk(
     )
 }
 
-// A recovery that no refusal stops. `by_scan` has large arrays: called from two places, it keeps a frame of its own.
+// A recovery that no refusal stops. The scans have large arrays: called from two places each, they keep frames of their own.
 fn find(
     image: &mut [u8],
     map: &mut [u32],
@@ -75,7 +78,20 @@ fn find(
 {
     let g = settings.volume((image.len() / Geometry::SECTOR) as u32);
     match walk_start::parked_at(image, g) {
-        Start::Nowhere => recover_by_scan::by_scan(image, map, places, numbers, used, g, allowance),
+        Start::Nowhere => {
+            if g.n <= 1024 {
+                return recover_by_scan::by_small_scan(
+                    image,
+                    map,
+                    places,
+                    numbers,
+                    used,
+                    g,
+                    allowance,
+                );
+            }
+            recover_by_scan::by_scan(image, map, places, numbers, used, g, allowance)
+        }
         Start::Tail { tail, number } => by_walk(
             image,
             map,

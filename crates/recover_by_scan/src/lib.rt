@@ -1,7 +1,7 @@
 // A recovery by a scan, once no refusal stops it.
 ghost use mathlib.Core.Path.{_≡_};
 ghost use mathlib.Core.Bool.{true};
-ghost use Prim.Native.Nat.{_*_};
+ghost use Prim.Native.Nat.{_*_, _≤_};
 ghost use lib.ListN.{length};
 ghost use Rattle.geometry.specs.Geometry.{sectorBytes, piecesFor, usedBytes, geometryFits};
 ghost use Rattle.volume.specs.Tables.{sectorAt, memory};
@@ -33,6 +33,50 @@ pub fn by_scan(
 {
     let mut above = [0u8; 8192];
     let found = scan::scan(image, g, map, places, numbers, used, &mut above);
+    match found {
+        Found::Missing(loss) => {
+            lent::zero_tables(map, places, numbers, used);
+            Outcome {
+                answer: Answer::Lost(loss),
+                state: State::lost(g),
+            }
+        }
+        Found::Log { tail, number } => resume::after_scan(
+            image,
+            map,
+            places,
+            numbers,
+            used,
+            g,
+            tail,
+            number,
+            &above,
+            allowance,
+        ),
+    }
+}
+
+// The same of a volume of at most 1,024 sectors, in small arrays.
+pub fn by_small_scan(
+    image: &mut [u8],
+    map: &mut [u32],
+    places: &mut [u32],
+    numbers: &mut [u32],
+    used: &mut [u8],
+    g: Geometry,
+    allowance: u32,
+) -> Outcome
+    requires { ⌜ g .n ≤ 1024 ⌝ }
+    requires { ⌜ geometryFits g ≡ true ⌝ }
+    requires { ⌜ length (now image) ≡ sectorBytes * g .n ⌝ }
+    requires { ⌜ length (now map) ≡ g .l ⌝ }
+    requires { ⌜ length (now places) ≡ piecesFor (g .l) ⌝ }
+    requires { ⌜ length (now numbers) ≡ piecesFor (g .l) ⌝ }
+    requires { ⌜ length (now used) ≡ usedBytes (g .n) ⌝ }
+    ensures { λ r. ⌜ after r (memory (now (image .exit)) (now (map .exit)) (now (places .exit)) (now (numbers .exit)) (now (used .exit))) ≡ recovered g allowance (memory (now (image .entry)) (now (map .entry)) (now (places .entry)) (now (numbers .entry)) (now (used .entry))) (scanFinding g (imageView g (sectorAt (now (image .entry)))) (sectorAt (now (image .entry)) 0)) ⌝ }
+{
+    let mut above = [0u8; 128];
+    let found = scan::scan_small(image, g, map, places, numbers, used, &mut above);
     match found {
         Found::Missing(loss) => {
             lent::zero_tables(map, places, numbers, used);

@@ -22,30 +22,26 @@ pub enum Found {
     Missing(Loss),
 }
 
-// Reads what the signed sectors say into arrays of zeros, and says whether their numbers are all different. The scratch is for
-// the latter alone.
+// Reads what the signed sectors say into arrays of zeros, and says whether their numbers are all different.
 fn read_apart(
     image: &[u8],
     g: Geometry,
     numbered: &mut [u32],
     pieces: &mut [u8],
     closing: &mut [u8],
-    scratch: &mut [u32],
 ) -> bool
     requires { ⌜ geometryFits g ≡ true ⌝ }
     requires { ⌜ length (now image) ≡ sectorBytes * g .n ⌝ }
     requires { ⌜ g .n ≤ length (now numbered) ⌝ }
     requires { ⌜ g .n ≤ length (now pieces) ⌝ }
     requires { ⌜ g .n ≤ length (now closing) ⌝ }
-    requires { ⌜ g .n ≤ length (now scratch) ⌝ }
-    requires { ⌜ length (now scratch) ≤ 65536 ⌝ }
     requires { ⌜ now numbered ≡ replicate (length (now numbered)) 0 ⌝ }
     requires { ⌜ now pieces ≡ replicate (length (now pieces)) 0 ⌝ }
     requires { ⌜ now closing ≡ replicate (length (now closing)) 0 ⌝ }
     ensures { λ r. ⌜ (r ≡ distinct (signedNumbers (imageView g (sectorAt (now (image .entry)))) (g .n))) × Read (imageView g (sectorAt (now (image .entry)))) (now (numbered .exit)) (now (pieces .exit)) × Closings (imageView g (sectorAt (now (image .entry)))) (now (closing .exit)) ⌝ }
 {
     signed::read_signed(image, g, numbered, pieces, closing);
-    distinct::numbers_distinct(numbered, g.n, scratch)
+    distinct::numbers_distinct(numbered, g.n)
 }
 
 // The live sectors of the pieces up to number c, and the map that they hold.
@@ -166,7 +162,7 @@ fn scan_signed(
 }
 
 // The scan of a volume of at most 1,024 sectors. What a scan keeps is cleared first, so that a small volume has small arrays.
-fn scan_small(
+pub fn scan_small(
     image: &[u8],
     g: Geometry,
     map: &mut [u32],
@@ -189,15 +185,7 @@ fn scan_small(
     let mut numbered = [0u32; 1024];
     let mut pieces = [0u8; 1024];
     let mut closing = [0u8; 1024];
-    let mut scratch = [0u32; 1024];
-    let apart = read_apart(
-        image,
-        g,
-        &mut numbered,
-        &mut pieces,
-        &mut closing,
-        &mut scratch,
-    );
+    let apart = read_apart(image, g, &mut numbered, &mut pieces, &mut closing);
     scan_signed(
         image,
         g,
@@ -237,15 +225,7 @@ fn scan_medium(
     let mut numbered = [0u32; 16384];
     let mut pieces = [0u8; 16384];
     let mut closing = [0u8; 16384];
-    let mut scratch = [0u32; 16384];
-    let apart = read_apart(
-        image,
-        g,
-        &mut numbered,
-        &mut pieces,
-        &mut closing,
-        &mut scratch,
-    );
+    let apart = read_apart(image, g, &mut numbered, &mut pieces, &mut closing);
     scan_signed(
         image,
         g,
@@ -284,15 +264,7 @@ fn scan_large(
     let mut numbered = [0u32; 65536];
     let mut pieces = [0u8; 65536];
     let mut closing = [0u8; 65536];
-    let mut scratch = [0u32; 65536];
-    let apart = read_apart(
-        image,
-        g,
-        &mut numbered,
-        &mut pieces,
-        &mut closing,
-        &mut scratch,
-    );
+    let apart = read_apart(image, g, &mut numbered, &mut pieces, &mut closing);
     scan_signed(
         image,
         g,
@@ -328,9 +300,6 @@ pub fn scan(
     requires { ⌜ now above ≡ replicate (length (now above)) 0 ⌝ }
     ensures { λ r. ⌜ (scanFound r (g .n) (imageView g (sectorAt (now (image .entry)))) (sectorAt (now (image .entry)) 0) (tablesOf (now (map .exit)) (now (places .exit)) (now (numbers .exit)) (now (used .exit))) ≡ scanFinding g (imageView g (sectorAt (now (image .entry)))) (sectorAt (now (image .entry)) 0)) × scanAbove r (imageView g (sectorAt (now (image .entry)))) (bitAt (now (above .exit))) ⌝ }
 {
-    if g.n <= 1024 {
-        return scan_small(image, g, map, places, numbers, used, above);
-    }
     if g.n <= 16384 {
         return scan_medium(image, g, map, places, numbers, used, above);
     }

@@ -26,24 +26,12 @@ parked-at-requires c κs =
 enum-told : tie.Need-enum-told
 enum-told c = search needs
 
-by-scan-requires : tie.Need-by-scan-requires
-by-scan-requires c κs =
-    let the-volume = c .before .before .before .before .before .before .before .before .before .volume in
-    let the-pre = c .before .before .before .before .before .before .before .before .before .before .before .before .before .before .before .pre in
+by-small-scan-requires : tie.Need-by-small-scan-requires
+by-small-scan-requires c κs =
+    let the-volume = c .before .before .before .before .before .before .before .before .before .before .before .volume in
+    let the-pre = c .before .before .before .before .before .before .before .before .before .before .before .before .before .before .before .before .before .pre in
     let here = image-ready _ _ _ _ _ _ (the-volume .result) (the-volume .ensures) the-pre in
-    (here .0, (here .1, tables-ready _ _ _ _ _ _ (the-volume .result) (the-volume .ensures) the-pre))
-
-enum-known-tail : tie.Need-enum-known-tail
-enum-known-tail c = search needs
-
-by-walk-requires : tie.Need-by-walk-requires
-by-walk-requires c κs =
-    let the-tail = c .before .before .before .before .before .before .tail in
-    let the-parked-at = c .before .before .before .before .before .before .before .before .parked-at in
-    let the-volume = c .before .before .before .before .before .before .before .before .before .before .volume in
-    let the-pre = c .before .before .before .before .before .before .before .before .before .before .before .before .before .before .before .before .pre in
-    let here = image-ready _ _ _ _ _ _ (the-volume .result) (the-volume .ensures) the-pre in
-    (here .0, (here .1, (sym (the-tail .given .1) ∙ the-parked-at .ensures, tables-ready _ _ _ _ _ _ (the-volume .result) (the-volume .ensures) the-pre)))
+    (c .before .before .before .before .before .if1 .taken, (here .0, (here .1, tables-ready _ _ _ _ _ _ (the-volume .result) (the-volume .ensures) the-pre)))
 
 same-length : tie.Need-same-length
 same-length c = search needs
@@ -62,11 +50,30 @@ same-length-5 c = search needs
 
 returns : tie.Need-returns
 returns c =
-    let the-by-scan = c .before .before .before .before .before .before .before .before .before .before .by-scan in
-    let the-enum-told = c .before .before .before .before .before .before .before .before .before .before .before .before .before .before .before .before .enum-told in
-    let the-parked-at = c .before .before .before .before .before .before .before .before .before .before .before .before .before .before .before .before .before .before .parked-at in
-    let the-volume = c .before .before .before .before .before .before .before .before .before .before .before .before .before .before .before .before .before .before .before .before .volume in
+    let the-by-scan = c .before .before .before .before .before .before .before .before .before .before .by-small-scan in
+    let the-enum-told = c .before .before .before .before .before .before .before .before .before .before .before .before .before .before .before .before .before .before .enum-told in
+    let the-parked-at = c .before .before .before .before .before .before .before .before .before .before .before .before .before .before .before .before .before .before .before .before .parked-at in
+    let the-volume = c .before .before .before .before .before .before .before .before .before .before .before .before .before .before .before .before .before .before .before .before .before .before .volume in
     asked-scan _ _ _ _ _ _ (the-volume .result) (the-volume .ensures) _ _ (sym (the-enum-told .given .1) ∙ the-parked-at .ensures) (the-by-scan .ensures)
+
+by-scan-requires : tie.Need-by-scan-requires
+by-scan-requires c κs =
+    let the-volume = c .before .before .before .before .before .before .before .before .before .before .before .volume in
+    let the-pre = c .before .before .before .before .before .before .before .before .before .before .before .before .before .before .before .before .before .pre in
+    let here = image-ready _ _ _ _ _ _ (the-volume .result) (the-volume .ensures) the-pre in
+    (here .0, (here .1, tables-ready _ _ _ _ _ _ (the-volume .result) (the-volume .ensures) the-pre))
+
+enum-known-tail : tie.Need-enum-known-tail
+enum-known-tail c = search needs
+
+by-walk-requires : tie.Need-by-walk-requires
+by-walk-requires c κs =
+    let the-tail = c .before .before .before .before .before .before .tail in
+    let the-parked-at = c .before .before .before .before .before .before .before .before .parked-at in
+    let the-volume = c .before .before .before .before .before .before .before .before .before .before .volume in
+    let the-pre = c .before .before .before .before .before .before .before .before .before .before .before .before .before .before .before .before .pre in
+    let here = image-ready _ _ _ _ _ _ (the-volume .result) (the-volume .ensures) the-pre in
+    (here .0, (here .1, (sym (the-tail .given .1) ∙ the-parked-at .ensures, tables-ready _ _ _ _ _ _ (the-volume .result) (the-volume .ensures) the-pre)))
 
 same-length-6 : tie.Need-same-length-6
 same-length-6 c = search needs
@@ -85,30 +92,32 @@ same-length-10 c = search needs
 
 returns-2 : tie.Need-returns-2
 returns-2 c =
+    let the-by-scan = c .before .before .before .before .before .before .before .before .before .before .by-scan in
+    let the-enum-told = c .before .before .before .before .before .before .before .before .before .before .before .before .before .before .before .before .before .before .enum-told in
+    let the-parked-at = c .before .before .before .before .before .before .before .before .before .before .before .before .before .before .before .before .before .before .before .before .parked-at in
+    let the-volume = c .before .before .before .before .before .before .before .before .before .before .before .before .before .before .before .before .before .before .before .before .before .before .volume in
+    asked-scan _ _ _ _ _ _ (the-volume .result) (the-volume .ensures) _ _ (sym (the-enum-told .given .1) ∙ the-parked-at .ensures) (the-by-scan .ensures)
+
+same-length-11 : tie.Need-same-length-11
+same-length-11 c = search needs
+
+same-length-12 : tie.Need-same-length-12
+same-length-12 c = search needs
+
+same-length-13 : tie.Need-same-length-13
+same-length-13 c = search needs
+
+same-length-14 : tie.Need-same-length-14
+same-length-14 c = search needs
+
+same-length-15 : tie.Need-same-length-15
+same-length-15 c = search needs
+
+returns-3 : tie.Need-returns-3
+returns-3 c =
     let the-by-walk = c .before .before .before .before .before .before .before .before .before .before .by-walk in
     let the-volume = c .before .before .before .before .before .before .before .before .before .before .before .before .before .before .before .before .before .before .before .before .before .volume in
     asked-for _ _ _ _ _ _ (the-volume .result) (the-volume .ensures) _ _ (the-by-walk .ensures)
 
 pub find-spec : {M : Type 1} → statement M
-find-spec =
-    tie.close
-    (tie.spec
-    cast-volume
-    volume-requires
-    parked-at-requires
-    enum-told
-    by-scan-requires
-    enum-known-tail
-    by-walk-requires
-    same-length
-    same-length-2
-    same-length-3
-    same-length-4
-    same-length-5
-    returns
-    same-length-6
-    same-length-7
-    same-length-8
-    same-length-9
-    same-length-10
-    returns-2)
+find-spec = tie.close (tie.spec cast-volume volume-requires parked-at-requires enum-told by-small-scan-requires same-length same-length-2 same-length-3 same-length-4 same-length-5 returns by-scan-requires enum-known-tail by-walk-requires same-length-6 same-length-7 same-length-8 same-length-9 same-length-10 returns-2 same-length-11 same-length-12 same-length-13 same-length-14 same-length-15 returns-3)

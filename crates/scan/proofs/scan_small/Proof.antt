@@ -14,16 +14,13 @@ slice-aggregate-read-apart-2 c = search needs
 slice-aggregate-read-apart-3 : tie.Need-slice-aggregate-read-apart-3
 slice-aggregate-read-apart-3 c = search needs
 
-slice-aggregate-read-apart-4 : tie.Need-slice-aggregate-read-apart-4
-slice-aggregate-read-apart-4 c = search needs
-
 read-apart-requires : tie.Need-read-apart-requires
 read-apart-requires c κs =
-    let a = c .before .before .before .before .before .before .before .before .before .before .args in
-    let the-pre = c .before .before .before .before .before .before .before .before .before .before .pre in
+    let a = c .before .before .before .before .before .before .before .before .before .args in
+    let the-pre = c .before .before .before .before .before .before .before .before .before .pre in
     let m = the-pre .0 in
     let p = the-pre .1 in
-    (p .0, (p .1 .0, (omega arith, (omega arith, (omega arith, (omega arith, (omega arith, (refl, (refl, refl)))))))))
+    (p .0, (p .1 .0, (omega arith, (omega arith, (omega arith, (refl, (refl, refl)))))))
 
 slice-aggregate-scan-signed : tie.Need-slice-aggregate-scan-signed
 slice-aggregate-scan-signed c = search needs
@@ -36,9 +33,9 @@ slice-aggregate-scan-signed-3 c = search needs
 
 scan-signed-requires : tie.Need-scan-signed-requires
 scan-signed-requires c κs =
-    let the-read-apart = c .before .before .before .before .before .before .before .before .before .before .before .before .read-apart in
-    let a = c .before .before .before .before .before .before .before .before .before .before .before .before .before .before .before .before .before .before .before .before .before .before .before .args in
-    let the-pre = c .before .before .before .before .before .before .before .before .before .before .before .before .before .before .before .before .before .before .before .before .before .before .before .pre in
+    let the-read-apart = c .before .before .before .before .before .before .before .before .before .before .before .read-apart in
+    let a = c .before .before .before .before .before .before .before .before .before .before .before .before .before .before .before .before .before .before .before .before .before .args in
+    let the-pre = c .before .before .before .before .before .before .before .before .before .before .before .before .before .before .before .before .before .before .before .before .before .pre in
     let m = the-pre .0 in
     let p = the-pre .1 in
     let k = the-read-apart .kept .1 .1 in
@@ -73,7 +70,6 @@ scan-small-spec =
     slice-aggregate-read-apart
     slice-aggregate-read-apart-2
     slice-aggregate-read-apart-3
-    slice-aggregate-read-apart-4
     read-apart-requires
     slice-aggregate-scan-signed
     slice-aggregate-scan-signed-2
