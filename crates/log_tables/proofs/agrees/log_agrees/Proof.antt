@@ -1,138 +1,60 @@
 -- Each return, by a law of AgreeLaws.
-use mathlib.Core.Path.{refl, sym, _∙_}
-use native.Mathlib.Omega.{arith}
-use lib.ListN.{length}
-use Rattle.soundness.proofs.Sounding.{blocks-some, blocks-most, sectors-some, sectors-most, free-few}
-use Rattle.log_tables.proofs.AgreeLaws.{names-fail, room-fails, numbers-fail, numbers-pass}
+use Rattle.log_tables.proofs.AgreeLaws.{names-refused, number-needs, numbers-fail, numbers-pass, marks-room}
 use borrow.Author.Needs.{needs}
 use Rattle.log_tables.proofs.agrees.log_agrees.Statement.{statement}
 use Rattle.log_tables.proofs.agrees.log_agrees.Tie as tie
+use Rattle.log_tables.proofs.agrees.names_agree.Reads as names-agree-reads
+use Rattle.log_tables.proofs.agrees.take_marks.Reads as take-marks-reads
+use Rattle.numbers.proofs.numbers_agree.Reads as numbers-agree-reads
 
-slice-aggregate-mark-names : tie.Need-slice-aggregate-mark-names
-slice-aggregate-mark-names c = search needs
+slice-aggregate-names-agree : tie.Need-slice-aggregate-names-agree
+slice-aggregate-names-agree c = search needs
 
-mark-names-requires : tie.Need-mark-names-requires
-mark-names-requires c κs =
-    let a = c .before .before .before .before .before .args in
-    let p = c .before .before .before .before .before .pre in
-    let some = sectors-some (a .g) (p .0) in
-    (omega arith, (sectors-most (a .g) (p .0), (refl, (blocks-most (a .g) (p .0), (p .1 .0, (p .1 .1 .0, refl))))))
-
-same-length : tie.Need-same-length
-same-length c = search needs
+names-agree-requires : tie.Need-names-agree-requires
+names-agree-requires c κs = search needs
 
 returns : tie.Need-returns
 returns c =
-    let the-mark-names = c .before .before .before .mark-names in
-    let a = c .before .before .before .before .before .before .before .before .before .args in
-    names-fail (a .g) (a .map .now) (a .places .now) (a .numbers .now) (a .tail) (a .number)
-    (the-mark-names .last .0) (the-mark-names .result .inside) (the-mark-names .result .count) (the-mark-names .ensures .0, the-mark-names .ensures .1) (c .if1 .taken) _
-
-slice-aggregate-count-free : tie.Need-slice-aggregate-count-free
-slice-aggregate-count-free c = search needs
-
-count-free-requires : tie.Need-count-free-requires
-count-free-requires c κs =
-    let the-mark-names = c .before .before .before .before .mark-names in
-    let a = c .before .before .before .before .before .before .before .before .before .before .args in
-    let p = c .before .before .before .before .before .before .before .before .before .before .pre in
-    let most = sectors-most (a .g) (p .0) in
-    let k = the-mark-names .kept .0 in
-    omega arith
-
-once-with-room-requires : tie.Need-once-with-room-requires
-once-with-room-requires c κs =
-    let the-count-free = c .count-free in
-    let the-mark-names = c .before .before .before .before .before .mark-names in
-    let a = c .before .before .before .before .before .before .before .before .before .before .before .args in
-    let p = c .before .before .before .before .before .before .before .before .before .before .before .pre in
-    let most = sectors-most (a .g) (p .0) in
-    let few = free-few (a .g .n) (the-count-free .result) _ (the-count-free .ensures) in
-    (the-mark-names .ensures .2, omega arith)
-
-returns-2 : tie.Need-returns-2
-returns-2 c =
-    let the-once-with-room = c .before .once-with-room in
-    let the-count-free = c .before .before .count-free in
-    let the-if1 = c .before .before .before .before .if1 in
-    let the-mark-names = c .before .before .before .before .before .before .before .mark-names in
-    let a = c .before .before .before .before .before .before .before .before .before .before .before .before .before .args in
-    let p = c .before .before .before .before .before .before .before .before .before .before .before .before .before .pre in
-    let some = sectors-some (a .g) (p .0) in
-    room-fails (a .g) (a .map .now) (a .places .now) (a .numbers .now) (a .tail) (a .number)
-    (the-mark-names .last .0) (the-mark-names .result .inside) (the-mark-names .result .count) (the-mark-names .ensures .0, the-mark-names .ensures .1) (the-if1 .left) (omega arith) (the-count-free .result) (the-count-free .ensures)
-    (the-once-with-room .result) (the-once-with-room .ensures) (c .if2 .taken) _
+    names-refused _ _ _ _ _ _ _ (c .before .before .names-agree .ensures .0) (c .if1 .taken) _
 
 numbers-agree-requires : tie.Need-numbers-agree-requires
 numbers-agree-requires c κs =
-    let a = c .before .before .before .before .before .before .before .before .before .before .before .before .before .args in
-    let p = c .before .before .before .before .before .before .before .before .before .before .before .before .before .pre in
-    let some = blocks-some (a .g) (p .0) in
-    let e = p .1 .1 .1 .0 in
-    (omega arith, p .1 .1 .0 ∙ sym e)
+    let p = c .before .before .before .before .before .before .before .before .pre in
+    number-needs _ (p .0) _ _ (p .1 .1 .0) (p .1 .1 .1 .0)
 
-returns-3 : tie.Need-returns-3
-returns-3 c =
-    let the-numbers-agree = c .before .numbers-agree in
-    let the-if2 = c .before .before .if2 in
-    let the-once-with-room = c .before .before .before .once-with-room in
-    let the-count-free = c .before .before .before .before .count-free in
-    let the-if1 = c .before .before .before .before .before .before .if1 in
-    let the-mark-names = c .before .before .before .before .before .before .before .before .before .mark-names in
-    let a = c .before .before .before .before .before .before .before .before .before .before .before .before .before .before .before .args in
-    let p = c .before .before .before .before .before .before .before .before .before .before .before .before .before .before .before .pre in
-    let some = sectors-some (a .g) (p .0) in
-    numbers-fail (a .g) (a .map .now) (a .places .now) (a .numbers .now) (a .tail) (a .number)
-    (the-mark-names .last .0) (the-mark-names .result .inside) (the-mark-names .result .count) (the-mark-names .ensures .0, the-mark-names .ensures .1) (the-if1 .left) (omega arith) (the-count-free .result) (the-count-free .ensures)
-    (the-once-with-room .result) (the-once-with-room .ensures) (the-if2 .left)
-    (the-numbers-agree .result) (length (a .numbers .now)) (p .1 .1 .1 .0) (the-numbers-agree .ensures) (c .if3 .taken) _
+returns-2 : tie.Need-returns-2
+returns-2 c =
+    numbers-fail _ _ _ _ _ _ _ (c .before .before .before .before .names-agree .ensures .0) (c .before .before .if1 .left) _ _ (c .before .before .before .before .before .before .before .before .before .before .pre .1 .1 .1 .0) (c .before .numbers-agree .ensures) (c .if2 .taken) _
 
 slice-aggregate-take-marks : tie.Need-slice-aggregate-take-marks
 slice-aggregate-take-marks c = search needs
 
 take-marks-requires : tie.Need-take-marks-requires
 take-marks-requires c κs =
-    let the-mark-names = c .before .before .before .before .before .before .before .before .before .before .before .mark-names in
-    let a = c .before .before .before .before .before .before .before .before .before .before .before .before .before .before .before .before .before .args in
-    let p = c .before .before .before .before .before .before .before .before .before .before .before .before .before .before .before .before .before .pre in
-    let most = sectors-most (a .g) (p .0) in
-    let e = p .1 .1 .1 .1 in
-    let k = the-mark-names .kept .0 in
-    omega arith
+    let a = c .before .before .before .before .before .before .before .before .before .before .before .before .args in
+    let p = c .before .before .before .before .before .before .before .before .before .before .before .before .pre in
+    marks-room (a .g) (p .0) _ _ (p .1 .1 .1 .1) (c .before .before .before .before .before .before .names-agree .kept .0)
 
-returns-4 : tie.Need-returns-4
-returns-4 c =
-    let the-take-marks = c .before .before .take-marks in
-    let the-if3 = c .before .before .before .before .before .if3 in
-    let the-numbers-agree = c .before .before .before .before .before .before .numbers-agree in
-    let the-if2 = c .before .before .before .before .before .before .before .if2 in
-    let the-once-with-room = c .before .before .before .before .before .before .before .before .once-with-room in
-    let the-count-free = c .before .before .before .before .before .before .before .before .before .count-free in
-    let the-if1 = c .before .before .before .before .before .before .before .before .before .before .before .if1 in
-    let the-mark-names = c .before .before .before .before .before .before .before .before .before .before .before .before .before .before .mark-names in
-    let a = c .before .before .before .before .before .before .before .before .before .before .before .before .before .before .before .before .before .before .before .before .args in
-    let p = c .before .before .before .before .before .before .before .before .before .before .before .before .before .before .before .before .before .before .before .before .pre in
-    let some = sectors-some (a .g) (p .0) in
-    numbers-pass (a .g) (a .map .now) (a .places .now) (a .numbers .now) (a .tail) (a .number)
-    (the-mark-names .last .0) (the-mark-names .result .inside) (the-mark-names .result .count) (the-mark-names .ensures .0, the-mark-names .ensures .1) (the-if1 .left) (omega arith) (the-count-free .result) (the-count-free .ensures)
-    (the-once-with-room .result) (the-once-with-room .ensures) (the-if2 .left)
-    (the-numbers-agree .result) (length (a .numbers .now)) (p .1 .1 .1 .0) (the-numbers-agree .ensures) (the-if3 .left)
-    (length (a .used .now)) (p .1 .1 .1 .1) (the-take-marks .last .0) (the-take-marks .ensures)
+same-length : tie.Need-same-length
+same-length c = search needs
+
+returns-3 : tie.Need-returns-3
+returns-3 c =
+    let n = c .before .before .before .before .before .before .before .before .before .names-agree .ensures in
+    let p = c .before .before .before .before .before .before .before .before .before .before .before .before .before .before .before .pre in
+    let u = c .before .before .before .before .before .before .numbers-agree .ensures in
+    numbers-pass _ _ _ _ _ _ _ (n .0) (c .before .before .before .before .before .before .before .if1 .left) _ _ (p .1 .1 .1 .0) u (c .before .before .before .before .before .if2 .left) _ (n .1) (p .0) _ (p .1 .1 .1 .1) _ (c .before .before .take-marks .ensures)
 
 pub log-agrees-spec : {M : Type 1} → statement M
 log-agrees-spec =
     tie.close
     (tie.spec
-    slice-aggregate-mark-names
-    mark-names-requires
+    slice-aggregate-names-agree
+    names-agree-requires
     returns
-    slice-aggregate-count-free
-    count-free-requires
-    once-with-room-requires
-    returns-2
     numbers-agree-requires
-    returns-3
+    returns-2
     slice-aggregate-take-marks
     take-marks-requires
     same-length
-    returns-4)
+    returns-3)
