@@ -33,12 +33,14 @@ entry-readable-requires c κs = search needs
 returns-3 : tie.Need-returns-3
 returns-3 c =
     let a = c .before .before .before .before .before .before .before .before .before .args in
-    entry-refused (a .s .geometry .l) (a .s .geometry .n) (isReadable (a .s .phase)) (at (a .map .now)) (a .block) (c .before .before .before .before .before .if1 .left) _ (c .before .before .before .before .is-readable .ensures) (c .before .before .before .if2 .left) _ (c .before .entry-readable .ensures) (c .if3 .taken)
+    entry-refused (a .s .geometry .l) (a .s .geometry .n) (isReadable (a .s .phase)) (at (a .map .now)) (a .block)
+    (c .before .before .before .before .before .if1 .left) _ (c .before .before .before .before .is-readable .ensures) (c .before .before .before .if2 .left) _ (c .before .entry-readable .ensures) (c .if3 .taken)
 
 returns-4 : tie.Need-returns-4
 returns-4 c =
     let a = c .before .before .before .before .before .before .before .before .before .args in
-    none-refused (a .s .geometry .l) (a .s .geometry .n) (isReadable (a .s .phase)) (at (a .map .now)) (a .block) (c .before .before .before .before .before .if1 .left) _ (c .before .before .before .before .is-readable .ensures) (c .before .before .before .if2 .left) _ (c .before .entry-readable .ensures) (c .if3 .left)
+    none-refused (a .s .geometry .l) (a .s .geometry .n) (isReadable (a .s .phase)) (at (a .map .now)) (a .block)
+    (c .before .before .before .before .before .if1 .left) _ (c .before .before .before .before .is-readable .ensures) (c .before .before .before .if2 .left) _ (c .before .entry-readable .ensures) (c .if3 .left)
 
 pub block-verdict-spec : {M : Type 1} → statement M
 block-verdict-spec =
