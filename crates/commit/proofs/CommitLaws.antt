@@ -7,20 +7,22 @@ use mathlib.Core.List.{List, [], _∷_, _++_}
 use native.Mathlib.Omega.{arith}
 use lib.ListN.{length, take}
 use lib.Dec.{eqb}
+use Rattle.geometry.specs.declared.Geometry.{Geometry}
 use Rattle.state.specs.declared.State.{State}
+use Rattle.state.specs.declared.Outcome.{Outcome}
 use Rattle.answer.specs.Answer.{storesAlone}
 use Rattle.answer.specs.declared.Answer.{Answer}
 use Rattle.answer.specs.declared.Answer.the-variants.{Accepted, PowerFailed}
 use Rattle.geometry.specs.Geometry.{piecesFor}
 use Rattle.state.specs.State.{committedState, cutState}
-use Rattle.layout.specs.Bounded.{at, always, isZero, updated, updates}
+use Rattle.layout.specs.Bounded.{at, always, isZero, countBelow, updated, updates}
 use Rattle.layout.specs.MapSector.{encoded}
 use Rattle.volume.specs.Tables.{Tables, memory, sectorAt, tablesOf, namedBy, usedBy, pieceEntries}
 use Rattle.volume.specs.Store.{Store, applied, storesBelow, after, Action, performed}
 use Rattle.volume.specs.Commit.{Change, Plan, rank, memberPlace, changedEntries, committedTables, member, dataStore, memberStore, commitStores, planAction}
 use Rattle.power.specs.declared.allowance.Power.the-variants.{Left, Failed}
 use Rattle.power.specs.Power.{powered}
-use Rattle.pieces.specs.Arrays.{flagged, planOf, changeOf, blockStore}
+use Rattle.pieces.specs.Arrays.{flagged, planOf, changeOf, blockStore, Settling}
 use Rattle.commit.specs.Commit.{changeWith}
 use Rattle.power.proofs.Performing.{memory-left, call-cut, call-whole}
 
@@ -51,19 +53,28 @@ module _ (s : State) (allowance : ℕ) (im mp pl nu us im′ : List ℕ) (blocks
         (e ∙ ap (λ (xs : List Store). powered (length xs) allowance) stores-are)
         (memory-left im mp pl nu us im′ mp pl nu us (sectorAt im′) (tablesOf mp pl nu us) e1 refl refl refl refl refl refl)
 
-    pub carried-whole : (mp′ pl′ nu′ us′ : List ℕ) (x : Answer) (y : State) (left size tail : ℕ)
-        → length mp′ ≡ length mp → length pl′ ≡ length pl → length nu′ ≡ length nu → length us′ ≡ length us
-        → tail ≡ at taken (size - 1) → size ≡ count + members → 1 ≤ members
-        → x ≡ Accepted (storesAlone (allowance - left)) → y ≡ committedState s tail (s .number + members)
-        → Left left ≡ powered (length made) allowance
-        → tablesOf mp′ pl′ nu′ us′ ≡ committedTables s (tablesOf mp pl nu us) (planOf [] written 0 count taken) (changeOf blocks news count)
-        → after (record { answer = x; state = y }) (memory im′ mp′ pl′ nu′ us′) ≡ performed allowance action (memory im mp pl nu us)
+    pub carried-whole : (mp′ pl′ nu′ us′ : List ℕ) (r : Outcome) (left : ℕ) → length mp′ ≡ length mp → length pl′ ≡ length pl → length nu′ ≡ length nu
+        → length us′ ≡ length us → Settling (s .geometry) (s .number) blocks news taken count written
+        → members ≡ countBelow (flagged written) (piecesFor (s .geometry .l)) → 1 ≤ members → Left left ≡ powered (length made) allowance
+        → (r .answer ≡ Accepted (storesAlone (allowance - left)))
+        × (r .state ≡ committedState s (at taken (length taken - 1)) (s .number + members))
+        × (tablesOf mp′ pl′ nu′ us′ ≡ committedTables s (tablesOf mp pl nu us) (planOf [] written 0 count taken) (changeOf blocks news count))
+        → after r (memory im′ mp′ pl′ nu′ us′) ≡ performed allowance action (memory im mp pl nu us)
     unfolding planAction committedTables changedEntries memberPlace rank
-    carried-whole mp′ pl′ nu′ us′ x y left size tail e2 e3 e4 e5 w z m p q e t =
-        call-whole allowance action (memory im mp pl nu us) (memory im′ mp′ pl′ nu′ us′) (sectorAt im′) image-is x y left p
-        (q ∙ ap (λ (k : ℕ). committedState s k (s .number + members)) (w ∙ ap (at taken) (let h : size - 1 ≡ count + (members - 1) = omega arith in h)))
+    carried-whole mp′ pl′ nu′ us′ r left e2 e3 e4 e5 g m one e w =
+        let all = g .taken-all in
+        call-whole allowance action (memory im mp pl nu us) (memory im′ mp′ pl′ nu′ us′) (sectorAt im′) image-is (r .answer) (r .state) left (w .0)
+        (w .1 ∙ ap (λ (k : ℕ). committedState s (at taken k) (s .number + members)) (let h : length taken - 1 ≡ count + (members - 1) = omega arith in h))
         (e ∙ ap (λ (xs : List Store). powered (length xs) allowance) stores-are)
-        (memory-left im mp pl nu us im′ mp′ pl′ nu′ us′ (sectorAt im′) (action .tables) e1 e2 e3 e4 e5 refl t)
+        (memory-left im mp pl nu us im′ mp′ pl′ nu′ us′ (sectorAt im′) (action .tables) e1 e2 e3 e4 e5 refl (w .2))
+
+-- The last sector taken is the last member's.
+pub some-taken : (g : Geometry) (number : ℕ) (blocks news taken written : List ℕ) (count members : ℕ) → Settling g number blocks news taken count written
+    → members ≡ countBelow (flagged written) (piecesFor (g .l)) → 1 ≤ members → 1 ≤ length taken
+some-taken g number blocks news taken written count members s m one = let all = s .taken-all in omega arith
+
+pub tail-is : (s y : State) (tail tail′ number : ℕ) → y ≡ committedState s tail number → tail ≡ tail′ → y ≡ committedState s tail′ number
+tail-is s y tail tail′ number e f = e ∙ ap (λ (k : ℕ). committedState s k number) f
 
 -- Changes and stores that agree below the bound are the same.
 updates-same : (f : ℕ → ℕ) (place value value′ : ℕ → ℕ) (n : ℕ) → ((i : ℕ) → i < n → value i ≡ value′ i) → updates f place value n ≡ updates f place value′ n

@@ -2,19 +2,23 @@
 ghost use mathlib.Core.Path.{_≡_};
 ghost use mathlib.Core.Logic.{_⊎_};
 ghost use mathlib.Core.Bool.{true, not};
+ghost use mathlib.Core.List.{[]};
 ghost use Prim.Native.Nat.{_+_, _-_, _*_, _≤_};
 ghost use lib.ListN.{length};
 ghost use lib.Dec.{ltb};
 ghost use Rattle.geometry.specs.Geometry.{sectorBytes, branchRoom, piecesFor, usedBytes, geometryFits};
+ghost use Rattle.answer.specs.Answer.{storesAlone};
+ghost use Rattle.answer.specs.declared.Answer.the-variants.{Accepted};
 ghost use Rattle.answer.specs.declared.Verdict.the-variants.{Pass};
+ghost use Rattle.state.specs.State.{committedState};
 ghost use Rattle.layout.specs.Bounded.{at, countBelow};
 ghost use Rattle.volume.specs.Tables.{bitAt, sectorAt, memory, tablesOf, freeSectors, consistent};
 ghost use Rattle.volume.specs.Refusals.{judged};
 ghost use Rattle.volume.specs.Store.{after, performed};
 ghost use Rattle.volume.specs.Placing.{base};
-ghost use Rattle.volume.specs.Commit.{planAction, commitAction};
+ghost use Rattle.volume.specs.Commit.{committedTables, planAction, commitAction};
 ghost use Rattle.volume.specs.Calls.{viewOf, commitChecks};
-ghost use Rattle.pieces.specs.Arrays.{flagged, planOf, Settling};
+ghost use Rattle.pieces.specs.Arrays.{flagged, planOf, changeOf, Settling};
 ghost use Rattle.commit.specs.Commit.{changeWith, changeBy};
 use answer::Answer;
 use power::allowance::Power;
@@ -27,6 +31,52 @@ fn last_of(taken: &[u32]) -> u32
     ensures { λ r. ⌜ r ≡ at (now (taken .entry)) (length (now (taken .entry)) - 1) ⌝ }
 {
     taken[taken.len() - 1]
+}
+
+// What is left to do when all was stored: the tables are changed, and the state says so.
+fn finish(
+    s: State,
+    map: &mut [u32],
+    places: &mut [u32],
+    numbers: &mut [u32],
+    used: &mut [u8],
+    blocks: &[u32],
+    news: &[u32],
+    taken: &[u32],
+    count: u32,
+    written: &[u8],
+    members: u32,
+    stores: u32,
+) -> Outcome
+    requires { ⌜ members ≡ countBelow (flagged (now written)) (piecesFor (s .geometry .l)) ⌝ }
+    requires { ⌜ 1 ≤ members ⌝ }
+    requires { ⌜ geometryFits (s .geometry) ≡ true ⌝ }
+    requires { ⌜ length (now map) ≡ s .geometry .l ⌝ }
+    requires { ⌜ length (now places) ≡ piecesFor (s .geometry .l) ⌝ }
+    requires { ⌜ length (now numbers) ≡ piecesFor (s .geometry .l) ⌝ }
+    requires { ⌜ length (now used) ≡ usedBytes (s .geometry .n) ⌝ }
+    requires { ⌜ consistent (s .geometry) (tablesOf (now map) (now places) (now numbers) (now used)) (s .tail) (s .number) ≡ true ⌝ }
+    requires { ⌜ Settling (s .geometry) (s .number) (now blocks) (now news) (now taken) count (now written) ⌝ }
+    ensures { λ r. ⌜ (r .answer ≡ Accepted (storesAlone stores)) × (r .state ≡ committedState s (at (now (taken .entry)) (length (now (taken .entry)) - 1)) (s .number + members)) × (tablesOf (now (map .exit)) (now (places .exit)) (now (numbers .exit)) (now (used .exit)) ≡ committedTables s (tablesOf (now (map .entry)) (now (places .entry)) (now (numbers .entry)) (now (used .entry))) (planOf [] (now (written .entry)) 0 count (now (taken .entry))) (changeOf (now (blocks .entry)) (now (news .entry)) count)) ⌝ }
+{
+    settle::settle(
+        s,
+        map,
+        places,
+        numbers,
+        used,
+        blocks,
+        news,
+        taken,
+        count as usize,
+        written,
+    );
+    let tail = last_of(taken);
+    let number = s.number + members;
+    Outcome {
+        answer: Answer::accepted(stores),
+        state: s.committed(tail, number),
+    }
 }
 
 // Stores a planned commit, and changes the tables when all was stored.
@@ -80,27 +130,20 @@ fn carry_out(
             answer: Answer::power_failed(allowance),
             state: s.cut(),
         },
-        Power::Left(left) => {
-            settle::settle(
-                s,
-                map,
-                places,
-                numbers,
-                used,
-                blocks,
-                news,
-                taken,
-                count as usize,
-                written,
-            );
-            let tail = last_of(taken);
-            let number = s.number + members;
-            let stores = allowance - left;
-            Outcome {
-                answer: Answer::accepted(stores),
-                state: s.committed(tail, number),
-            }
-        }
+        Power::Left(left) => finish(
+            s,
+            map,
+            places,
+            numbers,
+            used,
+            blocks,
+            news,
+            taken,
+            count,
+            written,
+            members,
+            allowance - left,
+        ),
     }
 }
 

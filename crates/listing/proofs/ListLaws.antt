@@ -26,6 +26,7 @@ use Rattle.tournament.specs.Tournament.{keyAt, below, Keyed}
 use Rattle.tournament.proofs.TournamentLaws.{keyed-first, keyed-below}
 use Rattle.laws.proofs.Words.{length-wordsOf}
 use Rattle.laws.proofs.Sectors.{sector-length}
+use Rattle.listing.specs.Listing.{Taken}
 
 -- The key of a candidate.
 module _ (nu touched : List ℕ) (bound : ℕ) where
@@ -196,29 +197,30 @@ elem-end k (y ∷ xs) x = ap (λ (b : Bool). eqb k y || b) (elem-end k xs x) ∙
     shift false b c = refl
 
 module _ (before : ℕ → Bool) (pl nu bs : List ℕ) (bound : ℕ) where
-  abbrev pub reachedBy : ℕ → ℕ → Bool
+  unfoldable pub reachedBy : ℕ → ℕ → Bool
   reachedBy i q = before q || (elem (at pl q) (take i bs) && ltb (at nu q) bound)
 
   pub reached-none : before ≡ reachedBy 0
-  unfolding elem
+  unfolding elem reachedBy
   reached-none = fun-ext (λ q. either (before q))
     where
       either : (a : Bool) → a ≡ (a || false)
       either true = refl
       either false = refl
 
-  pub reached-more : (i b : ℕ) → i < length bs → b ≡ at bs i → (f g : ℕ → Bool) → f ≡ reachedBy i
-      → g ≡ (λ q. f q || (eqb (at pl q) b && ltb (at nu q) bound)) → g ≡ reachedBy (i + 1)
-  reached-more i b h e f g p r =
+  pub reached-more : (i : ℕ) (f g : ℕ → Bool) → f ≡ reachedBy i → i < length bs
+      → g ≡ (λ q. f q || (eqb (at pl q) (at bs i) && ltb (at nu q) bound)) → g ≡ reachedBy (i + 1)
+  unfolding reachedBy
+  reached-more i f g p h r =
       r
       ∙ fun-ext (λ q.
-      ap (λ (x : ℕ → Bool). x q || (eqb (at pl q) b && ltb (at nu q) bound)) p
-      ∙ either (before q) (elem (at pl q) (take i bs)) (eqb (at pl q) b) (ltb (at nu q) bound)
+      ap (λ (x : ℕ → Bool). x q || (eqb (at pl q) (at bs i) && ltb (at nu q) bound)) p
+      ∙ either (before q) (elem (at pl q) (take i bs)) (eqb (at pl q) (at bs i)) (ltb (at nu q) bound)
       ∙ ap (λ (x : Bool). before q || (x && ltb (at nu q) bound))
       (sym
       (ap (λ (xs : List ℕ). elem (at pl q) xs)
-      (ap (λ (k : ℕ). take k bs) (add-one i) ∙ take-suc bs i 0 h ∙ ap (λ (x : ℕ). take i bs ++ (x ∷ [])) (sym e))
-      ∙ elem-end (at pl q) (take i bs) b)))
+      (ap (λ (k : ℕ). take k bs) (add-one i) ∙ take-suc bs i 0 h)
+      ∙ elem-end (at pl q) (take i bs) (at bs i))))
     where
       either : (a x y z : Bool) → ((a || (x && z)) || (y && z)) ≡ (a || ((x || y) && z))
       either true x y z = refl
@@ -291,7 +293,7 @@ module _ (g : Geometry) (image : ℕ → List ℕ) (pl nu touched : List ℕ) (n
   listedFrom steps bound reached =
       listing (length nu) (tablesOf [] pl nu []) (viewOf g image) (unflagged (length nu) touched) steps bound reached
 
-  abbrev pub Listing : List ℕ → ℕ → ℕ → (ℕ → Bool) → Type 0
+  unfoldable pub Listing : List ℕ → ℕ → ℕ → (ℕ → Bool) → Type 0
   Listing done steps bound reached = listedFrom (length nu) (suc number) (λ _. false) ≡ done ++ listedFrom steps bound reached
 
   any-places : (bound : ℕ) → key nu touched bound ≡ olderKey (tablesOf [] pl nu []) (unflagged (length nu) touched) bound
@@ -299,6 +301,7 @@ module _ (g : Geometry) (image : ℕ → List ℕ) (pl nu touched : List ℕ) (n
   any-places bound = refl
 
   pub listing-starts : (flags branches : List ℕ) (size : ℕ) → flags ≡ replicate size 0 → Listing (take 0 branches) (length nu) (number + 1) (flagged flags)
+  unfolding Listing
   listing-starts flags branches size e = rw (add-one, none-flagged flags size e) refl
 
   pub listing-more : (done done′ : List ℕ) (steps bound bound′ q place : ℕ) (reached reached′ : ℕ → Bool) (known : Bool)
@@ -306,6 +309,7 @@ module _ (g : Geometry) (image : ℕ → List ℕ) (pl nu touched : List ℕ) (n
       → (bound′ ≡ 0 → ⊥) → known ≡ reached q → place ≡ at pl q → done′ ≡ done ++ cond known [] (place ∷ [])
       → reached′ ≡ (λ r. reached r || (elem (at pl r) (branchesIn (viewOf g image (at pl q))) && ltb (at nu r) bound′))
       → Listing done′ (steps - 1) bound′ reached′
+  unfolding Listing
   listing-more done done′ steps bound bound′ q place reached reached′ known s h e f d k p u r =
       let here = any-places bound in
       let rest : List ℕ = listedFrom (steps - 1) bound′ (λ r. reached r || (elem (at pl r) (branchesIn (viewOf g image (at pl q))) && ltb (at nu r) bound′)) in
@@ -320,10 +324,12 @@ module _ (g : Geometry) (image : ℕ → List ℕ) (pl nu touched : List ℕ) (n
       ∙ ap (λ (x : ℕ → Bool). done′ ++ listedFrom (steps - 1) bound′ x) (sym r)
 
   -- It ends with all of it, or with the first 25.
-  pub listing-full : (branches : List ℕ) (steps bound : ℕ) (reached : ℕ → Bool) → length branches ≡ 25 → Listing (take 25 branches) steps bound reached
-      → take 25 branches ≡ take 25 (listedFrom (length nu) (suc number) (λ _. false))
-  listing-full branches steps bound reached e s =
-      sym (ap (take 25) s ∙ take-at (take 25 branches) (listedFrom steps bound reached) 25 (length-take-le 25 branches (omega arith)))
+  pub listing-full : (branches : List ℕ) (count steps bound : ℕ) (reached : ℕ → Bool) → length branches ≡ 25
+      → Listing (take count branches) steps bound reached → count ≡ 25 → take count branches ≡ take 25 (listedFrom (length nu) (suc number) (λ _. false))
+  unfolding Listing
+  listing-full branches count steps bound reached e s full =
+      let len = length-take-le count branches (omega arith) in
+      sym (ap (take 25) s ∙ take-at (take count branches) (listedFrom steps bound reached) 25 (omega arith))
 
   all-of-it : (branches : List ℕ) (count : ℕ) (rest : List ℕ) → count ≤ 25 → count ≤ length branches → rest ≡ []
       → listedFrom (length nu) (suc number) (λ _. false) ≡ take count branches ++ rest
@@ -337,6 +343,7 @@ module _ (g : Geometry) (image : ℕ → List ℕ) (pl nu touched : List ℕ) (n
   pub listing-no-more : (branches : List ℕ) (count steps bound : ℕ) (reached : ℕ → Bool) (q bound′ : ℕ) → count ≤ 25 → length branches ≡ 25
       → Listing (take count branches) steps bound reached → q ≡ best (key nu touched bound) (length nu) → bound′ ≡ key nu touched bound q → bound′ ≡ 0
       → take count branches ≡ take 25 (listedFrom (length nu) (suc number) (λ _. false))
+  unfolding Listing
   listing-no-more branches count steps bound reached q bound′ h len s e f z =
       let here = any-places bound in
       all-of-it branches count (listedFrom steps bound reached) h (omega arith)
@@ -347,48 +354,100 @@ module _ (g : Geometry) (image : ℕ → List ℕ) (pl nu touched : List ℕ) (n
   pub listing-done : (branches : List ℕ) (count steps bound : ℕ) (reached : ℕ → Bool) → count ≤ 25 → length branches ≡ 25
       → Listing (take count branches) steps bound reached → steps ≡ 0
       → take count branches ≡ take 25 (listedFrom (length nu) (suc number) (λ _. false))
+  unfolding Listing
   listing-done branches count steps bound reached h len s z =
       all-of-it branches count (listedFrom steps bound reached) h (omega arith)
       (listing-over (length nu) (tablesOf [] pl nu []) (viewOf g image) (unflagged (length nu) touched) steps bound reached z) s
 
 -- The live sector at a branch is the one of the piece that the sector there says.
-pub only-there : (g : Geometry) (image : ℕ → List ℕ) (pl : List ℕ) (b p : ℕ) → Live g image (at pl) (length pl) → 1 ≤ b → p ≡ at (wordsOf (image b)) 4
-    → (q : ℕ) → at pl q ≡ b → (q ≡ p) × (q < length pl)
-only-there g image pl b p live low e q f =
+pub only-there : (g : Geometry) (image : ℕ → List ℕ) (pl : List ℕ) (n b p : ℕ) → Live g image (at pl) n → length pl ≡ n → 1 ≤ b
+    → p ≡ at (wordsOf (image b)) 4 → (q : ℕ) → at pl q ≡ b → (q ≡ p) × (q < length pl)
+only-there g image pl n b p live len low e q f =
     ⊎-elim (λ (h : q < length pl).
-    (sym (live .piece q h) ∙ ap (λ (x : ℕ). at (wordsOf (image x)) 4) f ∙ sym e, h))
+    (sym (live .piece q (omega arith)) ∙ ap (λ (x : ℕ). at (wordsOf (image x)) 4) f ∙ sym e, h))
     (λ (h : length pl ≤ q). let z = List·getD-eq-default pl 0 {n = q} h in absurd (omega arith)) (lt? q (length pl))
+
+pub reach-there : (reached pl nu : List ℕ) (b b′ bound : ℕ) (f : ℕ → Bool) → b ≡ b′
+    → f ≡ (λ q. flagged reached q || (eqb (at pl q) b && ltb (at nu q) bound)) → f ≡ (λ q. flagged reached q || (eqb (at pl q) b′ && ltb (at nu q) bound))
+reach-there reached pl nu b b′ bound f e r = subst (λ (x : ℕ). f ≡ (λ q. flagged reached q || (eqb (at pl q) x && ltb (at nu q) bound))) e r
 
 -- All branches of a listed sector.
 pub reached-all : (g : Geometry) (bytes s : List ℕ) (before f : ℕ → Bool) (pl nu : List ℕ) (bound i count : ℕ) → s ≡ bytes
     → valid g bytes (wordsOf bytes) ≡ true → count ≡ at (wordsOf s) 6 → i ≡ count → f ≡ reachedBy before pl nu (branchWords (wordsOf s)) bound i
     → f ≡ (λ r. before r || (elem (at pl r) (branchesIn (decoded g bytes)) && ltb (at nu r) bound))
+unfolding reachedBy
 reached-all g bytes s before f pl nu bound i count e v u h r =
     let same : take i (branchWords (wordsOf s)) ≡ branchesIn (decoded g bytes)
     = ap (λ (x : ℕ). take x (branchWords (wordsOf s))) (h ∙ u) ∙ ap (λ (x : List ℕ). take (at (wordsOf x) 6) (branchWords (wordsOf x))) e
     ∙ sym (branches-view g bytes v) in
     r ∙ fun-ext (λ q. ap (λ (xs : List ℕ). before q || (elem (at pl q) xs && ltb (at nu q) bound)) same)
 
--- At most one more is listed.
-pub one-more : (count r most : ℕ) (known : Bool) → r ≡ cond known count (count + 1) → count < most → r ≤ most
-one-more count r most true e h = omega arith
-one-more count r most false e h = omega arith
-
--- A listed sector, and the sector that a branch of it names.
-module _ (g : Geometry) (im s : List ℕ) (place : ℕ) (len : length im ≡ 512 * g .n) (inside : place < g .n) (is : s ≡ sectorAt im place)
-    (signed : valid g (sectorAt im place) (wordsOf (sectorAt im place)) ≡ true) where
+-- A sector of the image, and a word of it.
+module _ (n : ℕ) (im s : List ℕ) (place : ℕ) (len : length im ≡ 512 * n) (inside : place < n) (is : s ≡ sectorAt im place) where
   pub whole-sector : length s ≡ 512
   whole-sector = ap length is ∙ sector-length im place (omega arith)
 
-  signed-s : valid g s (wordsOf s) ≡ true
-  signed-s = subst (λ (x : List ℕ). valid g x (wordsOf x) ≡ true) (sym is) signed
+  pub word-there : (w k : ℕ) → w ≡ at (wordsOf s) k → w ≡ at (wordsOf (sectorAt im place)) k
+  word-there w k e = e ∙ ap (λ (x : List ℕ). at (wordsOf x) k) is
 
-  pub count-few : (count : ℕ) → count ≡ at (wordsOf s) 6 → count ≤ 24
-  count-few count e = let h = few-branches g s signed-s in omega arith
+  room-there : length (branchWords (wordsOf (sectorAt im place))) ≡ 24
+  room-there = branch-room (sectorAt im place) (sector-length im place (omega arith))
 
-  pub branch-sector : (count i b : ℕ) → count ≡ at (wordsOf s) 6 → i < count → b ≡ at (branchWords (wordsOf s)) i → (1 ≤ b) × (512 * b + 512 ≤ length im)
-  branch-sector count i b e h f =
-      let w = branch-inside g s signed-s i (branch-room s whole-sector) (omega arith) in
+-- The branches of a signed sector; each names a sector.
+module _ (g : Geometry) (im s : List ℕ) (place : ℕ) (len : length im ≡ 512 * g .n) (inside : place < g .n) (is : s ≡ sectorAt im place)
+    (signed : valid g (sectorAt im place) (wordsOf (sectorAt im place)) ≡ true) where
+  pub branches-there : (count : ℕ) → count ≡ at (wordsOf s) 6
+      → (count ≡ at (wordsOf (sectorAt im place)) 6) × (count ≤ length (branchWords (wordsOf (sectorAt im place))))
+  branches-there count e =
+      let few = few-branches g (sectorAt im place) signed in
+      let there = word-there (g .n) im s place len inside is count 6 e in
+      let room = room-there (g .n) im s place len inside is in
+      (there, omega arith)
+
+  pub branch-whole : (i : ℕ) → i < at (wordsOf (sectorAt im place)) 6 → (length s ≡ 512) × (i < 24)
+  branch-whole i h =
+      let few = few-branches g (sectorAt im place) signed in
+      (whole-sector (g .n) im s place len inside is, omega arith)
+
+  pub branch-there : (i b : ℕ) → i < at (wordsOf (sectorAt im place)) 6 → b ≡ at (branchWords (wordsOf s)) i
+      → (b ≡ at (branchWords (wordsOf (sectorAt im place))) i) × (1 ≤ b) × (b < g .n)
+  branch-there i b h e =
+      let there = e ∙ ap (λ (x : List ℕ). at (branchWords (wordsOf x)) i) is in
+      let w = branch-inside g (sectorAt im place) signed i (room-there (g .n) im s place len inside is) h in
       let low = w .0 in
       let high = w .1 in
-      (omega arith, omega arith)
+      (there, omega arith, omega arith)
+
+-- The newest candidate is taken: the older ones are left, or there is none.
+module _ (nu touched : List ℕ) (bound : ℕ) (tree : List ℕ) (s : Keyed (length nu) (key nu touched bound) tree) (some : 0 < length nu) (q number : ℕ)
+    (first : (q ≡ best (keyAt (length nu) tree) (length nu)) × (q < length nu)) (is : number ≡ key nu touched bound q) where
+  pub taken-one : (tree′ : List ℕ) → (number ≡ 0 → ⊥) → Keyed (length nu) (below number (keyAt (length nu) tree)) tree′ → Taken nu touched bound tree′ q number
+  taken-one tree′ d k =
+      record {
+        newest = newest-first nu touched bound tree s q some (first .0);
+        inside = first .1;
+        key = is;
+        older = λ e. older-left nu touched bound tree s q number tree′ is d k;
+      }
+
+  pub taken-none : number ≡ 0 → Taken nu touched bound tree q number
+  taken-none z =
+      record {
+        newest = newest-first nu touched bound tree s q some (first .0);
+        inside = first .1;
+        key = is;
+        older = λ e. absurd (e z);
+      }
+
+-- One step: the newest candidate is listed unless it is reached, and all of its branches are reached.
+pub listing-next : (g : Geometry) (image : ℕ → List ℕ) (pl nu touched : List ℕ) (number : ℕ) (done done′ : List ℕ) (steps bound bound′ q : ℕ)
+    (tree reached reached′ : List ℕ) (i count : ℕ) → Live g image (at pl) (length nu)
+    → Listing g image pl nu touched number done steps bound (flagged reached) → 0 < steps → Taken nu touched bound tree q bound′ → (bound′ ≡ 0 → ⊥)
+    → done′ ≡ done ++ cond (eqb (at reached q) 1) [] (at pl q ∷ []) → count ≡ at (wordsOf (image (at pl q))) 6 → i ≡ count
+    → flagged reached′ ≡ reachedBy (flagged reached) pl nu (branchWords (wordsOf (image (at pl q)))) bound′ i
+    → Listing g image pl nu touched number done′ (steps - 1) bound′ (flagged reached′)
+unfolding flagged
+listing-next g image pl nu touched number done done′ steps bound bound′ q tree reached reached′ i count live s h t d e u z r =
+    listing-more g image pl nu touched number done done′ steps bound bound′ q (at pl q) (flagged reached) (flagged reached′) (eqb (at reached q) 1) s h
+    (t .newest) (t .key) d refl refl e
+    (reached-all g (image (at pl q)) (image (at pl q)) (flagged reached) (flagged reached′) pl nu bound′ i count refl (live .signed q (t .inside)) u z r)

@@ -1,6 +1,6 @@
 -- The map, filled in piece by piece.
-use Prim.Native.Nat.{ℕ, _+_, _*_, _/_, _%_, _≤_, _<_}
-use mathlib.Core.Path.{_≡_, refl, sym, _∙_, ap, ap₂, subst}
+use Prim.Native.Nat.{ℕ, _+_, _*_, _-_, _/_, _%_, _≤_, _<_}
+use mathlib.Core.Path.{_≡_, sym, _∙_, ap, ap₂, subst}
 use mathlib.Core.Logic.{_⊎_, ⊎-elim}
 use mathlib.Core.List.{List}
 use native.Mathlib.Omega.{arith}
@@ -30,15 +30,37 @@ module _ (image places : List ℕ) where
   abbrev pub entryOf : ℕ → ℕ
   entryOf b = at (entryWords (wordsOf (sectorAt image (at places (pieceOf b))))) (indexOf b)
 
-  pub piece-entry : (first p i : ℕ) (s : List ℕ) → first ≡ 96 * p → i < 96 → s ≡ sectorAt image (at places p) → entryOf (first + i) ≡ at (entryWords (wordsOf s)) i
-  piece-entry first p i s e h z =
+  pub piece-entry : (first p i : ℕ) → first ≡ 96 * p → i < 96 → entryOf (first + i) ≡ at (entryWords (wordsOf (sectorAt image (at places p)))) i
+  piece-entry first p i e h =
       let q : (first + i) / 96 ≡ p = omega arith in
       let r : (first + i) % 96 ≡ i = omega arith in
-      ap₂ (λ (x y : ℕ). at (entryWords (wordsOf (sectorAt image (at places x)))) y) q r ∙ ap (λ (bs : List ℕ). at (entryWords (wordsOf bs)) i) (sym z)
+      ap₂ (λ (x y : ℕ). at (entryWords (wordsOf (sectorAt image (at places x)))) y) q r
 
-pub next-piece : (first p count len : ℕ) → first ≡ 96 * p → count ≤ 96 → (left : ℕ) → left + first ≡ len → (count ≡ left) ⊎ (count ≡ 96) → first + count < len → first + count ≡ 96 * (p + 1)
-next-piece first p count len e h left t which b =
-    ⊎-elim (λ (z : count ≡ left). absurd (omega arith)) (λ (z : count ≡ 96). omega arith) which
+-- Where entries are left, the next piece has a place, and its entries are the next.
+pub place-there : (first p len len₀ pieces : ℕ) → len ≡ len₀ → first < len → (first < len₀ → first ≡ 96 * p) → len₀ ≤ 96 * pieces → (first ≡ 96 * p) × (p < pieces)
+place-there first p len len₀ pieces e h at-piece most = let z = at-piece (omega arith) in (z, omega arith)
 
-pub count-some : (count left : ℕ) → 1 ≤ left → (count ≡ left) ⊎ (count ≡ 96) → 1 ≤ count
-count-some count left h which = ⊎-elim (λ (z : count ≡ left). omega arith) (λ (z : count ≡ 96). omega arith) which
+pub next-piece : (first p count len len₀ : ℕ) → len ≡ len₀ → first ≡ 96 * p → (first + count < len → count ≡ 96) → first + count < len₀ → first + count ≡ 96 * (p + 1)
+next-piece first p count len len₀ e h whole b = let z = whole (omega arith) in omega arith
+
+-- What one piece adds: 96 entries, or all that are left.
+pub piece-filled : (first count left len : ℕ) (map map′ s bytes : List ℕ) → left ≡ len - first → first < len
+    → (count ≤ 96) × (count ≤ left) × ((count ≡ left) ⊎ (count ≡ 96)) → s ≡ bytes
+    → ((f : ℕ → ℕ) (old : List ℕ) → Filled f old first map → ((i : ℕ) → i < count → f (first + i) ≡ at (entryWords (wordsOf s)) i) → Filled f old (first + count) map′)
+    → (1 ≤ count)
+    × (count ≤ 96)
+    × (first + count ≤ len)
+    × (first + count < len → count ≡ 96)
+    × ((f : ℕ → ℕ) (old : List ℕ) → Filled f old first map → ((i : ℕ) → i < 96 → f (first + i) ≡ at (entryWords (wordsOf bytes)) i) → Filled f old (first + count) map′)
+piece-filled first count left len map map′ s bytes l h n e fill =
+    let most = n .0 in
+    let room = n .1 in (
+      ⊎-elim (λ (z : count ≡ left). omega arith) (λ (z : count ≡ 96). omega arith) (n .2),
+      most,
+      omega arith,
+      λ b. ⊎-elim (λ (z : count ≡ left). absurd (omega arith)) (λ (z : count ≡ 96). z) (n .2),
+      λ f old start entries. fill f old start (λ i k. entries i (omega arith) ∙ ap (λ (x : List ℕ). at (entryWords (wordsOf x)) i) (sym e)),
+    )
+
+pub below-same : (a n m : ℕ) → m ≡ n → a < n → a < m
+below-same a n m e h = omega arith

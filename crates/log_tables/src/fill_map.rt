@@ -35,6 +35,18 @@ fn fill_piece(s: &[u8], map: &mut [u32], first: usize, count: usize)
     }
 }
 
+// The entries of the next piece, whose sector is at place, from block `first` on. How many they are: 96, or all that are left.
+fn fill_next(image: &[u8], place: u32, map: &mut [u32], first: usize) -> usize
+    requires { ⌜ sectorBytes * place + sectorBytes ≤ length (now image) ⌝ }
+    requires { ⌜ first < length (now map) ⌝ }
+    ensures { λ r. ⌜ (1 ≤ r) × (r ≤ 96) × (first + r ≤ length (now (map .entry))) × (first + r < length (now (map .entry)) → r ≡ 96) × ((f : ℕ → ℕ) (old : List ℕ) → Filled f old first (now (map .entry)) → ((i : ℕ) → i < 96 → f (first + i) ≡ at (entryWords (wordsOf (sectorAt (now (image .entry)) place))) i) → Filled f old (first + r) (now (map .exit))) ⌝ }
+{
+    let s = images::sector(image, place as usize);
+    let count = piece_count(map.len() - first);
+    fill_piece(s, map, first, count);
+    count
+}
+
 pub fn fill_map(image: &[u8], places: &[u32], map: &mut [u32])
     requires { ⌜ length (now map) ≤ 96 * length (now places) ⌝ }
     requires { ⌜ ((p : ℕ) → p < length (now places) → sectorBytes * at (now places) p + sectorBytes ≤ length (now image)) ⌝ }
@@ -43,10 +55,7 @@ pub fn fill_map(image: &[u8], places: &[u32], map: &mut [u32])
     let mut first = 0;
     let mut p = 0;
     while first < map.len() {
-        let s = images::sector(image, places[p] as usize);
-        let count = piece_count(map.len() - first);
-        fill_piece(s, map, first, count);
-        first += count;
+        first += fill_next(image, places[p], map, first);
         p += 1;
     }
 }

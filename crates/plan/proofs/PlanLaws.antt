@@ -1,24 +1,27 @@
 -- The plan in the arrays is the plan of the definition.
-use Prim.Native.Nat.{ℕ, zero, suc, _+_, _-_, _/_, _%_, _^_, _≤_, _<_}
-use mathlib.Core.Path.{_≡_, refl, sym, _∙_, ap, fun-ext}
+use Prim.Native.Nat.{ℕ, zero, suc, _+_, _*_, _-_, _/_, _%_, _^_, _≤_, _<_}
+use mathlib.Core.Path.{_≡_, refl, sym, _∙_, ap, fun-ext, subst}
 use mathlib.Core.Logic.{⊎-elim}
 use mathlib.Core.Bool.{Bool, true, false, cond, not, _||_}
 use mathlib.Core.List.{List, [], _++_}
 use native.Mathlib.Omega.{arith}
-use lib.ListN.{length, getD, take, drop, replicate, List·getD-append, List·getD-eq-default}
-use lib.Seq.{getD-append-add, getD-drop, take-all, length-take-le}
+use lib.ListN.{length, getD, take, drop, replicate, length-replicate, List·getD-append, List·getD-eq-default}
+use lib.Seq.{getD-append-add, getD-drop, take-at, take-all, length-take-le}
 use lib.Dec.{eqb, ltb}
 use borrow.Author.Tests.{lt-ltb, le-ltb, eqb-true}
 use Rattle.laws.proofs.Filling.{zeros-get}
 use Rattle.state.specs.declared.State.{State}
-use Rattle.geometry.specs.Geometry.{piecesFor, pieceOf}
+use Rattle.geometry.specs.declared.Geometry.{Geometry}
+use Rattle.geometry.specs.Geometry.{piecesFor, pieceOf, usedBytes, geometryFits}
+use Rattle.laws.proofs.Sizes.{fits}
 use Rattle.layout.specs.Bounded.{at, listFrom, tabled, countBelow}
 use Rattle.layout.specs.MapSector.{View}
 use Rattle.volume.specs.Tables.{bitAt, tablesOf}
 use Rattle.volume.specs.Placing.{base, placeOf}
 use Rattle.volume.specs.Commit.{touches, olderKey, listing, branchesFor, planned}
 use Rattle.laws.proofs.Bounded.{bool?, lt?, clash, tabled-at, tabled-past, listFrom-at, length-listFrom, anyBelow-none, count-le}
-use Rattle.pieces.specs.Arrays.{flagged, unflagged, changeOf, Planning}
+use Rattle.pieces.specs.Arrays.{flagged, unflagged, changeOf, Live, Planning}
+use Rattle.plan.specs.Untouched.{Untouched}
 
 -- A copy of the used map in a longer one.
 pub copied : (us marks xs : List ℕ) (m : ℕ) → marks ≡ replicate m 0 → xs ≡ listFrom (at us) 0 (length us) ++ drop (length us) marks → bitAt xs ≡ bitAt us
@@ -80,12 +83,9 @@ touches-past blocks l q inside h =
     either : (a b : ℕ) → a < b → eqb a b ≡ false
     either a b k = ⊎-elim (λ (e : eqb a b ≡ true). let z = eqb-true a b e in absurd (omega arith)) (λ (e : eqb a b ≡ false). e) (bool? (eqb a b))
 
-module _ (s : State) (pl nu us blocks : List ℕ) (view : View) (head count : ℕ) (inside : (i : ℕ) → i < length blocks → at blocks i < s .geometry .l)
-    (touched written bs taken : List ℕ) (listed first members pieces : ℕ) (pieces-is : pieces ≡ piecesFor (s .geometry .l))
-    (lens : length nu ≡ piecesFor (s .geometry .l)) (room : length bs ≡ 25) (most : listed ≤ 25)
-    (touching : flagged touched ≡ touches blocks)
-    (listing-is : take listed bs
-    ≡ take 25 (listing (length nu) (tablesOf [] pl nu []) view (unflagged (length nu) touched) (length nu) (suc (s .number)) (λ _. false)))
+module _ (s : State) (pl nu us blocks : List ℕ) (view : View) (head count : ℕ) (touched written bs taken : List ℕ) (listed first members pieces : ℕ)
+    (inside : (i : ℕ) → i < length blocks → at blocks i < s .geometry .l) (pieces-is : pieces ≡ piecesFor (s .geometry .l))
+    (lens : length nu ≡ piecesFor (s .geometry .l)) (untouched : Untouched s pl nu view blocks touched bs listed)
     (first-is : first ≡ cond (ltb 24 listed) 0 listed)
     (written-is : flagged written ≡ cond (ltb 24 listed) (λ q. ltb q pieces || flagged touched q) (flagged touched)) where
   abbrev whole : List ℕ
@@ -94,12 +94,12 @@ module _ (s : State) (pl nu us blocks : List ℕ) (view : View) (head count : �
   same-list : take listed bs ≡ take 25 whole
   unfolding branchesFor unflagged
   same-list =
-      listing-is
+      untouched .listing-is
       ∙ ap (take 25)
       (listing-any (length nu) [] [] pl nu [] us view (unflagged (length nu) touched) (length nu) (suc (s .number)) (λ _. false)
       ∙ ap (λ (k : ℕ). listing k (tablesOf [] pl nu us) view (tabled false k (λ q. not (flagged touched q))) k (suc (s .number)) (λ _. false)) lens
       ∙ ap (λ (f : ℕ → Bool). listing (piecesFor (s .geometry .l)) (tablesOf [] pl nu us) view (tabled false (piecesFor (s .geometry .l)) (λ q. not (f q))) (piecesFor (s .geometry .l)) (suc (s .number)) (λ _. false))
-      touching)
+      (untouched .touching))
 
   flags-after : (fold : Bool) → flagged written ≡ cond fold (λ q. ltb q (piecesFor (s .geometry .l)) || flagged touched q) (flagged touched)
       → flagged written ≡ tabled false (piecesFor (s .geometry .l)) (λ q. fold || touches blocks q)
@@ -109,10 +109,10 @@ module _ (s : State) (pl nu us blocks : List ℕ) (view : View) (head count : �
       ⊎-elim (λ (h : q < piecesFor (s .geometry .l)). rw (lt-ltb q (piecesFor (s .geometry .l)) h) (sym (tabled-at false (piecesFor (s .geometry .l)) (λ q. true) q h)))
       (λ (h : piecesFor (s .geometry .l) ≤ q).
       rw (le-ltb q (piecesFor (s .geometry .l)) h)
-      (ap (λ (f : ℕ → Bool). f q) touching ∙ touches-past blocks (s .geometry .l) q inside h ∙ sym (tabled-past false (piecesFor (s .geometry .l)) (λ q. true) q h)))
+      (ap (λ (f : ℕ → Bool). f q) (untouched .touching) ∙ touches-past blocks (s .geometry .l) q inside h ∙ sym (tabled-past false (piecesFor (s .geometry .l)) (λ q. true) q h)))
       (lt? q (piecesFor (s .geometry .l))))
   flags-after false e =
-      e ∙ touching
+      e ∙ untouched .touching
       ∙ fun-ext (λ q.
       ⊎-elim (λ (h : q < piecesFor (s .geometry .l)). sym (tabled-at false (piecesFor (s .geometry .l)) (λ q. touches blocks q) q h))
       (λ (h : piecesFor (s .geometry .l) ≤ q). touches-past blocks (s .geometry .l) q inside h ∙ sym (tabled-past false (piecesFor (s .geometry .l)) (λ q. touches blocks q) q h))
@@ -122,7 +122,7 @@ module _ (s : State) (pl nu us blocks : List ℕ) (view : View) (head count : �
   branches-after true e f = ap (λ (k : ℕ). take k bs) f
   branches-after false e f =
       ap (λ (k : ℕ). take k bs) f
-      ∙ all-listed bs whole listed same-list most room
+      ∙ all-listed bs whole listed same-list (untouched .most) (untouched .room)
       (⊎-elim (λ (h : 24 < length whole). clash (ltb 24 (length whole)) (lt-ltb 24 (length whole) h) (sym e)) (λ (h : length whole ≤ 24). h)
       (lt? 24 (length whole)))
 
@@ -136,7 +136,7 @@ module _ (s : State) (pl nu us blocks : List ℕ) (view : View) (head count : �
       → Planning (planned base s (tablesOf [] pl nu us) view head (changeOf blocks [] count)) first members bs written count taken
   unfolding planned
   planning m t =
-      let alike = folds-alike bs whole listed same-list most room in
+      let alike = folds-alike bs whole listed same-list (untouched .most) (untouched .room) in
       let flags = flags-after (ltb 24 (length whole))
       (written-is ∙ ap (λ (b : Bool). cond b (λ q. ltb q pieces || flagged touched q) (flagged touched)) alike
       ∙ ap (λ (k : ℕ). cond (ltb 24 (length whole)) (λ q. ltb q k || flagged touched q) (flagged touched)) pieces-is) in
@@ -150,5 +150,45 @@ module _ (s : State) (pl nu us blocks : List ℕ) (view : View) (head count : �
         taken-are = t ∙ ap (λ (k : ℕ). listFrom (placeOf base (s .geometry .n) (bitAt us) head) 0 (count + k)) counted;
       }
 
-pub counted-few : (f : ℕ → Bool) (pieces members : ℕ) → members ≡ countBelow f pieces → members ≤ pieces
-counted-few f pieces members e = let h = count-le f pieces in omega arith
+pub counted-few : (f : ℕ → Bool) (pieces members most : ℕ) → members ≡ countBelow f pieces → pieces ≤ most → members ≤ most
+counted-few f pieces members most e m = let h = count-le f pieces in omega arith
+
+-- The flags are as many as pieces there can be, and blocks below L have one.
+pub flags-room : (n : ℕ) (written : List ℕ) → written ≡ replicate 256 0 → n ≡ length written → n ≡ 256
+flags-room n written w e = e ∙ ap length w ∙ length-replicate {A = ℕ} 256 0
+
+pub touchable : (g : Geometry) (written blocks : List ℕ) → geometryFits g ≡ true → ((i : ℕ) → i < length blocks → at blocks i < g .l)
+    → written ≡ replicate 256 0
+    → (written ≡ replicate (length written) 0) × ((i : ℕ) → i < length blocks → pieceOf (at blocks i) < length written)
+touchable g written blocks f inside w =
+    let most = fits g f .most in
+    let len = flags-room (length written) written w refl in
+    (w ∙ ap (λ (x : ℕ). replicate x 0) (sym len), λ i h. let z = inside i h in let q : pieceOf (at blocks i) < length written = omega arith in q)
+
+pub live-for : (g : Geometry) (image : ℕ → List ℕ) (place : ℕ → ℕ) (n m : ℕ) → m ≡ n → Live g image place n → Live g image place m
+live-for g image place n m e live = subst (Live g image place) (sym e) live
+
+-- The places searched in a copy of the used map come first.
+pub taken-first : (n head count : ℕ) (bits bits′ : ℕ → Bool) (taken taken′ : List ℕ)
+    → taken′ ≡ listFrom (placeOf base n bits′ head) 0 count ++ drop count taken → bits′ ≡ bits → take count taken′ ≡ listFrom (placeOf base n bits head) 0 count
+taken-first n head count bits bits′ taken taken′ e f =
+    let from = listFrom (placeOf base n bits head) 0 count in
+    ap (take count) (e ∙ ap (λ (g : ℕ → Bool). listFrom (placeOf base n g head) 0 count ++ drop count taken) f)
+    ∙ take-at from (drop count taken) count (length-listFrom (placeOf base n bits head) 0 count)
+
+-- What a geometry leaves room for: 256 pieces, and 8,192 bytes of used bits.
+module _ (g : Geometry) (f : geometryFits g ≡ true) where
+  pub pieces-few : (n : ℕ) → n ≡ piecesFor (g .l) → n ≤ 256
+  pieces-few n e = let most = fits g f .most in omega arith
+
+  pub pieces-room : (n room : ℕ) → n ≡ piecesFor (g .l) → room ≡ 256 → n ≤ room
+  pieces-room n room e h = let few = pieces-few n e in omega arith
+
+  pub used-room : (n room : ℕ) → n ≡ usedBytes (g .n) → room ≡ 8192 → n ≤ room
+  used-room n room e h = let most = fits g f .sectors in omega arith
+
+  pub some-sectors : 1 < g .n
+  some-sectors = let least = fits g f .least in omega arith
+
+  pub sectors-room : (room : ℕ) → room ≡ 8192 → g .n ≤ 8 * room
+  sectors-room room h = let most = fits g f .sectors in omega arith

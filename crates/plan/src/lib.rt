@@ -7,12 +7,13 @@ ghost use Prim.Native.Nat.{ℕ, _+_, _*_, _≤_, _<_};
 ghost use lib.ListN.{length, take, replicate};
 ghost use lib.Dec.{ltb};
 ghost use Rattle.geometry.specs.Geometry.{sectorBytes, piecesFor, usedBytes, geometryFits};
-ghost use Rattle.layout.specs.Bounded.{at, listFrom};
+ghost use Rattle.layout.specs.Bounded.{at, listFrom, countBelow};
 ghost use Rattle.volume.specs.Tables.{bitAt, sectorAt, tablesOf};
 ghost use Rattle.volume.specs.Placing.{base, placeOf};
 ghost use Rattle.volume.specs.Commit.{planned};
 ghost use Rattle.volume.specs.Calls.{viewOf};
 ghost use Rattle.pieces.specs.Arrays.{flagged, changeOf, Live, Planning};
+ghost use Rattle.plan.specs.Untouched.{Untouched};
 use geometry::Geometry;
 use state::State;
 
@@ -48,17 +49,62 @@ fn fold(written: &mut [u8], pieces: u32, listed: usize) -> usize
 }
 
 // The sectors that a commit takes, searched in a copy of the used map.
-fn take_sectors(used: &[u8], n: u32, head: u32, count: usize, taken: &mut [u32])
-    requires { ⌜ 1 < n ⌝ }
-    requires { ⌜ head < n ⌝ }
-    requires { ⌜ n ≤ 8 * length (now used) ⌝ }
-    requires { ⌜ length (now used) ≤ 8192 ⌝ }
+fn take_sectors(used: &[u8], g: Geometry, head: u32, count: usize, taken: &mut [u32])
+    requires { ⌜ geometryFits g ≡ true ⌝ }
+    requires { ⌜ length (now used) ≡ usedBytes (g .n) ⌝ }
+    requires { ⌜ head < g .n ⌝ }
     requires { ⌜ count ≤ length (now taken) ⌝ }
-    ensures { λ _. ⌜ take count (now (taken .exit)) ≡ listFrom (placeOf base n (bitAt (now (used .entry))) head) 0 count ⌝ }
+    ensures { λ _. ⌜ take count (now (taken .exit)) ≡ listFrom (placeOf base (g .n) (bitAt (now (used .entry))) head) 0 count ⌝ }
 {
     let mut marks = [0u8; 8192];
     copy_used(used, &mut marks);
-    placing::find_places(&mut marks, n, head, count, taken);
+    placing::find_places(&mut marks, g.n, head, count, taken);
+}
+
+// Flags the pieces of the named blocks, and lists the branches to the others.
+fn list_untouched(
+    s: State,
+    image: &[u8],
+    places: &[u32],
+    numbers: &[u32],
+    blocks: &[u32],
+    written: &mut [u8],
+    branches: &mut [u32],
+) -> usize
+    requires { ⌜ geometryFits (s .geometry) ≡ true ⌝ }
+    requires { ⌜ length (now image) ≡ sectorBytes * s .geometry .n ⌝ }
+    requires { ⌜ length (now places) ≡ piecesFor (s .geometry .l) ⌝ }
+    requires { ⌜ length (now numbers) ≡ piecesFor (s .geometry .l) ⌝ }
+    requires { ⌜ s .number ≤ 4294967039 ⌝ }
+    requires { ⌜ ((i : ℕ) → i < length (now blocks) → at (now blocks) i < s .geometry .l) ⌝ }
+    requires { ⌜ Live (s .geometry) (sectorAt (now image)) (at (now places)) (piecesFor (s .geometry .l)) ⌝ }
+    requires { ⌜ now written ≡ replicate 256 0 ⌝ }
+    requires { ⌜ length (now branches) ≡ 25 ⌝ }
+    ensures { λ r. ⌜ Untouched s (now (places .entry)) (now (numbers .entry)) (viewOf (s .geometry) (sectorAt (now (image .entry)))) (now (blocks .entry)) (now (written .exit)) (now (branches .exit)) r ⌝ }
+{
+    pieces::touch_pieces(written, blocks);
+    listing::list_branches(
+        image,
+        s.geometry,
+        places,
+        numbers,
+        written,
+        s.number,
+        branches,
+    )
+}
+
+// Counts the members, once it is known how many branches are listed.
+fn count_members(written: &mut [u8], pieces: u32, listed: usize) -> Sizes
+    requires { ⌜ pieces ≤ 256 ⌝ }
+    requires { ⌜ pieces ≤ length (now written) ⌝ }
+    ensures { λ r. ⌜ (r .branches ≡ cond (ltb 24 listed) 0 listed) × (flagged (now (written .exit)) ≡ cond (ltb 24 listed) (λ q. ltb q pieces || flagged (now (written .entry)) q) (flagged (now (written .entry)))) × (r .members ≡ countBelow (flagged (now (written .exit))) pieces) × (r .members ≤ 256) ⌝ }
+{
+    let branches = fold(written, pieces, listed);
+    Sizes {
+        branches,
+        members: pieces::count_flagged(written, pieces),
+    }
 }
 
 // Plans a commit of the named blocks with so many data sectors.
@@ -91,14 +137,8 @@ pub fn plan(
     ensures { λ r. ⌜ Planning (planned base s (tablesOf [] (now (places .entry)) (now (numbers .entry)) (now (used .entry))) (viewOf (s .geometry) (sectorAt (now (image .entry)))) head (changeOf (now (blocks .entry)) [] count)) (r .branches) (r .members) (now (branches .exit)) (now (written .exit)) count (now (taken .exit)) ⌝ }
 {
     let g = s.geometry;
-    let pieces = Geometry::pieces_for(g.l);
-    pieces::touch_pieces(written, blocks);
-    let listed = listing::list_branches(image, g, places, numbers, written, s.number, branches);
-    let first = fold(written, pieces, listed);
-    let members = pieces::count_flagged(written, pieces);
-    take_sectors(used, g.n, head, (count + members) as usize, taken);
-    Sizes {
-        branches: first,
-        members,
-    }
+    let listed = list_untouched(s, image, places, numbers, blocks, written, branches);
+    let sizes = count_members(written, Geometry::pieces_for(g.l), listed);
+    take_sectors(used, g, head, (count + sizes.members) as usize, taken);
+    sizes
 }

@@ -1,10 +1,12 @@
 -- A log that was found: the cut, the whole, and which tables were lent.
 use Prim.Native.Nat.{ℕ, _-_}
-use mathlib.Core.Path.{_≡_, refl}
+use mathlib.Core.Path.{_≡_, refl, _∙_, ap}
+use mathlib.Core.Bool.{Bool}
 use mathlib.Core.List.{List}
 use lib.ListN.{length, take}
 use Rattle.geometry.specs.declared.Geometry.{Geometry}
 use Rattle.state.specs.declared.State.{State}
+use Rattle.state.specs.declared.Outcome.{Outcome}
 use Rattle.answer.specs.Answer.{storesAlone}
 use Rattle.answer.specs.declared.Cost.{Cost}
 use Rattle.answer.specs.declared.Answer.{Answer}
@@ -12,7 +14,8 @@ use Rattle.answer.specs.declared.Answer.the-variants.{PowerFailed}
 use Rattle.state.specs.State.{freshState, lostState}
 use Rattle.volume.specs.Tables.{memory, sectorAt, tablesOf, zeroTables}
 use Rattle.volume.specs.Store.{Store, applied, after, Action, performed}
-use Rattle.volume.specs.Recover.{Finding, found, missing, recoveryAction, recovered}
+use Rattle.volume.specs.Recover.{Finding, found, missing, parkSectorCleared, isBlank, recoveryAction, recovered}
+use Rattle.power.specs.declared.allowance.Power.{Power}
 use Rattle.power.specs.declared.allowance.Power.the-variants.{Left, Failed}
 use Rattle.power.specs.Power.{powered}
 use Rattle.power.proofs.Performing.{memory-left, call-cut, call-whole}
@@ -23,14 +26,14 @@ module _ (g : Geometry) (allowance : ℕ) (tail number : ℕ) (answer : Cost →
   abbrev action : Action
   action = recoveryAction g (record { tables = tablesOf mp pl nu us; tail = tail; number = number }) answer stores
 
-  pub recovery-cut : (mp′ pl′ nu′ us′ : List ℕ) (x : Answer) (s : State)
-      → length mp′ ≡ length mp → length pl′ ≡ length pl → length nu′ ≡ length nu → length us′ ≡ length us
-      → x ≡ PowerFailed (storesAlone allowance) → s ≡ lostState g → Failed ≡ powered (length stores) allowance → tablesOf mp′ pl′ nu′ us′ ≡ zeroTables
-      → after (record { answer = x; state = s }) (memory im′ mp′ pl′ nu′ us′) ≡ performed allowance action (memory im mp pl nu us)
+  pub recovery-cut : (mp′ pl′ nu′ us′ : List ℕ) (r : Outcome)
+      → length mp′ ≡ length mp → length pl′ ≡ length pl → length nu′ ≡ length nu → length us′ ≡ length us → Failed ≡ powered (length stores) allowance
+      → (r .answer ≡ PowerFailed (storesAlone allowance)) × (r .state ≡ lostState g) × (tablesOf mp′ pl′ nu′ us′ ≡ zeroTables)
+      → after r (memory im′ mp′ pl′ nu′ us′) ≡ performed allowance action (memory im mp pl nu us)
   unfolding memory
-  recovery-cut mp′ pl′ nu′ us′ x s e2 e3 e4 e5 p q e t =
-      call-cut allowance action (memory im mp pl nu us) (memory im′ mp′ pl′ nu′ us′) (sectorAt im′) made x s p q e
-      (memory-left im mp pl nu us im′ mp′ pl′ nu′ us′ (sectorAt im′) zeroTables e1 e2 e3 e4 e5 refl t)
+  recovery-cut mp′ pl′ nu′ us′ r e2 e3 e4 e5 e w =
+      call-cut allowance action (memory im mp pl nu us) (memory im′ mp′ pl′ nu′ us′) (sectorAt im′) made (r .answer) (r .state) (w .0) (w .1) e
+      (memory-left im mp pl nu us im′ mp′ pl′ nu′ us′ (sectorAt im′) zeroTables e1 e2 e3 e4 e5 refl (w .2))
 
   pub recovery-whole : (x : Answer) (s : State) (left : ℕ) → x ≡ answer (storesAlone (allowance - left)) → s ≡ freshState g tail number
       → Left left ≡ powered (length stores) allowance
@@ -51,3 +54,13 @@ module _ (g : Geometry) (allowance : ℕ) (im mp pl nu us mp′ pl′ nu′ us�
   unfolding recovered memory
   recovered-any (found log answer stores) = performed-any (recoveryAction g log answer stores)
   recovered-any (missing loss) = rw (e2, e3, e4, e5) refl
+
+-- Whether sector 0 is blank, as it was read.
+pub first-cleared : (allowance : ℕ) (image image′ : ℕ → List ℕ) (s : List ℕ) (blank : Bool) (left : Power) → blank ≡ isBlank s → s ≡ image 0
+    → (left ≡ powered (length (parkSectorCleared blank)) allowance) × (image′ ≡ applied (take allowance (parkSectorCleared blank)) image)
+    → (left ≡ powered (length (parkSectorCleared (isBlank (image 0)))) allowance) × (image′ ≡ applied (take allowance (parkSectorCleared (isBlank (image 0)))) image)
+first-cleared allowance image image′ s blank left b e w =
+    let z = b ∙ ap isBlank e in (
+      w .0 ∙ ap (λ (x : Bool). powered (length (parkSectorCleared x)) allowance) z,
+      w .1 ∙ ap (λ (x : Bool). applied (take allowance (parkSectorCleared x)) image) z,
+    )

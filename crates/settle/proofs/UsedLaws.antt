@@ -11,13 +11,14 @@ use lib.Dec.{eqb}
 use borrow.Author.Tests.{eqb-true, eq-eqb, ne-eqb}
 use Rattle.geometry.specs.declared.Geometry.{Geometry}
 use Rattle.state.specs.declared.State.{State}
-use Rattle.geometry.specs.Geometry.{piecesFor, usedBytes}
+use Rattle.geometry.specs.Geometry.{piecesFor, usedBytes, geometryFits}
 use Rattle.layout.specs.Bounded.{at, anyBelow, countBelow, elem, updates}
 use Rattle.layout.specs.Entry.{isEmpty, sectorOf}
-use Rattle.volume.specs.Tables.{Tables, bitAt, tablesOf, namedBy, usedBy}
+use Rattle.volume.specs.Tables.{Tables, bitAt, tablesOf, namedBy, usedBy, consistent}
 use Rattle.volume.specs.Commit.{rank, memberPlace, changedEntries, committedTables}
 use Rattle.laws.proofs.Bounded.{bool?, lt?, clash, and-l, and-r, and-i, or-cases, or-l, or-r, or-none, not-is, not-of, cond-true, cond-false, updates-other, updates-at, anyBelow-at, anyBelow-is, count-before, count-nth, not-elem}
-use Rattle.laws.proofs.Names.{Name, piece, block, Named, sectorNamed, named-elem, elem-named, Sound}
+use Rattle.laws.proofs.Names.{Name, piece, block, Named, sectorNamed, named-elem, elem-named, Sound, sound}
+use Rattle.laws.proofs.Sizes.{fits}
 use Rattle.pieces.specs.Arrays.{flagged, without, planOf, changeOf, Settling}
 
 alike : (a b : Bool) → (a ≡ true → b ≡ true) → (b ≡ true → a ≡ true) → a ≡ b
@@ -224,14 +225,26 @@ module _ (g : Geometry) (tail number : ℕ) (mp pl nu us blocks news taken writt
       same false = refl
 
   -- The bits as the code leaves them.
-  pub used-after : (bits1 bits2 bits3 : ℕ → Bool) → bits1 ≡ without (bitAt us) full sector (length blocks)
-      → length pl ≡ piecesFor (g .l) → bits2 ≡ without bits1 (flagged written) (at pl) (length pl)
-      → bits3 ≡ (λ k. bits2 k || taken? k) → bits3 ≡ usedBy after
+  pub used-after : (bits : ℕ → Bool) → length pl ≡ piecesFor (g .l)
+      → bits ≡ (λ k. without (without (bitAt us) full sector (length blocks)) (flagged written) (at pl) (length pl) k || taken? k) → bits ≡ usedBy after
   unfolding without
-  used-after bits1 bits2 bits3 e len f h =
-      h
+  used-after bits len e =
+      e
       ∙ fun-ext (λ k.
-      ap (λ (x : ℕ → Bool). x k || taken? k) (f ∙ ap {B = ℕ → Bool} (λ (x : ℕ). without bits1 (flagged written) (at pl) x) len) ∙ ap (λ (x : ℕ → Bool). (x k && not (by-piece k)) || taken? k) e ∙ at-sector k)
+      ap (λ (x : ℕ). without (without (bitAt us) full sector (length blocks)) (flagged written) (at pl) x k || taken? k) len ∙ at-sector k)
+
+-- The bits after each step: superseded entries, superseded places, sectors taken.
+pub used-steps : (bits bits1 bits2 bits3 full written : ℕ → Bool) (sector place taken : ℕ → ℕ) (n pieces count : ℕ) → bits1 ≡ without bits full sector n
+    → bits2 ≡ without bits1 written place pieces → bits3 ≡ (λ k. bits2 k || anyBelow (λ i. eqb k (taken i)) count)
+    → bits3 ≡ (λ k. without (without bits full sector n) written place pieces k || anyBelow (λ i. eqb k (taken i)) count)
+used-steps bits bits1 bits2 bits3 full written sector place taken n pieces count e f h =
+    h
+    ∙ fun-ext (λ k.
+    ap (λ (x : ℕ → Bool). x k || anyBelow (λ i. eqb k (taken i)) count) (f ∙ ap {B = ℕ → Bool} (λ (x : ℕ → Bool). without x written place pieces) e))
+
+-- Sectors that have a bit, in a used map of the same size.
+pub bits-kept : (sector : ℕ → ℕ) (n size size′ : ℕ) → size′ ≡ size → ((i : ℕ) → i < n → sector i < 8 * size) → (i : ℕ) → i < n → sector i < 8 * size′
+bits-kept sector n size size′ e inside i h = let z = inside i h in omega arith
 
 -- The bits that a change of the tables touches are in the used map.
 module _ (g : Geometry) (tail number : ℕ) (mp pl nu us : List ℕ) (some : 1 ≤ g .n) (s : Sound g (tablesOf mp pl nu us) tail number) where
@@ -271,3 +284,59 @@ settled-tables s mp pl nu us blocks news taken written count entry place number 
       number = λ p. cond (flagged written p) (suc (s .number + countBelow (flagged written) p)) (at nu p);
       isUsed = x;
     }) h
+
+-- What each step asks for.
+pub used-needs : (g : Geometry) (tail number : ℕ) (mp pl nu us blocks news taken written : List ℕ) (count : ℕ) → geometryFits g ≡ true → length mp ≡ g .l
+    → length pl ≡ piecesFor (g .l) → length us ≡ usedBytes (g .n) → consistent g (tablesOf mp pl nu us) tail number ≡ true
+    → Settling g number blocks news taken count written
+    → ((i : ℕ) → i < length blocks → at blocks i < length mp)
+    × (((b : ℕ) → b < length mp → isEmpty (at mp b) ≡ false → sectorOf (at mp b) < 8 * length us)
+    × ((length pl ≤ length written) × (((p : ℕ) → p < length pl → at pl p < 8 * length us) × ((i : ℕ) → i < length taken → at taken i < 8 * length us))))
+used-needs g tail number mp pl nu us blocks news taken written count f e p u k s =
+    let least = fits g f .least in
+    let some : 1 ≤ g .n = omega arith in
+    let snd = sound g (tablesOf mp pl nu us) tail number k in
+    let flags = s .flags in (
+      λ i h. subst (λ (x : ℕ). at blocks i < x) (sym e) (s .inside i h),
+      (
+        entry-bit g tail number mp pl nu us some snd (length us) u e,
+        (omega arith, (place-bit g tail number mp pl nu us some snd (length us) u p, taken-bit (g .n) (length us) taken u (s .below))),
+      ),
+    )
+
+module _ (g : Geometry) (number : ℕ) (blocks news taken written : List ℕ) (count : ℕ) (s : Settling g number blocks news taken count written) where
+  pub map-needs : (n : ℕ) → n ≡ g .l → (length blocks ≤ length news) × ((i : ℕ) → i < length blocks → at blocks i < n)
+  map-needs n e = (s .enough, λ i h. subst (λ (x : ℕ). at blocks i < x) (sym e) (s .inside i h))
+
+  pub live-needs : (n m : ℕ) → n ≡ piecesFor (g .l) → m ≡ piecesFor (g .l)
+      → (n ≡ m)
+      × ((n ≤ length written)
+      × (((p : ℕ) → n ≤ p → flagged written p ≡ false)
+      × ((count + countBelow (flagged written) n ≤ length taken) × (number + countBelow (flagged written) n < 2 ^ 32))))
+  live-needs n m e h =
+      let w = s .flags in
+      let all = s .taken-all in
+      let num = s .numbers in
+      let cnt : countBelow (flagged written) n ≡ countBelow (flagged written) (piecesFor (g .l)) = ap (countBelow (flagged written)) e in
+      (e ∙ sym h, (omega arith, (λ p k. s .past p (omega arith), (omega arith, omega arith))))
+
+-- All of it: the tables that the steps leave.
+pub settled : (s : State) (mp pl nu us blocks news taken written : List ℕ) (count : ℕ) → geometryFits (s .geometry) ≡ true
+    → length pl ≡ piecesFor (s .geometry .l) → length us ≡ usedBytes (s .geometry .n)
+    → consistent (s .geometry) (tablesOf mp pl nu us) (s .tail) (s .number) ≡ true
+    → Settling (s .geometry) (s .number) blocks news taken count written → (entry place number : ℕ → ℕ) (bits : ℕ → Bool)
+    → entry ≡ updates (at mp) (at blocks) (at news) (length blocks)
+    → place ≡ (λ p. cond (flagged written p) (at taken (count + countBelow (flagged written) p)) (at pl p))
+    → number ≡ (λ p. cond (flagged written p) (suc (s .number + countBelow (flagged written) p)) (at nu p))
+    → bits
+    ≡ (λ k.
+    without (without (bitAt us) (λ i. not (isEmpty (at mp (at blocks i)))) (λ i. sectorOf (at mp (at blocks i))) (length blocks)) (flagged written) (at pl) (length pl) k
+    || anyBelow (λ i. eqb k (at taken i)) (length taken))
+    → _≡_ {A = Tables} (record { entry = entry; place = place; number = number; isUsed = bits })
+    (committedTables s (tablesOf mp pl nu us) (planOf [] written 0 count taken) (changeOf blocks news count))
+settled s mp pl nu us blocks news taken written count f p u k d entry place number bits e q h b =
+    let least = fits (s .geometry) f .least in
+    let some : 1 ≤ s .geometry .n = omega arith in
+    let snd = sound (s .geometry) (tablesOf mp pl nu us) (s .tail) (s .number) k in
+    settled-tables s mp pl nu us blocks news taken written count entry place number bits e q h
+    (used-after (s .geometry) (s .tail) (s .number) mp pl nu us blocks news taken written count some u snd d bits p b)

@@ -67,6 +67,27 @@ fn use_places(used: &mut [u8], taken: &[u32])
     }
 }
 
+// Frees what the commit supersedes, and then marks what it took: a sector may be both.
+fn change_used(
+    used: &mut [u8],
+    map: &[u32],
+    places: &[u32],
+    blocks: &[u32],
+    taken: &[u32],
+    written: &[u8],
+)
+    requires { ⌜ ((i : ℕ) → i < length (now blocks) → at (now blocks) i < length (now map)) ⌝ }
+    requires { ⌜ ((b : ℕ) → b < length (now map) → isEmpty (at (now map) b) ≡ false → sectorOf (at (now map) b) < 8 * length (now used)) ⌝ }
+    requires { ⌜ length (now places) ≤ length (now written) ⌝ }
+    requires { ⌜ ((p : ℕ) → p < length (now places) → at (now places) p < 8 * length (now used)) ⌝ }
+    requires { ⌜ ((i : ℕ) → i < length (now taken) → at (now taken) i < 8 * length (now used)) ⌝ }
+    ensures { λ _. ⌜ bitAt (now (used .exit)) ≡ (λ k. without (without (bitAt (now (used .entry))) (λ i. not (isEmpty (at (now (map .entry)) (at (now (blocks .entry)) i)))) (λ i. sectorOf (at (now (map .entry)) (at (now (blocks .entry)) i))) (length (now (blocks .entry)))) (flagged (now (written .entry))) (at (now (places .entry))) (length (now (places .entry))) k || anyBelow (λ i. eqb k (at (now (taken .entry)) i)) (length (now (taken .entry)))) ⌝ }
+{
+    free_blocks(used, map, blocks);
+    free_places(used, places, written);
+    use_places(used, taken);
+}
+
 // The new entries of the named blocks.
 fn change_map(map: &mut [u32], blocks: &[u32], news: &[u32])
     requires { ⌜ length (now blocks) ≤ length (now news) ⌝ }
@@ -135,9 +156,7 @@ pub fn settle(
     requires { ⌜ Settling (s .geometry) (s .number) (now blocks) (now news) (now taken) count (now written) ⌝ }
     ensures { λ _. ⌜ tablesOf (now (map .exit)) (now (places .exit)) (now (numbers .exit)) (now (used .exit)) ≡ committedTables s (tablesOf (now (map .entry)) (now (places .entry)) (now (numbers .entry)) (now (used .entry))) (planOf [] (now (written .entry)) 0 count (now (taken .entry))) (changeOf (now (blocks .entry)) (now (news .entry)) count) ⌝ }
 {
-    free_blocks(used, map, blocks);
-    free_places(used, places, written);
-    use_places(used, taken);
+    change_used(used, map, places, blocks, taken, written);
     change_map(map, blocks, news);
     change_live(places, numbers, written, taken, count, s.number);
 }

@@ -98,3 +98,7 @@ module _ (s : State) (im mp pl nu us : List ℕ) (head : ℕ) (blocks : List ℕ
       → r ≡ dropOf s m head blocks allowance
   unfolding memory
   drop-done bytes r e f = f ∙ drop-is Pass e
+
+pub fit-judged : (s : State) (m : Memory) (head : ℕ) (blocks : List ℕ) (v : Verdict) (fit fit′ room : Bool)
+    → v ≡ judged (commitChecks base s m head blocks fit room) → fit ≡ fit′ → v ≡ judged (commitChecks base s m head blocks fit′ room)
+fit-judged s m head blocks v fit fit′ room e f = e ∙ ap (λ (b : Bool). judged (commitChecks base s m head blocks b room)) f

@@ -1,12 +1,49 @@
 // The write and drop calls: each is one commit.
 ghost use mathlib.Core.Path.{_≡_};
-ghost use Rattle.volume.specs.Tables.{memory};
+ghost use mathlib.Core.Bool.{not};
+ghost use Prim.Native.Nat.{_+_, _*_};
+ghost use lib.ListN.{length};
+ghost use lib.Dec.{eqb, ltb};
+ghost use Rattle.geometry.specs.Geometry.{sectorBytes, piecesFor};
+ghost use Rattle.volume.specs.Tables.{bitAt, memory, freeSectors};
+ghost use Rattle.volume.specs.Refusals.{judged};
+ghost use Rattle.volume.specs.Placing.{base};
 ghost use Rattle.volume.specs.Store.{after};
-ghost use Rattle.volume.specs.Calls.{writeOf, dropOf};
+ghost use Rattle.volume.specs.Calls.{commitChecks, writeOf, dropOf};
 use answer::Answer;
 use answer::Verdict;
 use state::Outcome;
 use state::State;
+
+// The refusals of a write of so many bytes: as many as the named blocks have.
+fn write_verdict(
+    s: State,
+    image: &[u8],
+    map: &[u32],
+    places: &[u32],
+    numbers: &[u32],
+    used: &[u8],
+    head: u32,
+    blocks: &[u32],
+    bytes: usize,
+) -> Verdict
+    ensures { λ r. ⌜ r ≡ judged (commitChecks base s (memory (now (image .entry)) (now (map .entry)) (now (places .entry)) (now (numbers .entry)) (now (used .entry))) head (now (blocks .entry)) (eqb bytes (sectorBytes * length (now (blocks .entry)))) (not (ltb (freeSectors (s .geometry .n) (bitAt (now (used .entry)))) (length (now (blocks .entry)) + piecesFor (s .geometry .l))))) ⌝ }
+{
+    let count = blocks.len();
+    let fit = block_numbers::bytes_fit(bytes, count);
+    verdict::commit_verdict(
+        s,
+        image,
+        map,
+        places,
+        numbers,
+        used,
+        head,
+        blocks,
+        fit,
+        count,
+    )
+}
 
 // Writes the named blocks: their bytes one after the other, in the order of the numbers.
 pub fn write(
@@ -24,8 +61,7 @@ pub fn write(
     ensures { λ r. ⌜ after r (memory (now (image .exit)) (now (map .exit)) (now (places .exit)) (now (numbers .exit)) (now (used .exit))) ≡ writeOf s (memory (now (image .entry)) (now (map .entry)) (now (places .entry)) (now (numbers .entry)) (now (used .entry))) head (now (blocks .entry)) (now (bytes .entry)) allowance ⌝ }
 {
     let count = blocks.len();
-    let fit = block_numbers::bytes_fit(bytes.len(), count);
-    let verdict = verdict::commit_verdict(
+    let verdict = write_verdict(
         s,
         image,
         map,
@@ -34,8 +70,7 @@ pub fn write(
         used,
         head,
         blocks,
-        fit,
-        count,
+        bytes.len(),
     );
     match verdict {
         Verdict::Refuse(refusal) => Outcome {

@@ -1,14 +1,16 @@
 -- The stores end in a cut or are whole; the tables follow.
-use Prim.Native.Nat.{_+_}
-use mathlib.Core.Path.{_≡_, refl, sym, _∙_}
+use mathlib.Core.Path.{sym, _∙_}
 use native.Mathlib.Omega.{arith}
-use lib.ListN.{length}
 use Rattle.laws.proofs.Sizes.{fits}
 use Rattle.power.proofs.Runs.{left-enough}
 use Rattle.commit.proofs.CommitLaws.{carried-cut, carried-whole}
 use borrow.Author.Needs.{needs}
 use Rattle.commit.proofs.carry_out.Statement.{statement}
 use Rattle.commit.proofs.carry_out.Tie as tie
+use Rattle.answer.proofs.Answer.power_failed.Reads as power-failed-reads
+use Rattle.commit.proofs.finish.Reads as finish-reads
+use Rattle.state.proofs.State.cut.Reads as cut-reads
+use Rattle.store.proofs.store.Reads as store-reads
 
 store-requires : tie.Need-store-requires
 store-requires c κs =
@@ -16,8 +18,6 @@ store-requires c κs =
     let r = c .before .before .before .before .before .before .before .before .before .before .before .before .before .pre in
     let g = r .1 .1 .1 .1 .1 .1 .1 .0 in
     let m = r .1 .1 .1 .1 .1 .1 .1 .1 .0 in
-    let all = g .taken-all in
-    let num = g .numbers in
     let most = fits (a .s .geometry) (r .0) .most in (
       r .1 .0,
       (
@@ -49,43 +49,17 @@ cut-requires c κs = search needs
 enum-known-power : tie.Need-enum-known-power
 enum-known-power c = search needs
 
-settle-requires : tie.Need-settle-requires
-settle-requires c κs =
+sub-finish : tie.Need-sub-finish
+sub-finish c =
+    let h = left-enough _ _ _ (sym (c .before .before .before .before .before .power .given .1) ∙ c .before .before .before .before .before .before .before .before .before .store .ensures .0) in
+    omega arith
+
+finish-requires : tie.Need-finish-requires
+finish-requires c κs =
     let r = c .before .before .before .before .before .before .before .before .before .before .before .before .before .before .before .before .before .before .before .before .before .before .before .pre in
-    let g = r .1 .1 .1 .1 .1 .1 .1 .0 in
-    let m = r .1 .1 .1 .1 .1 .1 .1 .1 .0 in
-    let all = g .taken-all in
-    (r .0, (r .1 .1 .0, (r .1 .1 .1 .0, (r .1 .1 .1 .1 .0, (r .1 .1 .1 .1 .1 .0, (r .1 .1 .1 .1 .1 .1 .0, g))))))
-
-last-of-requires : tie.Need-last-of-requires
-last-of-requires c κs =
-    let r = c .before .before .before .before .before .before .before .before .before .before .before .before .before .before .before .before .before .before .before .before .before .before .before .before .before .before .before .before .before .before .before .before .pre in
-    let all = r .1 .1 .1 .1 .1 .1 .1 .0 .taken-all in
-    let m = r .1 .1 .1 .1 .1 .1 .1 .1 .0 in
-    let one = r .1 .1 .1 .1 .1 .1 .1 .1 .1 .0 in
-    omega arith
-
-add-number : tie.Need-add-number
-add-number c =
-    let r = c .before .before .before .before .before .before .before .before .before .before .before .before .before .before .before .before .before .before .before .before .before .before .before .before .before .before .before .before .before .before .before .before .before .before .pre in
-    let g = r .1 .1 .1 .1 .1 .1 .1 .0 in
-    let m = r .1 .1 .1 .1 .1 .1 .1 .1 .0 in
-    let all = g .taken-all in
-    let num = g .numbers in
-    omega arith
-
-sub-stores : tie.Need-sub-stores
-sub-stores c =
-    let the-power = c .before .before .before .before .before .before .before .before .before .before .before .before .before .before .before .before .power in
-    let the-store = c .before .before .before .before .before .before .before .before .before .before .before .before .before .before .before .before .before .before .before .before .store in
-    let h = left-enough _ _ _ (sym (the-power .given .1) ∙ the-store .ensures .0) in
-    omega arith
-
-accepted-requires : tie.Need-accepted-requires
-accepted-requires c κs = search needs
-
-committed-requires : tie.Need-committed-requires
-committed-requires c κs = search needs
+    let q = r .1 .1 .1 .1 .1 in
+    let m = q .1 .1 .1 in
+    (m .0, (m .1 .0, (r .0, (r .1 .1 .0, (r .1 .1 .1 .0, (r .1 .1 .1 .1 .0, (q .0, (q .1 .0, q .1 .1 .0))))))))
 
 same-length : tie.Need-same-length
 same-length c = search needs
@@ -120,23 +94,14 @@ same-length-7 c = search needs
 
 returns-2 : tie.Need-returns-2
 returns-2 c =
-    let the-accepted = c .before .accepted in
-    let the-last-of = c .before .before .before .last-of in
-    let the-power = c .before .before .before .before .before .before .before .before .before .before .before .before .before .before .before .before .before .before .power in
-    let the-store = c .before .before .before .before .before .before .before .before .before .before .before .before .before .before .before .before .before .before .before .before .before .before .store in
-    let a = c .before .before .before .before .before .before .before .before .before .before .before .before .before .before .before .before .before .before
-    .before .before .before .before .before .before .before .before .before .before .before .before .before .before .before .before .before .before .args in
-    let r = c .before .before .before .before .before .before .before .before .before .before .before .before .before .before .before .before .before .before
-    .before .before .before .before .before .before .before .before .before .before .before .before .before .before .before .before .before .before .pre in
-    let g = r .1 .1 .1 .1 .1 .1 .1 .0 in
-    let m = r .1 .1 .1 .1 .1 .1 .1 .1 .0 in
-    let all = g .taken-all in
-    let z = c .before .before .before .before .before .before .before .before .before .before .before .before .settle in
+    let a = c .before .before .before .before .before .before .before .before .before .before .before .before .before .before .before .before .before .before .before .before .before .before .before .before .before .before .before .before .before .before .before .before .args in
+    let q = c .before .before .before .before .before .before .before .before .before .before .before .before .before .before .before .before .before .before .before .before .before .before .before .before .before .before .before .before .before .before .before .before .pre .1 .1 .1 .1 .1 .1 .1 in
+    let s = c .before .before .before .before .before .before .before .before .before .before .before .before .before .before .before .before .before .before .store in
+    let f = c .before .before .before .before .before .before .before .before .finish in
     carried-whole (a .s) (a .allowance) (a .image .now) (a .map .now) (a .places .now) (a .numbers .now) (a .used .now) _ (a .blocks .now)
-    (a .bytes .now) (a .news .now) (a .taken .now) (a .branches .now) (a .written .now) (a .count) (a .members) (the-store .kept .1 .0)
-    (the-store .ensures .1) _ _ _ _ (the-accepted .result) (c .committed .result) _ (length (a .taken .now)) _ (z .kept .1 .0) (z .kept .1 .1 .0)
-    (z .kept .1 .1 .1 .0) (z .kept .1 .1 .1 .1 .0) (the-last-of .ensures) (let e : length (a .taken .now) ≡ a .count + a .members = omega arith in e)
-    (r .1 .1 .1 .1 .1 .1 .1 .1 .1 .0) (the-accepted .ensures) (c .committed .ensures) (sym (the-power .given .1) ∙ the-store .ensures .0) (z .ensures)
+    (a .bytes .now) (a .news .now) (a .taken .now) (a .branches .now) (a .written .now) (a .count) (a .members) (s .kept .1 .0)
+    (s .ensures .1) _ _ _ _ (f .result) _ (f .kept .1 .0) (f .kept .1 .1 .0) (f .kept .1 .1 .1 .0) (f .kept .1 .1 .1 .1 .0)
+    (q .0) (q .1 .0) (q .1 .1 .0) (sym (c .before .before .before .before .before .before .before .before .before .before .before .before .before .before .power .given .1) ∙ s .ensures .0) (f .ensures)
 
 pub carry-out-spec : {M : Type 1} → statement M
 carry-out-spec =
@@ -147,12 +112,8 @@ carry-out-spec =
     power-failed-requires
     cut-requires
     enum-known-power
-    settle-requires
-    last-of-requires
-    add-number
-    sub-stores
-    accepted-requires
-    committed-requires
+    sub-finish
+    finish-requires
     same-length
     same-length-2
     returns

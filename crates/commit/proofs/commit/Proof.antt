@@ -31,8 +31,7 @@ add-total : tie.Need-add-total
 add-total c =
     let the-plan = c .before .before .before .plan in
     let the-pre = c .before .before .before .before .before .before .before .before .before .before .before .before .before .before .before .before .before .before .pre in
-    let a = c .before .before .before .before .before .before .before .before .before .before .before .before .before .before .before .before .before .before .args in
-    let total = total-few (a .s) (a .image .now) (a .map .now) (a .places .now) (a .numbers .now) (a .used .now) (a .head) (a .blocks .now) (a .count) (the-pre .0) (the-pre .1 .0) _ _ _ _ _ _ (the-plan .ensures) refl in
+    let total = total-few _ _ _ _ _ _ _ _ _ (the-pre .0) (the-pre .1 .0) _ _ _ _ _ _ (the-plan .ensures) refl in
     omega arith
 
 cast-total : tie.Need-cast-total
@@ -42,8 +41,7 @@ array-share-prefix-taken : tie.Need-array-share-prefix-taken
 array-share-prefix-taken c =
     let the-plan = c .before .before .before .plan in
     let the-pre = c .before .before .before .before .before .before .before .before .before .before .before .before .before .before .before .before .before .before .pre in
-    let a = c .before .before .before .before .before .before .before .before .before .before .before .before .before .before .before .before .before .before .args in
-    let total = total-few (a .s) (a .image .now) (a .map .now) (a .places .now) (a .numbers .now) (a .used .now) (a .head) (a .blocks .now) (a .count) (the-pre .0) (the-pre .1 .0) _ _ _ _ _ _ (the-plan .ensures) refl in
+    let total = total-few _ _ _ _ _ _ _ _ _ (the-pre .0) (the-pre .1 .0) _ _ _ _ _ _ (the-plan .ensures) refl in
     omega arith
 
 slice-aggregate-sectors : tie.Need-slice-aggregate-sectors
@@ -88,8 +86,6 @@ carry-out-requires c κs =
     let the-pre = c .before .before .before .before .before .before .before .before .before .before .before .before .before .before .before .before .before .before .before .before .before .before .before .before .before .before .before .before .before .before .pre in
     let p = passed _ _ _ _ _ _ _ _ _ (the-pre .0) in
     let bs = the-plan .last .1 .1 .1 .1 .1 .1 .1 .1 .1 .0 in
-    let few = the-plan .ensures .few in
-    let size = the-plan .kept .1 .1 .1 .1 .1 .1 .1 .1 .1 .0 in
     let cut = length-take-le (the-plan .result .branches) bs (omega arith) in
     let whole = settling _ _ _ _ _ _ _ _ _ (the-pre .0) (the-pre .1 .0) _ _ _ _ _ _ (the-plan .ensures) refl _ _ (the-entries-for .ensures) (the-plan .kept .1 .1 .1 .1 .1 .1 .1 .1 .0) in
     let counted = members-counted _ _ _ _ _ _ _ _ _ (the-pre .0) (the-pre .1 .0) _ _ _ _ _ _ (the-plan .ensures) refl _ _ (the-entries-for .ensures) in
@@ -116,12 +112,10 @@ returns c =
     let the-carry-out = c .before .before .before .before .before .before .before .before .before .before .carry-out in
     let the-entries-for = c .before .before .before .before .before .before .before .before .before .before .before .before .before .before .before .before .before .before .before .before .entries-for in
     let the-plan = c .before .before .before .before .before .before .before .before .before .before .before .before .before .before .before .before .before .before .before .before .before .before .before .before .before .before .plan in
-    let the-pre = c .before .before .before .before .before .before .before .before .before .before .before .before .before .before .before .before .before
-    .before .before .before .before .before .before .before .before .before .before .before .before .before .before .before .before .before .before .before
-    .before .before .before .before .before .pre in
-    let a = c .before .before .before .before .before .before .before .before .before .before .before .before .before .before .before .before .before .before
-    .before .before .before .before .before .before .before .before .before .before .before .before .before .before .before .before .before .before .before
-    .before .before .before .before .args in
+    let the-pre = c .before .before .before .before .before .before .before .before .before .before .before .before .before .before .before .before .before .before .before .before .before .before .before .before
+    .before .before .before .before .before .before .before .before .before .before .before .before .before .before .before .before .before .pre in
+    let a = c .before .before .before .before .before .before .before .before .before .before .before .before .before .before .before .before .before .before .before .before .before .before .before .before
+    .before .before .before .before .before .before .before .before .before .before .before .before .before .before .before .before .before .args in
     the-carry-out .ensures
     ∙ ap (λ (x : Action). performed (a .allowance) x (memory (a .image .now) (a .map .now) (a .places .now) (a .numbers .now) (a .used .now)))
     (commit-action _ _ _ _ _ _ _ _ _ (the-pre .0) (the-pre .1 .0) _ _ _ _ _ _ (the-plan .ensures) refl _ _ (the-entries-for .ensures))

@@ -49,9 +49,8 @@ returns-2 c =
     let the-make = c .before .before .before .before .before .before .before .before .before .before .make in
     let the-enum-told = c .before .before .before .before .before .before .before .before .before .before .before .before .before .before .before .before .enum-told in
     let the-size-verdict = c .before .before .before .before .before .before .before .before .before .before .before .before .before .before .before .before .before .before .size-verdict in
-    let a = c .before .before .before .before .before .before .before .before .before .before .before .before .before .before .before .before .before .before .before .before .before .before .before .before .args in
-    format-passed (a .s) (a .image .now) (a .map .now) (a .places .now) (a .numbers .now) (a .used .now) (a .settings) (a .allowance) _
-    (sym (the-enum-told .given .1) ∙ the-size-verdict .ensures ∙ by-lengths (a .image .now) (a .map .now) (a .places .now) (a .numbers .now) (a .used .now) (a .settings))
+    format-passed _ _ _ _ _ _ _ _ _
+    (sym (the-enum-told .given .1) ∙ the-size-verdict .ensures ∙ by-lengths _ _ _ _ _ _)
     (the-make .ensures)
 
 pub format-spec : {M : Type 1} → statement M

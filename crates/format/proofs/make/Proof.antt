@@ -16,7 +16,6 @@ cast-volume : tie.Need-cast-volume
 cast-volume c =
     let the-pre = c .before .before .before .before .before .pre in
     let s = size-passed _ _ _ _ _ _ the-pre in
-    let h = s .range .sectors in
     omega arith
 
 volume-requires : tie.Need-volume-requires
@@ -31,8 +30,6 @@ store-all-requires c κs =
     let the-volume = c .before .before .volume in
     let s = volume-passed _ _ _ _ _ _ (the-volume .result) (the-volume .ensures) the-pre in
     let e = c .before .pieces-for .ensures in
-    let h = s .range .most in
-    let h2 = s .range .least in
     (e, (omega arith, (omega arith, s .image)))
 
 enum-told : tie.Need-enum-told
@@ -57,9 +54,6 @@ fresh-tables-requires c κs =
     let the-volume = c .before .before .before .before .before .before .before .before .before .before .before .before .volume in
     let s = volume-passed _ _ _ _ _ _ (the-volume .result) (the-volume .ensures) the-pre in
     let e = the-pieces-for .ensures in
-    let h = s .range .most in
-    let h2 = s .range .least in
-    let u = s .used in
     (e, (omega arith, (s .places ∙ sym e, (s .numbers ∙ sym e, omega arith))))
 
 sub-stores : tie.Need-sub-stores

@@ -1,6 +1,6 @@
 -- The first q pieces are entered.
+use borrow.Author.Needs.{needs}
 use Prim.Native.Nat.{_-_, _≤_}
-use mathlib.Core.Path.{sym, _∙_}
 use native.Mathlib.Omega.{arith}
 use lib.ListN.{length}
 use Rattle.tournament.proofs.TournamentLaws.{Entered, entered-on, entered-all}
@@ -15,21 +15,13 @@ abbrev μ-loop : tie.MeasureT-loop
 μ-loop tree₀ numbers touched bound q₀ tree q = length numbers - q
 
 loop-holds : tie.Need-loop-holds Inv-loop μ-loop
-loop-holds c =
-    let the-pre = c .before .before .before .pre in
-    (omega arith, record { room = the-pre .0; entries = λ r h. absurd (omega arith) })
+loop-holds c = search needs
 
 older-key-requires : tie.Need-older-key-requires Inv-loop μ-loop
-older-key-requires c κs =
-    let the-pre = c .before .before .before .before .before .before .pre in
-    (c .before .loop-test .taken, the-pre .1 .1)
+older-key-requires c κs = search needs
 
 enter-requires : tie.Need-enter-requires Inv-loop μ-loop
-enter-requires c κs =
-    let the-loop-test = c .before .before .loop-test in
-    let the-loop = c .before .before .before .loop in
-    let the-pre = c .before .before .before .before .before .before .before .pre in
-    (the-loop .inv .1 .room, (the-pre .1 .0, the-loop-test .taken))
+enter-requires c κs = search needs
 
 add-q : tie.Need-add-q Inv-loop μ-loop
 add-q c = omega arith
@@ -43,34 +35,25 @@ loop-again c =
     let the-older-key = c .before .before .before .older-key in
     let the-loop-test = c .before .before .before .before .before .loop-test in
     let the-loop = c .before .before .before .before .before .before .loop in
-    let a = c .before .before .before .before .before .before .before .before .before .before .args in
     let the-pre = c .before .before .before .before .before .before .before .before .before .before .pre in (
       omega arith,
-      entered-on (length (a .numbers .now)) (key (a .numbers .now) (a .touched .now) (a .bound)) (the-loop .tree) (the-loop .q) (the-pre .1 .0) (the-loop .inv .1)
+      entered-on _ _ (the-loop .tree) (the-loop .q) (the-pre .1 .0) (the-loop .inv .1)
           _ (the-older-key .result) (the-loop-test .taken) (the-older-key .ensures) (the-enter .ensures) (the-enter .kept .0),
     )
 
 play-all-requires : tie.Need-play-all-requires Inv-loop μ-loop
-play-all-requires c κs =
-    let the-loop = c .before .before .loop in
-    let the-pre = c .before .before .before .before .before .before .pre in
-    (the-loop .inv .1 .room, the-pre .1 .0)
+play-all-requires c κs = search needs
 
 same-length : tie.Need-same-length Inv-loop μ-loop
-same-length c =
-    let the-play-all = c .before .before .play-all in
-    let the-loop = c .before .before .before .before .before .loop in
-    let the-pre = c .before .before .before .before .before .before .before .before .before .pre in
-    the-play-all .kept .0 ∙ the-loop .inv .1 .room ∙ sym (the-pre .0)
+same-length c = search needs
 
 returns : tie.Need-returns Inv-loop μ-loop
 returns c =
     let the-play-all = c .before .before .play-all in
     let the-loop-test = c .before .before .before .before .loop-test in
     let the-loop = c .before .before .before .before .before .loop in
-    let a = c .before .before .before .before .before .before .before .before .before .args in
     let the-pre = c .before .before .before .before .before .before .before .before .before .pre in
-    entered-all (length (a .numbers .now)) (key (a .numbers .now) (a .touched .now) (a .bound)) (the-loop .tree) (the-loop .q) (the-pre .1 .0) (the-loop .inv .1)
+    entered-all _ _ (the-loop .tree) (the-loop .q) (the-pre .1 .0) (the-loop .inv .1)
     _ (the-loop-test .left) (the-play-all .ensures)
 
 pub enter-all-spec : {M : Type 1} → statement M

@@ -1,6 +1,7 @@
 -- The list grows by one, or stays.
 use mathlib.Core.Path.{refl, sym}
 use mathlib.Core.List.{append-nil}
+use native.Mathlib.Omega.{arith}
 use lib.ListN.{take}
 use Rattle.listing.proofs.ListLaws.{list-more}
 use borrow.Author.Needs.{needs}
@@ -10,7 +11,7 @@ use Rattle.listing.proofs.list_place.Tie as tie
 returns : tie.Need-returns
 returns c =
     let a = c .before .args in
-    rw (c .if1 .taken) (refl, sym (append-nil (take (a .count) (a .branches .now))))
+    rw (c .if1 .taken) (refl, sym (append-nil (take (a .count) (a .branches .now))), omega arith)
 
 mul-branches : tie.Need-mul-branches
 mul-branches c = search needs
@@ -26,7 +27,7 @@ same-length c = search needs
 
 returns-2 : tie.Need-returns-2
 returns-2 c =
-    rw (c .if1 .left) (refl, list-more _ _ _ (c .before .pre))
+    rw (c .if1 .left) (refl, list-more _ _ _ (c .before .pre), omega arith)
 
 pub list-place-spec : {M : Type 1} → statement M
 list-place-spec =

@@ -1,4 +1,5 @@
 -- The bytes below i are copied.
+use borrow.Author.Needs.{needs}
 use Prim.Native.Nat.{ℕ, _+_, _-_, _≤_}
 use mathlib.Core.Path.{_≡_, _∙_, ap}
 use mathlib.Core.List.{_++_}
@@ -22,15 +23,12 @@ loop-holds c =
     (omega arith, filled-none (at (a .used .now)) (a .marks .now))
 
 shared-slice-read-marks : tie.Need-shared-slice-read-marks Inv-loop μ-loop
-shared-slice-read-marks c = c .before .loop-test .taken
+shared-slice-read-marks c = search needs
 
 slice-write-marks : tie.Need-slice-write-marks Inv-loop μ-loop
 slice-write-marks c =
-    let the-pre = c .before .before .before .pre in
     let l = c .before .before .loop in
     let e = filled-length _ _ (l .i) (l .marks) (l .inv .1) in
-    let t = c .before .loop-test .taken in
-    let h = the-pre .0 in
     omega arith
 
 add-i : tie.Need-add-i Inv-loop μ-loop
@@ -54,8 +52,6 @@ returns c =
     let the-pre = c .before .before .pre in
     let a = c .before .before .args in
     let l = c .before .loop in
-    let t = c .loop-test .left in
-    let i = l .inv .0 in
     copied (a .used .now) (a .marks .now) (l .marks) (length (a .marks .now)) (the-pre .1) (l .inv .1 .1 ∙ ap (λ (x : ℕ). listFrom (at (a .used .now)) 0 x ++ drop x (a .marks .now)) (let e : l .i ≡ length (a .used .now) = omega arith in e))
 
 pub copy-used-spec : {M : Type 1} → statement M

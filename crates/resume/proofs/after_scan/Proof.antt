@@ -1,20 +1,16 @@
 -- The stores are made or cut.
 use mathlib.Core.Path.{sym, _∙_}
-use mathlib.Core.Bool.{_||_}
-use mathlib.Core.List.{_++_}
 use native.Mathlib.Omega.{arith}
 use Rattle.answer.specs.declared.Answer.the-variants.{Scanned}
-use Rattle.volume.specs.Tables.{bitAt, sectorAt}
-use Rattle.volume.specs.Store.{storesBelow}
-use Rattle.volume.specs.Format.{blankStore}
-use Rattle.volume.specs.Recover.{parkSectorCleared, isBlank}
 use Rattle.power.proofs.Runs.{left-enough}
 use Rattle.resume.proofs.ResumeLaws.{recovery-cut, recovery-whole}
 use borrow.Author.Needs.{needs}
 use Rattle.resume.proofs.after_scan.Statement.{statement}
 use Rattle.resume.proofs.after_scan.Tie as tie
-use Rattle.lent.proofs.zero_tables.Reads as zero-tables-reads
+use Rattle.answer.proofs.Answer.scanned.Reads as scanned-reads
 use Rattle.clear.proofs.clear_all.Reads as clear-all-reads
+use Rattle.resume.proofs.give_up.Reads as give-up-reads
+use Rattle.state.proofs.State.running.Reads as running-reads
 
 clear-all-requires : tie.Need-clear-all-requires
 clear-all-requires c κs = search needs
@@ -22,22 +18,15 @@ clear-all-requires c κs = search needs
 enum-told : tie.Need-enum-told
 enum-told c = search needs
 
-zero-tables-requires : tie.Need-zero-tables-requires
-zero-tables-requires c κs = search needs
-
-power-failed-requires : tie.Need-power-failed-requires
-power-failed-requires c κs = search needs
-
-lost-requires : tie.Need-lost-requires
-lost-requires c κs = search needs
+give-up-requires : tie.Need-give-up-requires
+give-up-requires c κs = search needs
 
 enum-known-power : tie.Need-enum-known-power
 enum-known-power c = search needs
 
 sub-stores : tie.Need-sub-stores
 sub-stores c =
-    let the-clear-all = c .before .before .before .before .before .clear-all in
-    let h = left-enough _ _ _ (sym (c .before .power .given .1) ∙ the-clear-all .ensures .0) in
+    let h = left-enough _ _ _ (sym (c .before .power .given .1) ∙ c .before .before .before .before .before .clear-all .ensures .0) in
     omega arith
 
 scanned-requires : tie.Need-scanned-requires
@@ -63,29 +52,21 @@ same-length-5 c = search needs
 
 returns : tie.Need-returns
 returns c =
-    let the-power-failed = c .before .power-failed in
-    let the-enum-told = c .before .before .before .before .before .before .before .before .before .before .before .before .before .before .before .enum-told in
-    let the-clear-all = c .before .before .before .before .before .before .before .before .before .before .before .before .before .before .before .before .before .before .before .clear-all in
-    let a = c .before .before .before .before .before .before .before .before .before .before .before .before .before .before .before .before .before .before .before .before .before .before .before .before .before .before .before .args in
-    let z = c .before .before .before .before .before .before .before .before .before .before .zero-tables in
-    recovery-cut (a .g) (a .allowance) (a .tail) (a .number) (Scanned (a .g .n))
-    (storesBelow (bitAt (a .above .now)) blankStore (a .g .n) ++ parkSectorCleared (isBlank (sectorAt (a .image .now) 0) || bitAt (a .above .now) 0))
-    (a .image .now) (a .map .now) (a .places .now) (a .numbers .now) (a .used .now) _ (the-clear-all .kept .0) (the-clear-all .ensures .1) _ _ _ _
-    (the-power-failed .result) (c .lost .result) (z .kept .0) (z .kept .1 .0) (z .kept .1 .1 .0) (z .kept .1 .1 .1 .0) (the-power-failed .ensures)
-    (c .lost .ensures) (sym (the-enum-told .given .1) ∙ the-clear-all .ensures .0) (z .ensures)
+    let k = c .before .before .before .before .before .before .before .before .before .before .before .before .before .before .before .before .before .clear-all in
+    let w = c .before .before .before .before .before .before .before .before .give-up in
+    let a = c .before .before .before .before .before .before .before .before .before .before .before .before .before .before .before .before .before .before .before .before .before .before .before .before .before .args in
+    recovery-cut _ _ _ _ (Scanned _) _ _ (a .map .now) (a .places .now) (a .numbers .now) (a .used .now) _ (k .kept .0) (k .ensures .1)
+    _ _ _ _ (w .result) (w .kept .0) (w .kept .1 .0) (w .kept .1 .1 .0) (w .kept .1 .1 .1 .0)
+    (sym (c .before .before .before .before .before .before .before .before .before .before .before .before .before .enum-told .given .1) ∙ k .ensures .0) (w .ensures)
 
 same-length-6 : tie.Need-same-length-6
 same-length-6 c = search needs
 
 returns-2 : tie.Need-returns-2
 returns-2 c =
-    let the-scanned = c .before .scanned in
-    let the-power = c .before .before .before .power in
-    let the-clear-all = c .before .before .before .before .before .before .before .clear-all in
-    recovery-whole _ _ _ _ (Scanned _)
-    (storesBelow _ blankStore _ ++ parkSectorCleared (isBlank (sectorAt _ 0) || bitAt _ 0))
-    _ _ _ _ _ _ (the-clear-all .kept .0) (the-clear-all .ensures .1)
-    (the-scanned .result) (c .running .result) _ (the-scanned .ensures) (c .running .ensures) (sym (the-power .given .1) ∙ the-clear-all .ensures .0)
+    let k = c .before .before .before .before .before .before .before .clear-all in
+    recovery-whole _ _ _ _ (Scanned _) _ _ _ _ _ _ _ (k .kept .0) (k .ensures .1)
+    (c .before .scanned .result) (c .running .result) _ (c .before .scanned .ensures) (c .running .ensures) (sym (c .before .before .before .power .given .1) ∙ k .ensures .0)
 
 pub after-scan-spec : {M : Type 1} → statement M
 after-scan-spec =
@@ -93,9 +74,7 @@ after-scan-spec =
     (tie.spec
     clear-all-requires
     enum-told
-    zero-tables-requires
-    power-failed-requires
-    lost-requires
+    give-up-requires
     enum-known-power
     sub-stores
     scanned-requires

@@ -50,7 +50,6 @@ pieces-again c =
     let e = l .inv .1 in
     let f = not-flagged (a .written .now) (l .p) (c .if1 .taken) in
     let r = rank-skips (a .written .now) (l .p) _ (c .if1 .taken) refl in
-    let k = l .inv .3 in
     let x = l .inv .4 in (
       omega arith,
       e,
@@ -63,49 +62,30 @@ pieces-again c =
 
 add-next : tie.Need-add-next Inv-pieces μ-pieces
 add-next c =
-    let the-pre = c .before .before .before .before .pre in
     let a = c .before .before .before .before .args in
-    let l = c .before .before .before .pieces in
-    let e = l .inv .1 in
-    let f = is-flagged (a .written .now) (l .p) (c .if1 .left) in
-    let b = count-before (flagged (a .written .now)) (l .p) (length (a .places .now)) (omega arith) f in
-    let k = l .inv .3 in
-    let x = l .inv .4 in
-    let h = the-pre .1 .1 .1 .0 in
-    let m = the-pre .1 .1 .1 .1 in
+    let f = is-flagged (a .written .now) _ (c .if1 .left) in
+    let b = count-before (flagged (a .written .now)) _ (length (a .places .now)) (omega arith) f in
     omega arith
 
 mul-places : tie.Need-mul-places Inv-pieces μ-pieces
 mul-places c =
     let a = c .before .before .before .before .args in
-    let l = c .before .before .before .pieces in
-    let e = l .inv .1 in
-    let f = is-flagged (a .written .now) (l .p) (c .if1 .left) in
-    let b = count-before (flagged (a .written .now)) (l .p) (length (a .places .now)) (omega arith) f in
-    let k = l .inv .3 in
+    let f = is-flagged (a .written .now) _ (c .if1 .left) in
+    let b = count-before (flagged (a .written .now)) _ (length (a .places .now)) (omega arith) f in
     omega arith
 
 shared-slice-read-places : tie.Need-shared-slice-read-places Inv-pieces μ-pieces
 shared-slice-read-places c =
-    let the-pre = c .before .before .before .before .before .pre in
     let a = c .before .before .before .before .before .args in
-    let l = c .before .before .before .before .pieces in
-    let e = l .inv .1 in
-    let f = is-flagged (a .written .now) (l .p) (c .before .if1 .left) in
-    let b = count-before (flagged (a .written .now)) (l .p) (length (a .places .now)) (omega arith) f in
-    let k = l .inv .3 in
-    let x = l .inv .4 in
-    let h = the-pre .1 .1 .1 .0 in
-    let m = the-pre .1 .1 .1 .1 in
+    let f = is-flagged (a .written .now) _ (c .before .if1 .left) in
+    let b = count-before (flagged (a .written .now)) _ (length (a .places .now)) (omega arith) f in
     omega arith
 
 mul-places-2 : tie.Need-mul-places-2 Inv-pieces μ-pieces
 mul-places-2 c = search needs
 
 slice-write-places : tie.Need-slice-write-places Inv-pieces μ-pieces
-slice-write-places c =
-    let the-pieces-test = c .before .before .before .pieces-test in
-    the-pieces-test .taken
+slice-write-places c = search needs
 
 mul-numbers : tie.Need-mul-numbers Inv-pieces μ-pieces
 mul-numbers c = search needs
@@ -115,16 +95,9 @@ slice-write-numbers c = omega arith
 
 add-k : tie.Need-add-k Inv-pieces μ-pieces
 add-k c =
-    let the-pre = c .before .before .before .before .before .pre in
     let a = c .before .before .before .before .before .args in
-    let l = c .before .before .before .before .pieces in
-    let e = l .inv .1 in
-    let f = is-flagged (a .written .now) (l .p) (c .before .if1 .left) in
-    let b = count-before (flagged (a .written .now)) (l .p) (length (a .places .now)) (omega arith) f in
-    let k = l .inv .3 in
-    let x = l .inv .4 in
-    let h = the-pre .1 .1 .1 .0 in
-    let m = the-pre .1 .1 .1 .1 in
+    let f = is-flagged (a .written .now) _ (c .before .if1 .left) in
+    let b = count-before (flagged (a .written .now)) _ (length (a .places .now)) (omega arith) f in
     omega arith
 
 add-p-2 : tie.Need-add-p-2 Inv-pieces μ-pieces
@@ -143,11 +116,7 @@ pieces-again-2 c =
     let t = the-pieces-test .taken in
     let e = l .inv .1 in
     let f = is-flagged (a .written .now) (l .p) (the-if1 .left) in
-    let b = count-before (flagged (a .written .now)) (l .p) (length (a .places .now)) (omega arith) f in
     let k = l .inv .3 in
-    let x = l .inv .4 in
-    let h = the-pre .1 .1 .1 .0 in
-    let m = the-pre .1 .1 .1 .1 in
     let r = rank-grows (a .written .now) (l .p) (countBelow (flagged (a .written .now)) (l .p)) (the-if1 .left) refl in
     let g = l .inv .2 in
     let q = the-pre .0 in
@@ -165,19 +134,16 @@ pieces-again-2 c =
     )
 
 same-length : tie.Need-same-length Inv-pieces μ-pieces
-same-length c = c .before .pieces .inv .1
+same-length c = search needs
 
 same-length-2 : tie.Need-same-length-2 Inv-pieces μ-pieces
-same-length-2 c = c .before .pieces .inv .2
+same-length-2 c = search needs
 
 returns : tie.Need-returns Inv-pieces μ-pieces
 returns c =
     let the-pre = c .before .before .pre in
     let a = c .before .before .args in
     let l = c .before .pieces in
-    let t = c .pieces-test .left in
-    let i = l .inv .0 in
-    let g = l .inv .1 in
     let e : l .p ≡ length (a .places .now) = omega arith in (
       live-all (flagged (a .written .now)) (λ q. at (a .taken .now) (a .count + countBelow (flagged (a .written .now)) q)) (at (a .places .now)) (l .p) (at (l .places)) (λ q h. the-pre .1 .1 .0 q (omega arith)) (l .inv .5),
       live-all (flagged (a .written .now)) (λ q. suc (a .number + countBelow (flagged (a .written .now)) q)) (at (a .numbers .now)) (l .p) (at (l .numbers)) (λ q h. the-pre .1 .1 .0 q (omega arith)) (l .inv .6),

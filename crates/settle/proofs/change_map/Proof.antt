@@ -24,13 +24,12 @@ mul-b : tie.Need-mul-b Inv-loop μ-loop
 mul-b c = search needs
 
 shared-slice-read-b : tie.Need-shared-slice-read-b Inv-loop μ-loop
-shared-slice-read-b c = c .before .loop-test .taken
+shared-slice-read-b c = search needs
 
 cast-b : tie.Need-cast-b Inv-loop μ-loop
 cast-b c =
-    let the-loop = c .before .before .loop in
     let the-pre = c .before .before .before .pre in
-    let h = the-pre .1 (the-loop .i) (c .before .loop-test .taken) in
+    let h = the-pre .1 _ (c .before .loop-test .taken) in
     omega arith
 
 mul-map : tie.Need-mul-map Inv-loop μ-loop
@@ -42,18 +41,15 @@ shared-slice-read-map c = omega arith
 mul-map-2 : tie.Need-mul-map-2 Inv-loop μ-loop
 mul-map-2 c =
     let the-loop-test = c .before .before .loop-test in
-    let the-loop = c .before .before .before .loop in
     let the-pre = c .before .before .before .before .pre in
-    let h = the-pre .1 (the-loop .i) (the-loop-test .taken) in
+    let h = the-pre .1 _ (the-loop-test .taken) in
     omega arith
 
 slice-write-map : tie.Need-slice-write-map Inv-loop μ-loop
 slice-write-map c =
     let the-loop-test = c .before .before .loop-test in
-    let the-loop = c .before .before .before .loop in
     let the-pre = c .before .before .before .before .pre in
-    let h = the-pre .1 (the-loop .i) (the-loop-test .taken) in
-    let e = the-loop .inv .1 in
+    let h = the-pre .1 _ (the-loop-test .taken) in
     omega arith
 
 add-i : tie.Need-add-i Inv-loop μ-loop
@@ -74,14 +70,12 @@ loop-again c =
     (omega arith, length-set (l .map) (at (a .blocks .now) (l .i)) (at (a .news .now) (l .i)) ∙ e, changed-more (a .map .now) (l .map) (a .blocks .now) (a .news .now) (l .i) (omega arith) (l .inv .2))
 
 same-length : tie.Need-same-length Inv-loop μ-loop
-same-length c = c .before .loop .inv .1
+same-length c = search needs
 
 returns : tie.Need-returns Inv-loop μ-loop
 returns c =
     let a = c .before .before .args in
     let l = c .before .loop in
-    let t = c .loop-test .left in
-    let i = l .inv .0 in
     l .inv .2 ∙ ap {B = ℕ → ℕ} (λ (x : ℕ). updates (at (a .map .now)) (at (a .blocks .now)) (at (a .news .now)) x) (let e : l .i ≡ length (a .blocks .now) = omega arith in e)
 
 pub change-map-spec : {M : Type 1} → statement M

@@ -29,29 +29,26 @@ mul-b : tie.Need-mul-b Inv-loop μ-loop
 mul-b c = search needs
 
 shared-slice-read-b : tie.Need-shared-slice-read-b Inv-loop μ-loop
-shared-slice-read-b c = let t = c .before .loop-test .taken in t
+shared-slice-read-b c = search needs
 
 cast-b : tie.Need-cast-b Inv-loop μ-loop
 cast-b c =
-    let the-loop = c .before .before .loop in
     let the-pre = c .before .before .before .before .before .before .pre in
-    let h = the-pre .0 (the-loop .i) (c .before .loop-test .taken) in
+    let h = the-pre .0 _ (c .before .loop-test .taken) in
     omega arith
 
 mul-free-entry : tie.Need-mul-free-entry Inv-loop μ-loop
 mul-free-entry c =
     let the-loop-test = c .before .before .loop-test in
-    let the-loop = c .before .before .before .loop in
     let the-pre = c .before .before .before .before .before .before .before .pre in
-    let h = the-pre .0 (the-loop .i) (the-loop-test .taken) in
+    let h = the-pre .0 _ (the-loop-test .taken) in
     omega arith
 
 shared-slice-read-free-entry : tie.Need-shared-slice-read-free-entry Inv-loop μ-loop
 shared-slice-read-free-entry c =
     let the-loop-test = c .before .before .before .loop-test in
-    let the-loop = c .before .before .before .before .loop in
     let the-pre = c .before .before .before .before .before .before .before .before .pre in
-    the-pre .0 (the-loop .i) (the-loop-test .taken)
+    the-pre .0 _ (the-loop-test .taken)
 
 free-entry-requires : tie.Need-free-entry-requires Inv-loop μ-loop
 free-entry-requires c κs =
@@ -75,13 +72,12 @@ loop-again c =
     (omega arith, the-free-entry .kept .0 ∙ l .inv .1, without-more (bitAt (a .used .now)) (λ i. not (isEmpty (at (a .map .now) (at (a .blocks .now) i)))) (λ i. sectorOf (at (a .map .now) (at (a .blocks .now) i))) (l .i) (bitAt (l .used)) _ (l .inv .2) (the-free-entry .ensures))
 
 same-length : tie.Need-same-length Inv-loop μ-loop
-same-length c = c .before .loop .inv .1
+same-length c = search needs
 
 returns : tie.Need-returns Inv-loop μ-loop
 returns c =
     let a = c .before .before .before .before .before .args in
     let l = c .before .loop in
-    let t = c .loop-test .left in
     let i = l .inv .0 in
     l .inv .2 ∙ ap {B = ℕ → Bool} (λ (x : ℕ). without (bitAt (a .used .now)) (λ i. not (isEmpty (at (a .map .now) (at (a .blocks .now) i)))) (λ i. sectorOf (at (a .map .now) (at (a .blocks .now) i))) x) (let e : l .i ≡ length (a .blocks .now) = omega arith in e)
 

@@ -42,9 +42,7 @@ mul-clear-bit : tie.Need-mul-clear-bit Inv-pieces μ-pieces
 mul-clear-bit c = search needs
 
 shared-slice-read-clear-bit : tie.Need-shared-slice-read-clear-bit Inv-pieces μ-pieces
-shared-slice-read-clear-bit c =
-    let the-pieces-test = c .before .before .before .before .pieces-test in
-    the-pieces-test .taken
+shared-slice-read-clear-bit c = search needs
 
 cast-clear-bit : tie.Need-cast-clear-bit Inv-pieces μ-pieces
 cast-clear-bit c =
@@ -55,10 +53,8 @@ cast-clear-bit c =
 clear-bit-requires : tie.Need-clear-bit-requires Inv-pieces μ-pieces
 clear-bit-requires c κs =
     let the-pieces-test = c .before .before .before .before .pieces-test in
-    let the-pieces = c .before .before .before .before .before .pieces in
     let the-pre = c .before .before .before .before .before .before .before .before .before .pre in
-    let h = the-pre .1 (the-pieces .p) (the-pieces-test .taken) in
-    let e = the-pieces .inv .1 in
+    let h = the-pre .1 _ (the-pieces-test .taken) in
     omega arith
 
 add-p-2 : tie.Need-add-p-2 Inv-pieces μ-pieces
@@ -75,14 +71,12 @@ pieces-again-2 c =
     (omega arith, the-clear-bit .kept .0 ∙ l .inv .1, without-hit _ _ _ (l .p) (bitAt (l .used)) _ (is-flagged _ (l .p) (the-if1 .left)) (l .inv .2) (the-clear-bit .ensures))
 
 same-length : tie.Need-same-length Inv-pieces μ-pieces
-same-length c = c .before .pieces .inv .1
+same-length c = search needs
 
 returns : tie.Need-returns Inv-pieces μ-pieces
 returns c =
     let a = c .before .before .before .before .before .args in
     let l = c .before .pieces in
-    let t = c .pieces-test .left in
-    let i = l .inv .0 in
     l .inv .2 ∙ ap {B = ℕ → Bool} (λ (x : ℕ). without (bitAt (a .used .now)) (flagged (a .written .now)) (at (a .places .now)) x) (let e : l .p ≡ length (a .places .now) = omega arith in e)
 
 pub free-places-spec : {M : Type 1} → statement M

@@ -26,9 +26,7 @@ mul-set-bit : tie.Need-mul-set-bit Inv-loop μ-loop
 mul-set-bit c = search needs
 
 shared-slice-read-set-bit : tie.Need-shared-slice-read-set-bit Inv-loop μ-loop
-shared-slice-read-set-bit c =
-    let the-loop-test = c .before .before .loop-test in
-    the-loop-test .taken
+shared-slice-read-set-bit c = search needs
 
 cast-set-bit : tie.Need-cast-set-bit Inv-loop μ-loop
 cast-set-bit c =
@@ -39,10 +37,8 @@ cast-set-bit c =
 set-bit-requires : tie.Need-set-bit-requires Inv-loop μ-loop
 set-bit-requires c κs =
     let the-loop-test = c .before .before .loop-test in
-    let the-loop = c .before .before .before .loop in
     let the-pre = c .before .before .before .before .before .before .pre in
-    let h = the-pre (the-loop .i) (the-loop-test .taken) in
-    let e = the-loop .inv .1 in
+    let h = the-pre _ (the-loop-test .taken) in
     omega arith
 
 add-i : tie.Need-add-i Inv-loop μ-loop
@@ -59,14 +55,12 @@ loop-again c =
     (omega arith, the-set-bit .kept .0 ∙ l .inv .1, marking-more (bitAt (a .used .now)) (a .taken .now) (l .i) (bitAt (l .used)) _ (l .inv .2) (the-set-bit .ensures))
 
 same-length : tie.Need-same-length Inv-loop μ-loop
-same-length c = c .before .loop .inv .1
+same-length c = search needs
 
 returns : tie.Need-returns Inv-loop μ-loop
 returns c =
     let a = c .before .before .before .before .args in
     let l = c .before .loop in
-    let t = c .loop-test .left in
-    let i = l .inv .0 in
     l .inv .2 ∙ ap {B = ℕ → Bool} (λ (x : ℕ). marking (bitAt (a .used .now)) (a .taken .now) x) (let e : l .i ≡ length (a .taken .now) = omega arith in e)
 
 pub use-places-spec : {M : Type 1} → statement M

@@ -12,7 +12,6 @@ use Rattle.store.proofs.store_members.Reads as store-members-reads
 store-data-requires : tie.Need-store-data-requires
 store-data-requires c κs =
     let r = c .before .before .before .before .before .before .before .before .before .pre in
-    let e = r .1 .0 .taken-all in
     (r .0, (r .1 .1, (omega arith, r .1 .0 .below)))
 
 enum-told : tie.Need-enum-told
@@ -22,10 +21,7 @@ enum-known-stored : tie.Need-enum-known-stored
 enum-known-stored c = search needs
 
 store-members-requires : tie.Need-store-members-requires
-store-members-requires c κs =
-    let the-store-data = c .before .before .before .before .before .before .store-data in
-    let r = c .before .before .before .before .before .before .before .before .before .before .before .before .before .before .before .before .pre in
-    (the-store-data .kept .0 ∙ r .0, r .1 .0)
+store-members-requires c κs = search needs
 
 same-length : tie.Need-same-length
 same-length c = search needs

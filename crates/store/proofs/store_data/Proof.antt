@@ -24,13 +24,10 @@ abbrev μ-loop : tie.MeasureT-loop
 
 loop-holds : tie.Need-loop-holds Inv-loop μ-loop
 loop-holds c =
-    let a = c .before .before .before .args in
-    (omega arith, refl, storing-starts always (blockStore (a .taken .now) (a .bytes .now)) (sectorAt (a .image .now)) (a .allowance))
+    (omega arith, refl, storing-starts always _ _ _)
 
 same-length : tie.Need-same-length Inv-loop μ-loop
-same-length c =
-    let the-loop = c .before .before .loop in
-    the-loop .inv .1
+same-length c = search needs
 
 returns : tie.Need-returns Inv-loop μ-loop
 returns c =
@@ -52,7 +49,6 @@ cast-k-2 : tie.Need-cast-k-2 Inv-loop μ-loop
 cast-k-2 c =
     let the-pre = c .before .before .before .before .before .before .before .pre in
     let l = c .before .before .before .loop in
-    let h = the-pre .1 .1 .0 in
     let k = the-pre .1 .1 .1 (l .i) (omega arith) in
     omega arith
 
@@ -66,18 +62,11 @@ store-data-requires : tie.Need-store-data-requires Inv-loop μ-loop
 store-data-requires c κs =
     let the-pre = c .before .before .before .before .before .before .before .before .before .pre in
     let l = c .before .before .before .before .before .loop in
-    let h = the-pre .1 .1 .0 in
     let k = the-pre .1 .1 .1 (l .i) (omega arith) in
-    let e = l .inv .1 in
-    let f = the-pre .0 in
-    let b = the-pre .1 .0 in
     (omega arith, ap length (c .sector .ensures) ∙ sector-length _ (l .i) (omega arith))
 
 sub-left : tie.Need-sub-left Inv-loop μ-loop
-sub-left c =
-    let the-if1 = c .before .before .before .before .before .before .if1 in
-    let the-loop = c .before .before .before .before .before .before .before .before .loop in
-    positive (the-loop .left) (the-if1 .left)
+sub-left c = search needs
 
 add-i : tie.Need-add-i Inv-loop μ-loop
 add-i c = omega arith
@@ -100,7 +89,7 @@ loop-again c =
     )
 
 same-length-2 : tie.Need-same-length-2 Inv-loop μ-loop
-same-length-2 c = c .before .loop .inv .1
+same-length-2 c = search needs
 
 returns-2 : tie.Need-returns-2 Inv-loop μ-loop
 returns-2 c =

@@ -35,10 +35,7 @@ cast-k : tie.Need-cast-k
 cast-k c =
     let the-pre = c .before .before .before .before .before .before .before .before .before .before .before .pre in
     let a = c .before .before .before .before .before .before .before .before .before .before .before .args in
-    let e = the-pre .1 .1 .1 .1 .1 .0 in
-    let h = the-pre .1 .1 .1 .1 .1 .1 .1 .1 .0 in
     let k = the-pre .1 .1 .1 .1 .0 (a .count + a .j) (omega arith) in
-    let g = the-pre .0 in
     omega arith
 
 slice-aggregate-store-map : tie.Need-slice-aggregate-store-map
@@ -49,10 +46,7 @@ store-map-requires c κs =
     let the-changed-piece = c .before .before .before .before .before .changed-piece in
     let the-pre = c .before .before .before .before .before .before .before .before .before .before .before .before .before .before .pre in
     let a = c .before .before .before .before .before .before .before .before .before .before .before .before .before .before .args in
-    let e = the-pre .1 .1 .1 .1 .1 .0 in
-    let h = the-pre .1 .1 .1 .1 .1 .1 .1 .1 .0 in
     let k = the-pre .1 .1 .1 .1 .0 (a .count + a .j) (omega arith) in
-    let f = the-pre .0 in
     (omega arith, (the-pre .1 .1 .1 .1 .1 .1 .0, the-changed-piece .kept .1 .1 .1 .1 .1 .0))
 
 same-length : tie.Need-same-length
@@ -73,23 +67,16 @@ mul-store-map : tie.Need-mul-store-map
 mul-store-map c = search needs
 
 shared-slice-read-store-map : tie.Need-shared-slice-read-store-map
-shared-slice-read-store-map c =
-    let the-pre = c .before .before .before .before .before .before .before .before .before .before .before .before .before .pre in
-    let all = the-pre .1 .1 .1 .1 .1 .0 in
-    let below = the-pre .1 .1 .1 .1 .1 .1 .1 .1 .0 in
-    omega arith
+shared-slice-read-store-map c = search needs
 
 add-store-map : tie.Need-add-store-map
 add-store-map c =
     let the-pre = c .before .before .before .before .before .before .before .before .before .before .before .before .before .before .pre in
-    let numbers = the-pre .1 .1 .1 .1 .1 .1 .1 .0 in
-    let below = the-pre .1 .1 .1 .1 .1 .1 .1 .1 .0 in
     omega arith
 
 add-store-map-2 : tie.Need-add-store-map-2
 add-store-map-2 c =
     let the-pre = c .before .before .before .before .before .before .before .before .before .before .before .before .before .before .pre in
-    let below = the-pre .1 .1 .1 .1 .1 .1 .1 .1 .0 in
     omega arith
 
 slice-aggregate-store-map-2 : tie.Need-slice-aggregate-store-map-2
@@ -103,10 +90,7 @@ store-map-requires-2 c κs =
     let the-changed-piece = c .before .before .before .before .before .before .before .changed-piece in
     let the-pre = c .before .before .before .before .before .before .before .before .before .before .before .before .before .before .before .before .pre in
     let a = c .before .before .before .before .before .before .before .before .before .before .before .before .before .before .before .before .args in
-    let e = the-pre .1 .1 .1 .1 .1 .0 in
-    let h = the-pre .1 .1 .1 .1 .1 .1 .1 .1 .0 in
     let k = the-pre .1 .1 .1 .1 .0 (a .count + a .j) (omega arith) in
-    let f = the-pre .0 in
     (omega arith, (omega arith, the-changed-piece .kept .1 .1 .1 .1 .1 .0))
 
 same-length-2 : tie.Need-same-length-2

@@ -31,8 +31,7 @@ pieces-for-requires c κs = search needs
 
 pieces-holds : tie.Need-pieces-holds Inv-pieces μ-pieces
 pieces-holds c =
-    let a = c .before .before .before .before .before .before .before .before .args in
-    (omega arith, refl, flags-none (a .written .now), storing-starts (flagged (a .written .now)) (stores (a .s) (a .map .now) (a .blocks .now) (a .news .now) (a .taken .now) (a .branches .now) (a .written .now) (a .count) (a .members)) (sectorAt (a .image .now)) (a .allowance))
+    (omega arith, refl, flags-none _, storing-starts _ _ _ _)
 
 cast-if1 : tie.Need-cast-if1 Inv-pieces μ-pieces
 cast-if1 c = search needs
@@ -48,21 +47,18 @@ pieces-less c = omega arith
 
 pieces-again : tie.Need-pieces-again Inv-pieces μ-pieces
 pieces-again c =
-    let a = c .before .before .before .before .before .before .before .before .before .before .before .before .args in
     let l = c .before .before .before .pieces in (
       omega arith,
       l .inv .1,
-      rank-skips (a .written .now) (l .p) (l .j) (c .if1 .taken) (l .inv .2),
+      rank-skips _ (l .p) (l .j) (c .if1 .taken) (l .inv .2),
       rw add-one
-          (storing-skips (flagged (a .written .now))
-          (stores (a .s) (a .map .now) (a .blocks .now) (a .news .now) (a .taken .now) (a .branches .now) (a .written .now) (a .count) (a .members))
-          (sectorAt (a .image .now)) (a .allowance) (l .p) (l .left) (sectorAt (l .image)) (not-flagged (a .written .now) (l .p) (c .if1 .taken)) (l .inv .3)),
+          (storing-skips _
+          _
+          _ _ (l .p) (l .left) (sectorAt (l .image)) (not-flagged _ (l .p) (c .if1 .taken)) (l .inv .3)),
     )
 
 same-length : tie.Need-same-length Inv-pieces μ-pieces
-same-length c =
-    let the-pieces = c .before .before .before .before .pieces in
-    the-pieces .inv .1
+same-length c = search needs
 
 returns : tie.Need-returns Inv-pieces μ-pieces
 returns c =
@@ -80,16 +76,10 @@ store-member-requires c κs =
     let l = c .before .before .before .before .before .pieces in
     let r = c .before .before .before .before .before .before .before .before .before .before .before .before .before .before .pre in
     let b = count-before (flagged (a .written .now)) (l .p) (piecesFor (a .s .geometry .l)) (omega arith) (is-flagged (a .written .now) (l .p) (the-if1 .left)) in
-    let m = r .1 .counted in
-    let j = l .inv .2 in
-    let most = r .1 .most in
     (l .inv .1 ∙ r .0, (r .1 .whole, (r .1 .enough, (r .1 .inside, (r .1 .below, (r .1 .taken-all, (r .1 .room, (r .1 .numbers, (omega arith, omega arith)))))))))
 
 sub-left : tie.Need-sub-left Inv-pieces μ-pieces
-sub-left c =
-    let the-if2 = c .before .before .before .before .if2 in
-    let the-pieces = c .before .before .before .before .before .before .before .before .pieces in
-    positive (the-pieces .left) (the-if2 .left)
+sub-left c = search needs
 
 add-j : tie.Need-add-j Inv-pieces μ-pieces
 add-j c = omega arith
@@ -119,7 +109,7 @@ pieces-again-2 c =
     )
 
 same-length-2 : tie.Need-same-length-2 Inv-pieces μ-pieces
-same-length-2 c = c .before .pieces .inv .1
+same-length-2 c = search needs
 
 returns-2 : tie.Need-returns-2 Inv-pieces μ-pieces
 returns-2 c =

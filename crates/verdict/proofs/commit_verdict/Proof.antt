@@ -31,7 +31,6 @@ standing-verdict-requires c κs =
     let the-blocks-fit = c .before .blocks-fit in
     let the-enum-told = c .before .before .before .enum-told in
     let the-state-verdict = c .before .before .before .before .before .state-verdict in
-    let the-pre = c .before .before .before .before .before .before .before .before .before .before .before .before .pre in
     let a = c .before .before .before .before .before .before .before .before .before .before .before .before .args in
     let v = the-state-verdict .result in
     let f = the-state-verdict .ensures in

@@ -1,6 +1,6 @@
 -- Each refusal is the first that applies, by the laws of CommitChecks.
 use native.Mathlib.Omega.{arith}
-use Rattle.verdict.proofs.CommitChecks.{phase-refused, tables-refused, room-refused, numbers-refused, none-refused, bits-enough, pieces-few}
+use Rattle.verdict.proofs.CommitChecks.{phase-refused, tables-refused, room-refused, numbers-refused, none-refused, bits-enough}
 use borrow.Author.Needs.{needs}
 use Rattle.verdict.proofs.standing_verdict.Statement.{statement}
 use Rattle.verdict.proofs.standing_verdict.Tie as tie
@@ -17,9 +17,7 @@ count-free-requires : tie.Need-count-free-requires
 count-free-requires c κs = let the-pre = c .before .before .before .before .before .before .before .before .pre in bits-enough _ _ _ _ _ _ (the-pre .1 .0)
 
 tables-agree-requires : tie.Need-tables-agree-requires
-tables-agree-requires c κs =
-    let the-pre = c .before .before .before .before .before .before .before .before .before .pre in
-    (the-pre .0, (the-pre .1 .0, c .count-free .ensures))
+tables-agree-requires c κs = search needs
 
 returns-2 : tie.Need-returns-2
 returns-2 c =

@@ -6,14 +6,10 @@ use Rattle.write.proofs.WriteLaws.{write-refused, write-passed, write-l
 use borrow.Author.Needs.{needs}
 use Rattle.write.proofs.write.Statement.{statement}
 use Rattle.write.proofs.write.Tie as tie
-use Rattle.block_numbers.proofs.bytes_fit.Reads as bytes-fit-reads
-use Rattle.verdict.proofs.commit_verdict.Reads as commit-verdict-reads
+use Rattle.write.proofs.write_verdict.Reads as write-verdict-reads
 
-bytes-fit-requires : tie.Need-bytes-fit-requires
-bytes-fit-requires c κs = search needs
-
-commit-verdict-requires : tie.Need-commit-verdict-requires
-commit-verdict-requires c κs = search needs
+write-verdict-requires : tie.Need-write-verdict-requires
+write-verdict-requires c κs = search needs
 
 enum-known-verdict : tie.Need-enum-known-verdict
 enum-known-verdict c = search needs
@@ -24,24 +20,22 @@ enum-told c = search needs
 cast-commit : tie.Need-cast-commit
 cast-commit c =
     let the-enum-told = c .before .before .before .before .before .enum-told in
-    let the-commit-verdict = c .before .before .before .before .before .before .before .commit-verdict in
-    let the-bytes-fit = c .before .before .before .before .before .before .before .before .before .before .before .before .before .bytes-fit in
-    let a = c .before .before .before .before .before .before .before .before .before .before .before .before .before .before .before .before .before .before .before .before .before .args in
-    let h = write-few (a .s) (a .image .now) (a .map .now) (a .places .now) (a .numbers .now) (a .used .now) (a .head) (a .blocks .now) (a .allowance) (a .bytes .now) (the-bytes-fit .result) (the-bytes-fit .ensures) (sym (the-enum-told .given .1) ∙ the-commit-verdict .ensures) in
+    let the-write-verdict = c .before .before .before .before .before .before .before .write-verdict in
+    let a = c .before .before .before .before .before .before .before .before .before .before .before .before .before .before .before .before .before .before .before .before .args in
+    let h = write-few (a .s) (a .image .now) (a .map .now) (a .places .now) (a .numbers .now) (a .used .now) (a .head) (a .blocks .now) (a .allowance) (a .bytes .now) _ refl (sym (the-enum-told .given .1) ∙ the-write-verdict .ensures) in
     omega arith
 
 commit-requires : tie.Need-commit-requires
 commit-requires c κs =
     let the-enum-told = c .before .before .before .before .before .enum-told in
-    let the-commit-verdict = c .before .before .before .before .before .before .before .commit-verdict in
-    let the-bytes-fit = c .before .before .before .before .before .before .before .before .before .before .before .before .before .bytes-fit in
-    let a = c .before .before .before .before .before .before .before .before .before .before .before .before .before .before .before .before .before .before .before .before .before .args in (
+    let the-write-verdict = c .before .before .before .before .before .before .before .write-verdict in
+    let a = c .before .before .before .before .before .before .before .before .before .before .before .before .before .before .before .before .before .before .before .before .args in (
       write-passed (a .s) (a .image .now) (a .map .now) (a .places .now) (a .numbers .now) (a .used .now) (a .head) (a .blocks .now) (a .allowance) (a .bytes .now)
-          (the-bytes-fit .result) (the-bytes-fit .ensures) (sym (the-enum-told .given .1) ∙ the-commit-verdict .ensures),
+          _ refl (sym (the-enum-told .given .1) ∙ the-write-verdict .ensures),
       (
         inr refl,
         write-length (a .s) (a .image .now) (a .map .now) (a .places .now) (a .numbers .now) (a .used .now) (a .head) (a .blocks .now) (a .allowance) (a .bytes .now)
-            (the-bytes-fit .result) (the-bytes-fit .ensures) (sym (the-enum-told .given .1) ∙ the-commit-verdict .ensures),
+            _ refl (sym (the-enum-told .given .1) ∙ the-write-verdict .ensures),
       ),
     )
 
@@ -62,9 +56,8 @@ same-length-5 c = search needs
 
 returns : tie.Need-returns
 returns c =
-    let the-commit-verdict = c .before .before .before .commit-verdict in
-    let the-bytes-fit = c .before .before .before .before .before .before .before .before .before .bytes-fit in
-    write-refused _ _ _ _ _ _ _ _ _ _ (the-bytes-fit .result) (the-bytes-fit .ensures) _ (sym (c .before .verdict .given .1) ∙ the-commit-verdict .ensures)
+    let the-write-verdict = c .before .before .before .write-verdict in
+    write-refused _ _ _ _ _ _ _ _ _ _ _ refl _ (sym (c .before .verdict .given .1) ∙ the-write-verdict .ensures)
 
 same-length-6 : tie.Need-same-length-6
 same-length-6 c = search needs
@@ -85,16 +78,14 @@ returns-2 : tie.Need-returns-2
 returns-2 c =
     let the-commit = c .before .before .before .before .before .before .before .before .before .before .commit in
     let the-enum-told = c .before .before .before .before .before .before .before .before .before .before .before .before .before .before .before .before .enum-told in
-    let the-commit-verdict = c .before .before .before .before .before .before .before .before .before .before .before .before .before .before .before .before .before .before .commit-verdict in
-    let the-bytes-fit = c .before .before .before .before .before .before .before .before .before .before .before .before .before .before .before .before .before .before .before .before .before .before .before .before .bytes-fit in
-    write-done _ _ _ _ _ _ _ _ _ _ (the-bytes-fit .result) (the-bytes-fit .ensures) _ (sym (the-enum-told .given .1) ∙ the-commit-verdict .ensures) (the-commit .ensures)
+    let the-write-verdict = c .before .before .before .before .before .before .before .before .before .before .before .before .before .before .before .before .before .before .write-verdict in
+    write-done _ _ _ _ _ _ _ _ _ _ _ refl _ (sym (the-enum-told .given .1) ∙ the-write-verdict .ensures) (the-commit .ensures)
 
 pub write-spec : {M : Type 1} → statement M
 write-spec =
     tie.close
     (tie.spec
-    bytes-fit-requires
-    commit-verdict-requires
+    write-verdict-requires
     enum-known-verdict
     enum-told
     cast-commit

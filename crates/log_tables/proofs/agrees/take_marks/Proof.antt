@@ -21,7 +21,6 @@ loop-holds c =
 shared-slice-read-used : tie.Need-shared-slice-read-used Inv-loop μ-loop
 shared-slice-read-used c =
     let l = c .before .before .loop in
-    let the-pre = c .before .before .before .pre in
     let e = filled-length _ _ (l .i) (l .used) (l .inv) in
     omega arith
 
@@ -34,16 +33,14 @@ add-i c = omega arith
 loop-less : tie.Need-loop-less Inv-loop μ-loop
 loop-less c =
     let l = c .before .before .loop in
-    let a = c .before .before .before .args in
-    let e = filled-length (at (a .marks .now)) (a .used .now) (l .i) (l .used) (l .inv) in
+    let e = filled-length _ _ (l .i) (l .used) (l .inv) in
     omega arith
 
 loop-again : tie.Need-loop-again Inv-loop μ-loop
 loop-again c =
     let l = c .before .before .loop in
-    let a = c .before .before .before .args in
-    let e = filled-length (at (a .marks .now)) (a .used .now) (l .i) (l .used) (l .inv) in
-    filled-more (at (a .marks .now)) (a .used .now) (l .i) (l .used) (omega arith) (l .inv)
+    let e = filled-length _ _ (l .i) (l .used) (l .inv) in
+    filled-more _ _ (l .i) (l .used) (omega arith) (l .inv)
 
 same-length : tie.Need-same-length Inv-loop μ-loop
 same-length c =
@@ -53,9 +50,8 @@ same-length c =
 returns : tie.Need-returns Inv-loop μ-loop
 returns c =
     let l = c .before .loop in
-    let a = c .before .before .args in
-    let e = filled-length (at (a .marks .now)) (a .used .now) (l .i) (l .used) (l .inv) in
-    filled-all (at (a .marks .now)) (a .used .now) (l .i) (l .used) (omega arith) (l .inv)
+    let e = filled-length _ _ (l .i) (l .used) (l .inv) in
+    filled-all _ _ (l .i) (l .used) (omega arith) (l .inv)
 
 pub take-marks-spec : {M : Type 1} → statement M
 take-marks-spec =

@@ -1,4 +1,5 @@
 -- The entries below i of the piece are filled in.
+use borrow.Author.Needs.{needs}
 use Prim.Native.Nat.{ℕ, _+_, _-_, _≤_, _<_}
 use mathlib.Core.Path.{_≡_, refl, sym, _∙_}
 use mathlib.Core.List.{List}
@@ -22,14 +23,10 @@ abbrev μ-loop : tie.MeasureT-loop
 
 loop-holds : tie.Need-loop-holds Inv-loop μ-loop
 loop-holds c =
-    let a = c .before .before .args in
-    (omega arith, refl, λ f old h e. piece-starts f old (a .first) (a .map .now) h)
+    (omega arith, refl, λ f old h e. piece-starts f old _ _ h)
 
 entry-at-requires : tie.Need-entry-at-requires Inv-loop μ-loop
-entry-at-requires c κs =
-    let the-pre = c .before .before .before .before .pre in
-    let t = c .loop-test .taken in
-    (the-pre .0, omega arith)
+entry-at-requires c κs = search needs
 
 add-map : tie.Need-add-map Inv-loop μ-loop
 add-map c = omega arith
@@ -38,12 +35,7 @@ mul-map : tie.Need-mul-map Inv-loop μ-loop
 mul-map c = omega arith
 
 slice-write-map : tie.Need-slice-write-map Inv-loop μ-loop
-slice-write-map c =
-    let l = c .before .before .loop in
-    let the-pre = c .before .before .before .before .before .pre in
-    let e = l .inv .1 in
-    let t = c .before .loop-test .taken in
-    omega arith
+slice-write-map c = search needs
 
 add-i : tie.Need-add-i Inv-loop μ-loop
 add-i c = omega arith
@@ -56,10 +48,7 @@ loop-again c =
     let the-entry-at = c .entry-at in
     let the-loop-test = c .before .loop-test in
     let l = c .before .before .loop in
-    let the-pre = c .before .before .before .before .before .pre in
     let a = c .before .before .before .before .before .args in
-    let len = l .inv .1 in
-    let room = the-pre .1 .1 in
     let b : a .first + l .i < length (l .map) = omega arith in (
       omega arith,
       simp length-set (l .inv .1),
@@ -67,9 +56,7 @@ loop-again c =
     )
 
 same-length : tie.Need-same-length Inv-loop μ-loop
-same-length c =
-    let l = c .before .loop in
-    l .inv .1
+same-length c = search needs
 
 returns : tie.Need-returns Inv-loop μ-loop
 returns c =

@@ -1,0 +1,2 @@
+-- The newest candidate of a listing.
+pub mod Listing

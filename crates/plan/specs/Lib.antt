@@ -1,0 +1,2 @@
+-- The branches that a commit may list.
+pub mod Untouched
