@@ -37,8 +37,8 @@ fn make_few_used(g: Geometry, map: &[u32], places: &[u32], used: &mut [u8])
     take_marks(used, &marks);
 }
 
-// The same of a volume of any size, in place.
-fn make_all_used(g: Geometry, map: &[u32], places: &[u32], used: &mut [u8])
+// The same of a volume of any size, in place, with about so many entries that are not empty.
+fn make_all_used(g: Geometry, map: &[u32], places: &[u32], count: u32, used: &mut [u8])
     requires { ⌜ geometryFits g ≡ true ⌝ }
     requires { ⌜ length (now map) ≡ g .l ⌝ }
     requires { ⌜ length (now places) ≡ piecesFor (g .l) ⌝ }
@@ -47,11 +47,11 @@ fn make_all_used(g: Geometry, map: &[u32], places: &[u32], used: &mut [u8])
     ensures { λ _. ⌜ bitAt (now (used .exit)) ≡ usedBy (namedBy (g .l) (at (now (map .entry))) (at (now (places .entry)))) ⌝ }
 {
     fill::zero_bytes(used);
-    names::mark_all(used, map, places);
+    names::mark_all(used, map, places, count);
 }
 
 // The same, by the size of the volume.
-fn make_used(g: Geometry, map: &[u32], places: &[u32], used: &mut [u8])
+fn make_used(g: Geometry, map: &[u32], places: &[u32], count: u32, used: &mut [u8])
     requires { ⌜ geometryFits g ≡ true ⌝ }
     requires { ⌜ length (now map) ≡ g .l ⌝ }
     requires { ⌜ length (now places) ≡ piecesFor (g .l) ⌝ }
@@ -63,7 +63,7 @@ fn make_used(g: Geometry, map: &[u32], places: &[u32], used: &mut [u8])
         make_few_used(g, map, places, used);
         return;
     }
-    make_all_used(g, map, places, used);
+    make_all_used(g, map, places, count, used);
 }
 
 // Makes the used map of the names, and says whether they lie inside, none stands twice and P sectors are free.
@@ -78,7 +78,7 @@ fn mark_used(g: Geometry, map: &[u32], places: &[u32], used: &mut [u8]) -> bool
     if !named.inside {
         return false;
     }
-    make_used(g, map, places, used);
+    make_used(g, map, places, named.count, used);
     let free = bits::count_free(used, g.n);
     soundness::once_with_room(g, named.count, free)
 }

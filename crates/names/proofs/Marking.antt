@@ -315,6 +315,11 @@ entry-marked entry others i k bits after s m u =
     marked-more (withEntries entry i others) bits after (sectorOf (entry i)) m (u ∙ ap (λ (x : ℕ). updated bits x true) s)
     ∙ ap usedBy (sym (gathered-hit taken sector others i (ap not z)))) (bool? (isEmpty (entry i))))
 
+pub entry-passed : (entry : ℕ → ℕ) (others : List ℕ) (i : ℕ) (bits : ℕ → Bool) → entry i ≡ 0
+    → bits ≡ usedBy (withEntries entry i others) → bits ≡ usedBy (withEntries entry (i + 1) others)
+entry-passed entry others i bits e m =
+    rw add-one (m ∙ ap usedBy (sym (gathered-miss (λ b. not (isEmpty (entry b))) (λ b. sectorOf (entry b)) others i (ap not (eq-eqb (entry i) 0 e)))))
+
 -- A sector past the last is not named.
 pub unnamed : (n : ℕ) (named : List ℕ) → all (within 1 (n - 1)) named ≡ true → (k : ℕ) → 1 ≤ n → n ≤ k → usedBy named k ≡ false
 unfolding usedBy

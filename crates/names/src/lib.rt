@@ -129,8 +129,38 @@ fn mark_entries(marks: &mut [u8], map: &[u32])
     }
 }
 
-// Marks sector 0, the live places, and the sectors of the entries.
-pub fn mark_all(marks: &mut [u8], map: &[u32], places: &[u32])
+// The same, where most entries are empty: these are passed over, since all would mark sector 0, each after the other.
+fn mark_full(marks: &mut [u8], map: &[u32])
+    requires { ⌜ ((b : ℕ) → b < length (now map) → sectorOf (at (now map) b) < 8 * length (now marks)) ⌝ }
+    ensures { λ _. ⌜ ((others : List ℕ) → bitAt (now (marks .entry)) ≡ usedBy others → bitAt (now (marks .exit)) ≡ usedBy (withEntries (at (now (map .entry))) (length (now (map .entry))) others)) ⌝ }
+{
+    let mut i = 0;
+    'entries: while i < map.len() {
+        let entry = map[i];
+        if entry == 0 {
+            i += 1;
+            continue 'entries;
+        }
+        let k = blocks::sector_of(entry);
+        bits::set_bit(marks, k as usize);
+        i += 1;
+    }
+}
+
+// Marks the sectors of the entries, of which so many name one or a few more.
+fn mark_map(marks: &mut [u8], map: &[u32], count: u32)
+    requires { ⌜ ((b : ℕ) → b < length (now map) → sectorOf (at (now map) b) < 8 * length (now marks)) ⌝ }
+    ensures { λ _. ⌜ ((others : List ℕ) → bitAt (now (marks .entry)) ≡ usedBy others → bitAt (now (marks .exit)) ≡ usedBy (withEntries (at (now (map .entry))) (length (now (map .entry))) others)) ⌝ }
+{
+    if (count as usize) < map.len() / 4 {
+        mark_full(marks, map);
+        return;
+    }
+    mark_entries(marks, map);
+}
+
+// Marks sector 0, the live places, and the sectors of the entries, of which about so many are not empty.
+pub fn mark_all(marks: &mut [u8], map: &[u32], places: &[u32], count: u32)
     requires { ⌜ 0 < length (now marks) ⌝ }
     requires { ⌜ now marks ≡ replicate (length (now marks)) 0 ⌝ }
     requires { ⌜ ((q : ℕ) → q < length (now places) → at (now places) q < 8 * length (now marks)) ⌝ }
@@ -139,7 +169,7 @@ pub fn mark_all(marks: &mut [u8], map: &[u32], places: &[u32])
 {
     bits::set_bit(marks, 0);
     mark_places(marks, places);
-    mark_entries(marks, map);
+    mark_map(marks, map, count);
 }
 
 // A word of the map with the bit of sector k set.
@@ -174,7 +204,7 @@ fn mark_few_entries(marks: &mut [u8], map: &[u32])
     bits::put_word(marks, hand, held);
 }
 
-// Marks the same in a map of 1,024.
+// Marks sector 0, the live places, and the sectors of the entries in a map of 1,024.
 pub fn mark_few(marks: &mut [u8], map: &[u32], places: &[u32])
     requires { ⌜ length (now marks) ≡ 128 ⌝ }
     requires { ⌜ now marks ≡ replicate (length (now marks)) 0 ⌝ }

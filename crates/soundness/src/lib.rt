@@ -63,20 +63,20 @@ fn few_bits_agree(map: &[u32], places: &[u32], used: &[u8]) -> bool
     bits_agree(used, &marks)
 }
 
-// The same for a volume of any size.
-fn all_bits_agree(map: &[u32], places: &[u32], used: &[u8]) -> bool
+// The same for a volume of any size, with about so many entries that are not empty.
+fn all_bits_agree(map: &[u32], places: &[u32], used: &[u8], count: u32) -> bool
     requires { ⌜ length (now used) ≤ 8192 ⌝ }
     requires { ⌜ ((q : ℕ) → q < length (now places) → at (now places) q < 65536) ⌝ }
     requires { ⌜ ((b : ℕ) → b < length (now map) → sectorOf (at (now map) b) < 65536) ⌝ }
     ensures { λ r. ⌜ r ≡ allBelow (λ k. Bool·beq (bitAt (now (used .entry)) k) (usedBy (withEntries (at (now (map .entry))) (length (now (map .entry))) (gathered always (at (now (places .entry))) [] (length (now (places .entry))))) k)) (8 * length (now (used .entry))) ⌝ }
 {
     let mut marks = [0u8; 8192];
-    names::mark_all(&mut marks, map, places);
+    names::mark_all(&mut marks, map, places, count);
     bits_agree(used, &marks)
 }
 
 // The same, by the size of the volume.
-fn named_bits_agree(n: u32, map: &[u32], places: &[u32], used: &[u8]) -> bool
+fn named_bits_agree(n: u32, map: &[u32], places: &[u32], used: &[u8], count: u32) -> bool
     requires { ⌜ n ≤ mostSectors ⌝ }
     requires { ⌜ length (now used) ≡ usedBytes n ⌝ }
     requires { ⌜ ((q : ℕ) → q < length (now places) → at (now places) q < n) ⌝ }
@@ -86,7 +86,7 @@ fn named_bits_agree(n: u32, map: &[u32], places: &[u32], used: &[u8]) -> bool
     if n <= 1024 {
         return few_bits_agree(map, places, used);
     }
-    all_bits_agree(map, places, used)
+    all_bits_agree(map, places, used, count)
 }
 
 // Whether the names lie inside and stand once, the used bits are exactly theirs, and P sectors are free, of which the count is given.
@@ -102,7 +102,7 @@ fn names_agree(g: Geometry, map: &[u32], places: &[u32], used: &[u8], free: u32)
     if !named.inside {
         return false;
     }
-    if !named_bits_agree(g.n, map, places, used) {
+    if !named_bits_agree(g.n, map, places, used, named.count) {
         return false;
     }
     once_with_room(g, named.count, free)

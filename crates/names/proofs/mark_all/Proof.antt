@@ -19,8 +19,8 @@ mark-places-requires c κs =
     let len = b .kept .0 in
     (λ q h. (let z = p .1 .1 .0 q h in omega arith), zeros-marked _ (a .marks .now) (length (a .marks .now)) (p .1 .0) (b .ensures))
 
-mark-entries-requires : tie.Need-mark-entries-requires
-mark-entries-requires c κs =
+mark-map-requires : tie.Need-mark-map-requires
+mark-map-requires c κs =
     let p = c .before .before .before .before .before .before .before .before .before .before .before .before .pre in
     let len = c .before .before .before .before .before .before .before .set-bit .kept .0 in
     let same = c .before .before .before .mark-places .kept .0 in
@@ -32,8 +32,8 @@ same-length c = search needs
 returns : tie.Need-returns
 returns c =
     let m = c .before .before .before .before .before .before .mark-places in
-    let e = c .before .before .mark-entries in
+    let e = c .before .before .mark-map in
     e .ensures _ (m .ensures)
 
 pub mark-all-spec : {M : Type 1} → statement M
-mark-all-spec = tie.close (tie.spec set-bit-requires mark-places-requires mark-entries-requires same-length returns)
+mark-all-spec = tie.close (tie.spec set-bit-requires mark-places-requires mark-map-requires same-length returns)
