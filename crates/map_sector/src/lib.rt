@@ -132,8 +132,15 @@ fn entries_fit(s: &[u8], l: u32) -> bool
     words::words_zero(s, 32 + held as usize, 128)
 }
 
+// Whether s begins with the map mark.
+pub fn has_mark(s: &[u8]) -> bool
+    ensures { λ r. ⌜ r ≡ startsWith mapMark (now (s .entry)) ⌝ }
+{
+    marks::starts_with(s, &marks::MAP_MARK)
+}
+
 // Of a sector with the mark: whether it is signed. The sum comes last, being the dearest test.
-fn marked_valid(s: &[u8], g: Geometry) -> bool
+pub fn marked_valid(s: &[u8], g: Geometry) -> bool
     requires { ⌜ length (now s) ≡ sectorBytes ⌝ }
     requires { ⌜ 1 ≤ g .n ⌝ }
     requires { ⌜ startsWith mapMark (now s) ≡ true ⌝ }
@@ -157,7 +164,7 @@ pub fn is_valid(s: &[u8], g: Geometry) -> bool
     requires { ⌜ 1 ≤ g .n ⌝ }
     ensures { λ r. ⌜ r ≡ valid g (now (s .entry)) (wordsOf (now (s .entry))) ⌝ }
 {
-    if !marks::starts_with(s, &marks::MAP_MARK) {
+    if !has_mark(s) {
         return false;
     }
     marked_valid(s, g)

@@ -37,7 +37,8 @@ fn keep(s: &[u8], k: usize, numbers: &mut [u32], pieces: &mut [u8], closing: &mu
     closing[k] = closing_mark(s);
 }
 
-// Reads the image once, and keeps of each signed sector its number, its piece, and 1 where it is closing. The others keep 0.
+// Reads the image once, and keeps of each signed sector its number, its piece, and 1 where it is closing. The others keep 0. Most have
+// no mark, and are passed over without a call.
 pub fn read_signed(
     image: &[u8],
     g: Geometry,
@@ -59,7 +60,11 @@ pub fn read_signed(
     let mut k: u32 = 0;
     'sectors: while k < g.n {
         let s = images::sector(image, k as usize);
-        if !map_sector::is_valid(s, g) {
+        if !map_sector::has_mark(s) {
+            k += 1;
+            continue 'sectors;
+        }
+        if !map_sector::marked_valid(s, g) {
             k += 1;
             continue 'sectors;
         }
