@@ -1,31 +1,39 @@
 // The stores of a format: zeros in every sector, then a fresh map.
 ghost use mathlib.Core.Path.{_≡_};
+ghost use mathlib.Core.Bool.{cond};
 ghost use Prim.Native.Nat.{_+_, _*_, _≤_, _<_};
 ghost use lib.ListN.{length, take};
+ghost use lib.Dec.{ltb};
 ghost use Rattle.geometry.specs.Geometry.{sectorBytes, piecesFor};
 ghost use Rattle.layout.specs.Bounded.{always, countBelow, updated};
+ghost use Rattle.layout.specs.Entry.{blank};
 ghost use Rattle.volume.specs.Tables.{sectorAt};
 ghost use Rattle.volume.specs.Store.{applied, storesBelow};
 ghost use Rattle.volume.specs.Format.{blankStore, pieceStore};
 ghost use Rattle.power.specs.Power.{powered};
+use geometry::Geometry;
 use power::allowance::Power;
 
-// Zeros in sectors 0 to n - 1, ascending.
+// Zeros in the first sectors, so many of them, as one run of bytes.
+fn blank_first(image: &mut [u8], count: u32)
+    requires { ⌜ sectorBytes * count ≤ length (now image) ⌝ }
+    ensures { λ _. ⌜ sectorAt (now (image .exit)) ≡ (λ k. cond (ltb k count) blank (sectorAt (now (image .entry)) k)) ⌝ }
+{
+    let end = Geometry::SECTOR * (count as usize);
+    fill::zero_bytes(&mut image[0..end]);
+}
+
+// Zeros in sectors 0 to n - 1, ascending: as many as the allowance has.
 pub fn blank_sectors(image: &mut [u8], n: u32, allowance: u32) -> Power
     requires { ⌜ sectorBytes * n ≤ length (now image) ⌝ }
     ensures { λ r. ⌜ (r ≡ powered (countBelow always n) allowance) × (sectorAt (now (image .exit)) ≡ applied (take allowance (storesBelow always blankStore n)) (sectorAt (now (image .entry)))) ⌝ }
 {
-    let mut left = allowance;
-    let mut k: u32 = 0;
-    while k < n {
-        if left == 0 {
-            return Power::Failed;
-        }
-        images::blank_sector(image, k as usize);
-        left -= 1;
-        k += 1;
+    if allowance < n {
+        blank_first(image, allowance);
+        return Power::Failed;
     }
-    Power::Left(left)
+    blank_first(image, n);
+    Power::Left(allowance - n)
 }
 
 // Piece p of a fresh map goes into sector p + 1 with number p + 1. Each after the first has one branch, to the one before.
