@@ -2,7 +2,7 @@
 use Prim.Native.Nat.{ℕ, _*_, _+_, _-_, _≤_, _<_}
 use mathlib.Core.Path.{_≡_, refl, sym, _∙_, ap}
 use mathlib.Core.Logic.{⊎-elim}
-use mathlib.Core.Bool.{Bool, true, false, cond, not, _&&_}
+use mathlib.Core.Bool.{Bool, true, false, not, _&&_}
 use mathlib.Core.List.{List, []}
 use native.Mathlib.Omega.{arith}
 use lib.ListN.{length}
@@ -44,26 +44,6 @@ unfolding entryReadable
 entry-high n entry d k e h = rw (ne-eqb entry 0 d, ← e, le-leb 1 k h) refl
 
 -- The verdict on the lengths is v.
--- The refusals after those by lengths: by the block, by the phase, and by its entry.
-module _ (l n : ℕ) (phase : Bool) (entry : ℕ → ℕ) (block : ℕ) where
-  abbrev pub byBlock : Verdict
-  byBlock =
-      cond (not (ltb block l)) (Refuse BlockNumbers) (cond (not phase) (Refuse WrongPhase) (cond (not (entryReadable n (entry block))) (Refuse Inconsistent) Pass))
-
-  pub block-refused : l ≤ block → Refuse BlockNumbers ≡ byBlock
-  block-refused h = rw (le-ltb block l h) refl
-
-  module _ (h : block < l) (b : Bool) (f : b ≡ phase) where
-    pub phase-refused : not b ≡ true → Refuse WrongPhase ≡ byBlock
-    phase-refused e = rw (lt-ltb block l h, sym f ∙ not-true b e) refl
-
-    module _ (e : not b ≡ false) (c : Bool) (g : c ≡ entryReadable n (entry block)) where
-      pub entry-refused : not c ≡ true → Refuse Inconsistent ≡ byBlock
-      entry-refused d = rw (lt-ltb block l h, sym f ∙ not-false b e, sym g ∙ not-true c d) refl
-
-      pub none-refused : not c ≡ false → Pass ≡ byBlock
-      none-refused d = rw (lt-ltb block l h, sym f ∙ not-false b e, sym g ∙ not-false c d) refl
-
 module _ (s : State) (im mp pl nu us : List ℕ) (block out : ℕ) (v : Verdict)
     (f : v ≡ firstOf lengths (stateChecks s (lent (length im) (length mp) (length pl) (length nu) (length us)) (eqb out 512))) where
   abbrev verdict : Verdict
@@ -74,24 +54,36 @@ module _ (s : State) (im mp pl nu us : List ℕ) (block out : ℕ) (v : Verdict)
   lengths-refused r e = refused-by-lengths s im mp pl nu us (eqb out 512) _ v f r e
 
   module _ (e : v ≡ Pass) where
-    -- What the other refusals are judged by.
-    pub block-needs : (length mp ≡ s .geometry .l) × (1 ≤ s .geometry .n)
-    block-needs =
-        let m = tables-fit im mp pl nu us (s .geometry) (tables-passed s im mp pl nu us (eqb out 512) [] v f e) .map in
+    pub in-map : block < s .geometry .l → block < length mp
+    in-map h = let m = tables-fit im mp pl nu us (s .geometry) (tables-passed s im mp pl nu us (eqb out 512) [] v f e) .map in omega arith
+
+    pub some-sectors : 1 ≤ s .geometry .n
+    some-sectors =
         let least = fits (s .geometry) (state-fits s im mp pl nu us (sizes-passed s im mp pl nu us (eqb out 512) [] v f e) .range) .least in
-        (m, omega arith)
+        omega arith
 
-    in-order : (a b c : Bool) → ltb block (s .geometry .l) ≡ a → isReadable (s .phase) ≡ b → entryReadable (s .geometry .n) (at mp block) ≡ c
-        → byBlock (s .geometry .l) (s .geometry .n) (isReadable (s .phase)) (at mp) block ≡ firstOf later (readChecks s (memory im mp pl nu us) block out)
-    unfolding readChecks firstOf applies memory
-    in-order true true true p q r = rw (p, q, r) refl
-    in-order true true false p q r = rw (p, q, r) refl
-    in-order true false c p q r = rw (p, q) refl
-    in-order false b c p q r = rw p refl
-
-    pub block-judged : (w : Verdict) → w ≡ byBlock (s .geometry .l) (s .geometry .n) (isReadable (s .phase)) (at mp) block → w ≡ verdict
+    then : (w : Verdict) → w ≡ firstOf later (readChecks s (memory im mp pl nu us) block out) → w ≡ verdict
     unfolding readChecks
-    block-judged w k = passed-by-lengths s im mp pl nu us (eqb out 512) _ v f e w (k ∙ in-order _ _ _ refl refl refl)
+    then w k = passed-by-lengths s im mp pl nu us (eqb out 512) _ v f e w k
+
+    pub block-refused : s .geometry .l ≤ block → Refuse BlockNumbers ≡ verdict
+    unfolding readChecks firstOf applies
+    block-refused h = then (Refuse BlockNumbers) (rw (le-ltb block (s .geometry .l) h) refl)
+
+    module _ (h : block < s .geometry .l) (b3 : Bool) (f3 : b3 ≡ isReadable (s .phase)) where
+      pub phase-refused : not b3 ≡ true → Refuse WrongPhase ≡ verdict
+      unfolding readChecks firstOf applies
+      phase-refused e3 = then (Refuse WrongPhase) (rw (lt-ltb block (s .geometry .l) h, sym f3 ∙ not-true b3 e3) refl)
+
+      module _ (e3 : not b3 ≡ false) (b4 : Bool) (f4 : b4 ≡ entryReadable (s .geometry .n) (at mp block)) where
+        pub entry-refused : not b4 ≡ true → Refuse Inconsistent ≡ verdict
+        unfolding readChecks firstOf applies memory
+        entry-refused e4 =
+            then (Refuse Inconsistent) (rw (lt-ltb block (s .geometry .l) h, sym f3 ∙ not-false b3 e3, sym f4 ∙ not-true b4 e4) refl)
+
+        pub none-refused : not b4 ≡ false → Pass ≡ verdict
+        unfolding readChecks firstOf applies memory
+        none-refused e4 = then Pass (rw (lt-ltb block (s .geometry .l) h, sym f3 ∙ not-false b3 e3, sym f4 ∙ not-false b4 e4) refl)
 
 -- What a read that meets no refusal relies on.
 pub record Readable (im mp : List ℕ) (block out : ℕ) : Type 0 where

@@ -1,18 +1,14 @@
 // The read call: the block that an entry names, restored where it was stored flipped.
 ghost use mathlib.Core.Path.{_≡_};
-ghost use mathlib.Core.Bool.{cond, not};
 ghost use Prim.Native.Nat.{_≤_, _<_};
 ghost use lib.ListN.{length};
-ghost use lib.Dec.{ltb};
 ghost use Rattle.layout.specs.Bounded.{at};
 ghost use Rattle.layout.specs.Entry.{sectorOf, restored};
 ghost use Rattle.volume.specs.Tables.{sectorAt, memory};
 ghost use Rattle.volume.specs.Refusals.{judged};
 ghost use Rattle.volume.specs.Calls.{entryReadable, readChecks, readOf};
 ghost use Rattle.checks.specs.Left.{readLeft};
-ghost use Rattle.answer.specs.declared.Refusal.the-variants.{BlockNumbers, WrongPhase, Inconsistent};
-ghost use Rattle.answer.specs.declared.Verdict.the-variants.{Pass, Refuse};
-ghost use Rattle.state.specs.State.{isReadable};
+ghost use Rattle.answer.specs.declared.Verdict.the-variants.{Pass};
 use answer::Answer;
 use answer::Refusal;
 use answer::Verdict;
@@ -33,25 +29,6 @@ fn entry_readable(n: u32, entry: u32) -> bool
         return false;
     }
     sector <= n - 1
-}
-
-// The refusals by the block, the phase and the entry, once the lengths are right.
-fn block_verdict(s: State, map: &[u32], block: u32) -> Verdict
-    requires { ⌜ length (now map) ≡ s .geometry .l ⌝ }
-    requires { ⌜ 1 ≤ s .geometry .n ⌝ }
-    ensures { λ r. ⌜ r ≡ cond (not (ltb block (s .geometry .l))) (Refuse BlockNumbers) (cond (not (isReadable (s .phase))) (Refuse WrongPhase) (cond (not (entryReadable (s .geometry .n) (at (now (map .entry)) block))) (Refuse Inconsistent) Pass)) ⌝ }
-{
-    let g = s.geometry;
-    if g.l <= block {
-        return Verdict::Refuse(Refusal::BlockNumbers);
-    }
-    if !s.is_readable() {
-        return Verdict::Refuse(Refusal::WrongPhase);
-    }
-    if !entry_readable(g.n, map[block as usize]) {
-        return Verdict::Refuse(Refusal::Inconsistent);
-    }
-    Verdict::Pass
 }
 
 // The refusals of a read, in their order.
@@ -78,7 +55,19 @@ fn read_verdict(
     );
     match lengths {
         Verdict::Refuse(refusal) => Verdict::Refuse(refusal),
-        Verdict::Pass => block_verdict(s, map, block),
+        Verdict::Pass => {
+            let g = s.geometry;
+            if g.l <= block {
+                return Verdict::Refuse(Refusal::BlockNumbers);
+            }
+            if !s.is_readable() {
+                return Verdict::Refuse(Refusal::WrongPhase);
+            }
+            if !entry_readable(g.n, map[block as usize]) {
+                return Verdict::Refuse(Refusal::Inconsistent);
+            }
+            Verdict::Pass
+        }
     }
 }
 

@@ -1,7 +1,7 @@
 // Words of 32 bits, little-endian: word k of a run of bytes starts at byte 4k.
 ghost use mathlib.Core.Path.{_≡_};
 ghost use mathlib.Core.Bool.{_&&_};
-ghost use Prim.Native.Nat.{_+_, _*_, _≤_};
+ghost use Prim.Native.Nat.{_+_, _*_, _≤_, _<_};
 ghost use lib.ListN.{length, replicate};
 ghost use lib.Seq.{sets, slice};
 ghost use Rattle.geometry.specs.Geometry.{within};
@@ -59,14 +59,14 @@ pub fn put_zeros(s: &mut [u8], k: usize, n: usize)
     }
 }
 
-// Whether all was well so far, and w lies in low to high.
-fn still_within(good: bool, w: u32, low: u32, high: u32) -> bool
+// Whether all was within so far, and w is from low to high, which are so many. What is below low wraps: one test for both ends, so that
+// the compiler compares several at a time.
+fn still_within(good: bool, w: u32, low: u32, high: u32, span: u32) -> bool
+    requires { ⌜ low + span ≡ high + 1 ⌝ }
+    requires { ⌜ high < 4294967295 ⌝ }
     ensures { λ r. ⌜ r ≡ (good && within low high w) ⌝ }
 {
-    if w < low {
-        return false;
-    }
-    if high < w {
+    if span <= std::num::wrapping_sub_u32(w, low) {
         return false;
     }
     good
@@ -75,12 +75,15 @@ fn still_within(good: bool, w: u32, low: u32, high: u32) -> bool
 // Whether words `from` to `end` - 1 all lie in low to high. All are looked at, so that the compiler compares several at a time.
 pub fn words_within(s: &[u8], from: usize, end: usize, low: u32, high: u32) -> bool
     requires { ⌜ (from ≤ end) × (4 * end ≤ length (now s)) ⌝ }
+    requires { ⌜ low ≤ high + 1 ⌝ }
+    requires { ⌜ high < 4294967295 ⌝ }
     ensures { λ r. ⌜ r ≡ all (within low high) (slice from end (wordsOf (now (s .entry)))) ⌝ }
 {
+    let span = high + 1 - low;
     let mut good = true;
     let mut k = from;
     while k < end {
-        good = still_within(good, word_at(s, k), low, high);
+        good = still_within(good, word_at(s, k), low, high, span);
         k += 1;
     }
     good

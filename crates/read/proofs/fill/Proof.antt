@@ -18,6 +18,7 @@ shared-slice-read-entry : tie.Need-shared-slice-read-entry
 shared-slice-read-entry c =
     let the-pre = c .before .before .before .before .before .before .before .pre in
     let r = readable _ _ _ _ _ _ _ _ (the-pre) in
+    let h = r .in-map in
     omega arith
 
 sector-of-requires : tie.Need-sector-of-requires
@@ -30,13 +31,17 @@ sector-requires : tie.Need-sector-requires
 sector-requires c κs =
     let the-pre = c .before .before .before .before .before .before .before .before .before .pre in
     let r = readable _ _ _ _ _ _ _ _ (the-pre) in
+    let h = r .in-image in
     omega arith
 
 restore-block-requires : tie.Need-restore-block-requires
 restore-block-requires c κs =
+    let the-sector-of = c .before .before .sector-of in
     let the-pre = c .before .before .before .before .before .before .before .before .before .before .pre in
     let r = readable _ _ _ _ _ _ _ _ (the-pre) in
-    (r .whole, ap length (c .sector .ensures) ∙ sector-length _ _ (omega arith))
+    let h = r .in-image in
+    let e = the-sector-of .ensures in
+    (r .whole, ap length (c .sector .ensures) ∙ sector-length _ (the-sector-of .result) (omega arith))
 
 same-length : tie.Need-same-length
 same-length c = search needs

@@ -15,10 +15,16 @@ use Rattle.words.proofs.words_within.Statement.{statement}
 use Rattle.words.proofs.words_within.Tie as tie
 
 abbrev Inv-loop : tie.InvT-loop
-Inv-loop s from end low high good₀ k₀ good k = (k ≤ end) × (all (within low high) (slice from end (wordsOf s)) ≡ (good && all (within low high) (slice k end (wordsOf s))))
+Inv-loop s from end low high span good₀ k₀ good k = (k ≤ end) × (all (within low high) (slice from end (wordsOf s)) ≡ (good && all (within low high) (slice k end (wordsOf s))))
 
 abbrev μ-loop : tie.MeasureT-loop
-μ-loop s from end low high good₀ k₀ good k = end - k
+μ-loop s from end low high span good₀ k₀ good k = end - k
+
+add-span : tie.Need-add-span Inv-loop μ-loop
+add-span c = omega arith
+
+sub-span : tie.Need-sub-span Inv-loop μ-loop
+sub-span c = omega arith
 
 loop-holds : tie.Need-loop-holds Inv-loop μ-loop
 loop-holds c = (omega arith, refl)
@@ -27,7 +33,7 @@ word-at-requires : tie.Need-word-at-requires Inv-loop μ-loop
 word-at-requires c κs = omega arith
 
 still-within-requires : tie.Need-still-within-requires Inv-loop μ-loop
-still-within-requires c κs = search needs
+still-within-requires c κs = (omega arith, omega arith)
 
 add-k : tie.Need-add-k Inv-loop μ-loop
 add-k c = omega arith
@@ -63,6 +69,8 @@ words-within-spec =
     (tie.spec
     Inv-loop
     μ-loop
+    add-span
+    sub-span
     loop-holds
     word-at-requires
     still-within-requires
