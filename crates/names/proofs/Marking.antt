@@ -15,7 +15,7 @@ use Rattle.geometry.specs.Geometry.{within, piecesFor}
 use Rattle.layout.specs.Bounded.{at, allBelow, countBelow, all, elem, always, gathered, updated}
 use Rattle.volume.specs.Tables.{bitAt, namedBy, usedBy}
 use Rattle.layout.specs.Entry.{isEmpty, sectorOf}
-use Rattle.names.specs.Marked.{withEntries}
+use Rattle.names.specs.Marked.{withEntries, marked}
 use Rattle.laws.proofs.Lists.{within-below}
 use Rattle.laws.proofs.Bounded.{bool?, lt?, eq?, and-l, and-r, not-of, all-elem, allBelow-at, count-hit, count-miss, count-same, gathered-hit, gathered-miss}
 
@@ -314,6 +314,66 @@ entry-marked entry others i k bits after s m u =
     (λ (z : isEmpty (entry i) ≡ false).
     marked-more (withEntries entry i others) bits after (sectorOf (entry i)) m (u ∙ ap (λ (x : ℕ). updated bits x true) s)
     ∙ ap usedBy (sym (gathered-hit taken sector others i (ap not z)))) (bool? (isEmpty (entry i))))
+
+-- Marks, one after the other and in any order.
+twice : (a b c : Bool) → cond a true (cond b true c) ≡ cond b true (cond a true c)
+twice true true c = refl
+twice true false c = refl
+twice false true c = refl
+twice false false c = refl
+
+pub marked-next : (sector : ℕ → ℕ) (i : ℕ) (first bits after : ℕ → Bool) (k : ℕ) → k ≡ sector i → bits ≡ marked sector i first → after ≡ updated bits k true
+    → after ≡ marked sector (i + 1) first
+unfolding marked
+marked-next sector i first bits after k s m u =
+    rw add-one (u ∙ ap (λ (x : ℕ). updated bits x true) s ∙ ap (λ (b : ℕ → Bool). updated b (sector i) true) m)
+
+marked-past : (sector : ℕ → ℕ) (m : ℕ) (bits : ℕ → Bool) (x : ℕ) → updated (marked sector m bits) x true ≡ marked sector m (updated bits x true)
+unfolding marked
+marked-past sector zero bits x = refl
+marked-past sector (suc m) bits x =
+    fun-ext (λ k. twice (eqb k x) (eqb k (sector m)) (marked sector m bits k))
+    ∙ ap (λ (b : ℕ → Bool). updated b (sector m) true) (marked-past sector m bits x)
+
+-- The lower half, and the upper.
+module _ (sector : ℕ → ℕ) (half : ℕ) where
+  pub upper : ℕ → ℕ
+  upper j = sector (half + j)
+
+  abbrev pub Halves : ℕ → (ℕ → Bool) → (ℕ → Bool) → Type 0
+  Halves i first bits = bits ≡ marked upper i (marked sector i first)
+
+  pub halves-start : (first : ℕ → Bool) → Halves 0 first first
+  unfolding marked
+  halves-start first = refl
+
+  pub halves-next : (i : ℕ) (first bits once after : ℕ → Bool) (k j : ℕ) → k ≡ sector i → j ≡ sector (half + i)
+      → Halves i first bits → once ≡ updated bits k true → after ≡ updated once j true → Halves (i + 1) first after
+  unfolding marked upper
+  halves-next i first bits once after k j s t h u v =
+      let low : once ≡ marked upper i (marked sector (suc i) first) =
+      u ∙ ap (λ (x : ℕ). updated bits x true) s ∙ ap (λ (b : ℕ → Bool). updated b (sector i) true) h ∙ marked-past upper i (marked sector i first) (sector i) in
+      rw add-one (v ∙ ap (λ (x : ℕ). updated once x true) t ∙ ap (λ (b : ℕ → Bool). updated b (sector (half + i)) true) low)
+
+  joined : (i : ℕ) (first : ℕ → Bool) → marked upper i (marked sector half first) ≡ marked sector (half + i) first
+  unfolding marked upper
+  joined zero first = ap (λ (x : ℕ). marked sector x first) (let e : half ≡ half + 0 = omega arith in e)
+  joined (suc i) first =
+      ap (λ (b : ℕ → Bool). updated b (sector (half + i)) true) (joined i first)
+      ∙ ap (λ (x : ℕ). marked sector x first) (let e : suc (half + i) ≡ half + suc i = omega arith in e)
+
+  pub halves-end : (i : ℕ) (first bits : ℕ → Bool) → i ≡ half → Halves i first bits → bits ≡ marked sector (half + half) first
+  halves-end i first bits e h =
+      h ∙ ap (λ (x : ℕ). marked upper x (marked sector x first)) e ∙ joined half first
+
+-- Marked so, the bits are those of the entries.
+pub entries-marked : (entry : ℕ → ℕ) (others : List ℕ) (m : ℕ) → marked (λ b. sectorOf (entry b)) m (usedBy others) ≡ usedBy (withEntries entry m others)
+unfolding marked
+entries-marked entry others zero = entries-start entry others (usedBy others) refl
+entries-marked entry others (suc m) =
+    rw (sym (add-one m))
+    (entry-marked entry others m (sectorOf (entry m)) (marked (λ b. sectorOf (entry b)) m (usedBy others)) (updated (marked (λ b. sectorOf (entry b)) m (usedBy others)) (sectorOf (entry m)) true)
+    refl (entries-marked entry others m) refl)
 
 pub entry-passed : (entry : ℕ → ℕ) (others : List ℕ) (i : ℕ) (bits : ℕ → Bool) → entry i ≡ 0
     → bits ≡ usedBy (withEntries entry i others) → bits ≡ usedBy (withEntries entry (i + 1) others)

@@ -1,15 +1,15 @@
 // The sectors that tables name, marked in a bit map. That none is named twice shows in how many bits are then set.
 ghost use mathlib.Core.Path.{_≡_};
-ghost use mathlib.Core.Bool.{true, cond};
+ghost use mathlib.Core.Bool.{Bool, true, cond};
 ghost use mathlib.Core.List.{List, []};
-ghost use Prim.Native.Nat.{ℕ, suc, _*_, _-_, _/_, _%_, _^_, _≤_, _<_};
+ghost use Prim.Native.Nat.{ℕ, suc, _+_, _*_, _-_, _/_, _%_, _^_, _≤_, _<_};
 ghost use lib.ListN.{length, replicate};
 ghost use lib.Dec.{eqb};
 ghost use Rattle.geometry.specs.Geometry.{within, mostBlocks, piecesFor};
 ghost use Rattle.layout.specs.Bounded.{at, countBelow, all, always, gathered};
 ghost use Rattle.layout.specs.Entry.{isEmpty, sectorOf};
 ghost use Rattle.volume.specs.Tables.{bitAt, namedBy, usedBy};
-ghost use Rattle.names.specs.Marked.{withEntries};
+ghost use Rattle.names.specs.Marked.{withEntries, marked};
 use geometry::Geometry;
 
 // Whether every named sector is one from 1 to n - 1, and then how many names there are.
@@ -115,18 +115,46 @@ fn mark_places(marks: &mut [u8], places: &[u32])
     }
 }
 
+// Marks the sectors of the first entries, twice `half` of them. Neighbours are often in one byte, and each would wait for the one before
+// to be stored: so one of the lower half and one of the upper are marked in turn.
+fn mark_halves(marks: &mut [u8], map: &[u32], half: usize)
+    requires { ⌜ half + half ≤ length (now map) ⌝ }
+    requires { ⌜ ((b : ℕ) → b < length (now map) → sectorOf (at (now map) b) < 8 * length (now marks)) ⌝ }
+    ensures { λ _. ⌜ bitAt (now (marks .exit)) ≡ marked (λ b. sectorOf (at (now (map .entry)) b)) (half + half) (bitAt (now (marks .entry))) ⌝ }
+{
+    let mut i = 0;
+    while i < half {
+        let lower = blocks::sector_of(map[i]);
+        bits::set_bit(marks, lower as usize);
+        let upper = blocks::sector_of(map[half + i]);
+        bits::set_bit(marks, upper as usize);
+        i += 1;
+    }
+}
+
+// Marks the sectors of the entries from one on.
+fn mark_rest(marks: &mut [u8], map: &[u32], from: usize)
+    requires { ⌜ from ≤ length (now map) ⌝ }
+    requires { ⌜ ((b : ℕ) → b < length (now map) → sectorOf (at (now map) b) < 8 * length (now marks)) ⌝ }
+    ensures { λ _. ⌜ ((first : ℕ → Bool) → bitAt (now (marks .entry)) ≡ marked (λ b. sectorOf (at (now (map .entry)) b)) from first → bitAt (now (marks .exit)) ≡ marked (λ b. sectorOf (at (now (map .entry)) b)) (length (now (map .entry))) first) ⌝ }
+{
+    let mut i = from;
+    while i < map.len() {
+        let k = blocks::sector_of(map[i]);
+        bits::set_bit(marks, k as usize);
+        i += 1;
+    }
+}
+
 // Marks the sectors of the entries beside others. An empty entry says sector 0, which is marked at all times, so that no entry is
 // tested.
 fn mark_entries(marks: &mut [u8], map: &[u32])
     requires { ⌜ ((b : ℕ) → b < length (now map) → sectorOf (at (now map) b) < 8 * length (now marks)) ⌝ }
     ensures { λ _. ⌜ ((others : List ℕ) → bitAt (now (marks .entry)) ≡ usedBy others → bitAt (now (marks .exit)) ≡ usedBy (withEntries (at (now (map .entry))) (length (now (map .entry))) others)) ⌝ }
 {
-    let mut i = 0;
-    while i < map.len() {
-        let k = blocks::sector_of(map[i]);
-        bits::set_bit(marks, k as usize);
-        i += 1;
-    }
+    let half = map.len() / 2;
+    mark_halves(marks, map, half);
+    mark_rest(marks, map, half + half);
 }
 
 // The same, where most entries are empty: these are passed over, since all would mark sector 0, each after the other.
