@@ -73,16 +73,20 @@ module _ (s : State) (im mp pl nu us : List ℕ) (head : ℕ) (blocks : List ℕ
   unfolding planned
   data-are = refl
 
-  -- The piece of the first block is written.
-  members-some : 1 ≤ the-plan .members
+  -- The piece of a named block is written.
+  piece-inside : (i : ℕ) → i < length blocks → pieceOf (at blocks i) < piecesFor (s .geometry .l)
+  piece-inside i h = let inside = p .inside i h in omega arith
+
+  touched-written : (i : ℕ) → i < length blocks → the-plan .written (pieceOf (at blocks i)) ≡ true
   unfolding touches
+  touched-written i h =
+      let q = pieceOf (at blocks i) in
+      written-in q (piece-inside i h) (anyBelow-is (λ i. eqb (pieceOf (at blocks i)) q) (length blocks) i h (eq-eqb q q refl))
+
+  members-some : 1 ≤ the-plan .members
   members-some =
       let low = p .low in
-      let inside = p .inside 0 (omega arith) in
-      let q = pieceOf (at blocks 0) in
-      let below : q < piecesFor (s .geometry .l) = omega arith in
-      let one = count-before (the-plan .written) q (piecesFor (s .geometry .l)) below
-      (written-in q below (anyBelow-is (λ i. eqb (pieceOf (at blocks i)) q) (length blocks) 0 (omega arith) (eq-eqb q q refl))) in
+      let one = count-before (the-plan .written) (pieceOf (at blocks 0)) (piecesFor (s .geometry .l)) (piece-inside 0 (omega arith)) (touched-written 0 (omega arith)) in
       let e = members-are in
       omega arith
 
@@ -185,7 +189,8 @@ module _ (s : State) (im mp pl nu us : List ℕ) (head : ℕ) (blocks : List ℕ
           let high = p .high in
           record {
             inside = p .inside;
-            apart = p .apart;
+            ascending = p .ascending;
+            touched = λ i h. ap (λ (f : ℕ → Bool). f (pieceOf (at blocks i))) flags ∙ touched-written i h;
             enough = omega arith;
             few = few-data;
             full = λ i h. ap isEmpty (news-here i h) ∙ entry-full (sectorAt bytes i) (at ts i) (ts-low i (omega arith));

@@ -4,9 +4,10 @@ ghost use mathlib.Core.List.{_++_};
 ghost use Prim.Native.Nat.{ℕ, _+_, _*_, _≤_, _<_, _^_};
 ghost use lib.ListN.{length, drop};
 ghost use Rattle.geometry.specs.Geometry.{sectorBytes, entriesPerPiece};
-ghost use Rattle.layout.specs.Bounded.{at, listFrom, updated, updates};
+ghost use Rattle.layout.specs.Bounded.{at, listFrom, updates};
 ghost use Rattle.layout.specs.Entry.{entryFor};
 ghost use Rattle.volume.specs.Tables.{sectorAt, pieceEntries};
+ghost use Rattle.entries.specs.Cursor.{Cursor};
 use geometry::Geometry;
 
 // The entry of each block that is written: the place of its data sector, with bit 31 set where it is flipped.
@@ -40,32 +41,36 @@ fn copy_piece(map: &[u32], p: u32, entries: &mut [u32])
     }
 }
 
-// Puts the new entry of block b into the entries of piece p, if it is in that piece.
-fn change_entry(entries: &mut [u32], p: u32, b: u32, entry: u32, l: u32)
-    requires { ⌜ length (now entries) ≡ entriesPerPiece ⌝ }
-    requires { ⌜ b < l ⌝ }
-    ensures { λ _. ⌜ ((f : ℕ → ℕ) → now (entries .entry) ≡ pieceEntries l f p → now (entries .exit) ≡ pieceEntries l (updated f b entry) p) ⌝ }
-{
-    if Geometry::piece_of(b) != p {
-        return;
-    }
-    let i = Geometry::index_of(b) as usize;
-    entries[i] = entry;
-}
-
-// The entries of piece p after the change of the named blocks.
-pub fn changed_piece(map: &[u32], l: u32, p: u32, blocks: &[u32], news: &[u32], entries: &mut [u32])
+// The entries of piece p after the change of the named blocks. Its blocks stand from `from` on; answers where they end.
+pub fn changed_piece(
+    map: &[u32],
+    l: u32,
+    p: u32,
+    blocks: &[u32],
+    news: &[u32],
+    entries: &mut [u32],
+    from: usize,
+) -> usize
     requires { ⌜ length (now map) ≡ l ⌝ }
     requires { ⌜ p < 256 ⌝ }
     requires { ⌜ length (now blocks) ≤ length (now news) ⌝ }
     requires { ⌜ length (now entries) ≡ entriesPerPiece ⌝ }
     requires { ⌜ ((i : ℕ) → i < length (now blocks) → at (now blocks) i < l) ⌝ }
-    ensures { λ _. ⌜ now (entries .exit) ≡ pieceEntries l (updates (at (now (map .entry))) (at (now (blocks .entry))) (at (now (news .entry))) (length (now (blocks .entry)))) p ⌝ }
+    requires { ⌜ Cursor (now blocks) p from ⌝ }
+    ensures { λ r. ⌜ Cursor (now (blocks .entry)) (p + 1) r × (now (entries .exit) ≡ pieceEntries l (updates (at (now (map .entry))) (at (now (blocks .entry))) (at (now (news .entry))) (length (now (blocks .entry)))) p) ⌝ }
 {
     copy_piece(map, p, entries);
-    let mut i = 0;
+    let first = Geometry::ENTRIES * p;
+    let end = first + Geometry::ENTRIES;
+    let mut i = from;
     while i < blocks.len() {
-        change_entry(entries, p, blocks[i], news[i], l);
+        let b = blocks[i];
+        if end <= b {
+            return i;
+        }
+        let here = (b - first) as usize;
+        entries[here] = news[i];
         i += 1;
     }
+    i
 }

@@ -40,7 +40,7 @@ use Rattle.history.proofs.Clearing.{view-parked}
 use Rattle.history.proofs.Plan.{Given}
 use Rattle.history.proofs.Recovery.{Finds, recovers}
 use Rattle.laws.proofs.Judged.{verdict?, cleared, not-false, performed-cut, performed-whole}
-use Rattle.laws.proofs.CommitPassed.{CommitPassed, commit-passed}
+use Rattle.laws.proofs.CommitPassed.{CommitPassed, all-apart, commit-passed}
 use Rattle.history.proofs.Steps.{refused-not, Standing, running, parked, cut, Sized, sized-with, Step, commit-step}
 
 -- A refused call.
@@ -108,7 +108,7 @@ module _ (rules : Rules) (law : Choosing rules) (g : Geometry) (fit : Fits g) wh
           inside = c .named .inside;
           some = c .named .some;
           blocks = c .named .below;
-          apart = c .named .apart;
+          apart = all-apart blocks (c .named .ascending);
           few = omega arith;
           unsigned = λ i h. stored-unsigned g (sectorAt bytes i);
           full = λ i k h low high. entry-full (sectorAt bytes i) k low;
@@ -135,7 +135,7 @@ module _ (rules : Rules) (law : Choosing rules) (g : Geometry) (fit : Fits g) wh
           inside = c .named .inside;
           some = c .named .some;
           blocks = c .named .below;
-          apart = c .named .apart;
+          apart = all-apart blocks (c .named .ascending);
           few = omega arith;
           unsigned = λ i h. absurd (not-suc-le-zero h);
           full = λ i k h low high. absurd (not-suc-le-zero h);

@@ -31,11 +31,14 @@ ascends xs a i (suc j) h b =
     let step = ltb-true (at xs j) (at xs (suc j)) (allBelow-at (λ k. ltb (at xs k) (at xs (suc k))) (length xs - 1) a j (omega arith)) in
     ⊎-elim (λ (z : i ≡ j). rw z step) (λ (z : i < j). let r = ascends xs a i j z (omega arith) in omega arith) (suc-cases h)
 
+pub all-apart : (xs : List ℕ) → ((i j : ℕ) → i < j → j < length xs → at xs i < at xs j) → (i j : ℕ) → i < j → j < length xs → at xs i ≡ at xs j → ⊥
+all-apart xs a i j h b z = let r = a i j h b in omega arith
+
 pub record BlocksFit (g : Geometry) (head : ℕ) (blocks : List ℕ) : Type 0 where
   pub some : 1 ≤ length blocks
   pub most : length blocks ≤ 64
   pub below : (i : ℕ) → i < length blocks → at blocks i < g .l
-  pub apart : (i j : ℕ) → i < j → j < length blocks → at blocks i ≡ at blocks j → ⊥
+  pub ascending : (i j : ℕ) → i < j → j < length blocks → at blocks i < at blocks j
   pub inside : head < g .n
 
 pub blocks-fit : (g : Geometry) (head : ℕ) (blocks : List ℕ) → blocksFit g head blocks ≡ true → BlocksFit g head blocks
@@ -52,7 +55,7 @@ blocks-fit g head blocks e =
       some = leb-true 1 (length blocks) (and-l (leb 1 (length blocks)) (leb (length blocks) 64) e1);
       most = leb-true (length blocks) 64 (and-r (leb 1 (length blocks)) (leb (length blocks) 64) e1);
       below = λ i h. ltb-true (at blocks i) (g .l) (all-at (λ b. ltb b (g .l)) blocks i (and-r (a1 && a2) a3 e3) h);
-      apart = λ i j h b z. let r = ascends blocks (and-r a1 a2 e2) i j h b in omega arith;
+      ascending = ascends blocks (and-r a1 a2 e2);
       inside = ltb-true head (g .n) (and-r (a1 && a2 && a3) a4 e);
     }
 

@@ -6,7 +6,7 @@ use mathlib.Core.List.{List, []}
 use lib.ListN.{length, take}
 use lib.Dec.{eqb}
 use Rattle.geometry.specs.declared.Geometry.{Geometry}
-use Rattle.geometry.specs.Geometry.{piecesFor}
+use Rattle.geometry.specs.Geometry.{piecesFor, pieceOf}
 use Rattle.layout.specs.Bounded.{at, anyBelow, countBelow, tabled}
 use Rattle.layout.specs.Word.{wordsOf}
 use Rattle.layout.specs.MapSector.{valid}
@@ -56,12 +56,13 @@ blockStore places bytes i = record { sector = at places i; bytes = stored (secto
 unfoldable pub without : (ℕ → Bool) → (ℕ → Bool) → (ℕ → ℕ) → ℕ → ℕ → Bool
 without bits test sector n k = bits k && not (anyBelow (λ i. test i && eqb k (sector i)) n)
 
--- What the change of the tables relies on: the named blocks are below L and all different; each data sector's block gets an
--- entry that names it, and each other block is emptied; as many sectors are taken as are written, and they are below N; the
--- flags past P are clear; and the numbers suffice.
+-- What the stores and the change of the tables rely on: the named blocks are below L and ascend, and their pieces are
+-- flagged; each data sector's block gets an entry that names it, and each other block is emptied; as many sectors are taken
+-- as are written, and they are below N; the flags past P are clear; and the numbers suffice.
 pub record Settling (g : Geometry) (number : ℕ) (blocks entries taken : List ℕ) (dataSectors : ℕ) (written : List ℕ) : Type 0 where
   pub inside : (i : ℕ) → i < length blocks → at blocks i < g .l
-  pub apart : (i j : ℕ) → i < j → j < length blocks → at blocks i ≡ at blocks j → ⊥
+  pub ascending : (i j : ℕ) → i < j → j < length blocks → at blocks i < at blocks j
+  pub touched : (i : ℕ) → i < length blocks → flagged written (pieceOf (at blocks i)) ≡ true
   pub enough : length blocks ≤ length entries
   pub few : dataSectors ≤ length blocks
   pub full : (i : ℕ) → i < dataSectors → isEmpty (at entries i) ≡ false

@@ -19,6 +19,7 @@ use Rattle.volume.specs.Commit.{rank, memberPlace, changedEntries, committedTab
 use Rattle.laws.proofs.Bounded.{bool?, lt?, clash, and-l, and-r, and-i, or-cases, or-l, or-r, or-none, not-is, not-of, cond-true, cond-false, updates-other, updates-at, anyBelow-at, anyBelow-is, count-before, count-nth, not-elem}
 use Rattle.laws.proofs.Names.{Name, piece, block, Named, sectorNamed, named-elem, elem-named, Sound, sound}
 use Rattle.laws.proofs.Sizes.{fits}
+use Rattle.laws.proofs.CommitPassed.{all-apart}
 use Rattle.pieces.specs.Arrays.{flagged, without, planOf, changeOf, Settling}
 
 alike : (a b : Bool) → (a ≡ true → b ≡ true) → (b ≡ true → a ≡ true) → a ≡ b
@@ -42,7 +43,7 @@ module _ (g : Geometry) (tail number : ℕ) (mp pl nu us blocks news taken writt
   after = namedBy (g .l) entry′ place′
 
   entry-named : (i : ℕ) → i < length blocks → entry′ (at blocks i) ≡ at news i
-  entry-named i h = updates-at (at mp) (at blocks) (at news) (length blocks) i h (gg .apart)
+  entry-named i h = updates-at (at mp) (at blocks) (at news) (length blocks) i h (all-apart blocks (gg .ascending))
 
   entry-other : (b : ℕ) → ((i : ℕ) → i < length blocks → at blocks i ≡ b → ⊥) → entry′ b ≡ at mp b
   entry-other b d = updates-other (at mp) (at blocks) (at news) (length blocks) b d

@@ -1,27 +1,30 @@
 -- A member as the code makes it is the member of the definition.
-use Prim.Native.Nat.{ℕ, suc, _+_, _-_}
+use Prim.Native.Nat.{ℕ, suc, _+_, _*_, _-_, _≤_, _<_}
 use mathlib.Core.Path.{_≡_, sym, _∙_, ap}
+use mathlib.Core.Logic.{⊎-elim}
 use mathlib.Core.Bool.{Bool, true, false, cond}
 use mathlib.Core.List.{List, [], _∷_, _++_}
+use native.Mathlib.Nat.{not-suc-le-zero}
 use native.Mathlib.Numerals.{add-one}
 use native.Mathlib.Omega.{arith}
 use lib.ListN.{length, take}
 use lib.Dec.{eqb}
-use borrow.Author.Tests.{eq-eqb, ne-eqb}
+use borrow.Author.Tests.{eqb-true, eq-eqb, ne-eqb}
 use Rattle.state.specs.declared.State.{State}
-use Rattle.geometry.specs.Geometry.{piecesFor}
+use Rattle.geometry.specs.Geometry.{piecesFor, pieceOf}
 use Rattle.layout.specs.Bounded.{at, always, isZero, countBelow, updated, updates}
 use Rattle.layout.specs.MapSector.{encoded}
 use Rattle.volume.specs.Tables.{tablesOf, pieceEntries}
 use Rattle.volume.specs.Store.{Store, applied, storesBelow}
 use Rattle.volume.specs.Commit.{rank, memberPlace, changedEntries, committedTables, member, memberStore}
-use Rattle.laws.proofs.Bounded.{cond-true, cond-false, count-hit, count-miss}
+use Rattle.laws.proofs.Bounded.{lt?, cond-true, cond-false, count-hit, count-miss}
 use Rattle.laws.proofs.Stores.{below-length}
 use Rattle.power.specs.declared.allowance.Power.{Power}
 use Rattle.power.specs.declared.allowance.Power.the-variants.{Left, Failed}
 use Rattle.power.specs.Power.{powered}
 use Rattle.power.proofs.Runs.{first-fails, second-runs}
 use Rattle.pieces.specs.Arrays.{flagged, planOf, changeOf, blockStore}
+use Rattle.entries.specs.Cursor.{Cursor}
 
 same-sector : (l p : ℕ) (n n′ : ℕ) (c c′ : Bool) (b b′ e e′ : List ℕ) → n ≡ n′ → c ≡ c′ → b ≡ b′ → e ≡ e′
     → encoded l (record { number = n; piece = p; closing = c; branches = b; entries = e })
@@ -44,10 +47,10 @@ module _ (l number p members j count : ℕ) (branches taken : List ℕ) (es fs :
         entries = fs;
       })
 
-  pub first-member : j ≡ 0 → encoded l (record { number = number + 1; piece = p; closing = eqb 1 members; branches = branches; entries = es }) ≡ made
+  pub first-member : j ≡ 0 → encoded l (record { number = number + 1 + j; piece = p; closing = eqb (j + 1) members; branches = branches; entries = es }) ≡ made
   first-member z =
-      same-sector l p (number + 1) (suc (number + j)) (eqb 1 members) (eqb (suc j) members) branches _ es fs (omega arith)
-      (ap (λ (x : ℕ). eqb (suc x) members) (sym z)) (sym (cond-true (isZero j) branches (at taken (count + (j - 1)) ∷ []) (eq-eqb j 0 z))) same
+      same-sector l p (number + 1 + j) (suc (number + j)) (eqb (j + 1) members) (eqb (suc j) members) branches _ es fs (omega arith)
+      (ap (λ (x : ℕ). eqb x members) (add-one j)) (sym (cond-true (isZero j) branches (at taken (count + (j - 1)) ∷ []) (eq-eqb j 0 z))) same
 
   pub later-member : (j ≡ 0 → ⊥)
       → encoded l (record { number = number + 1 + j; piece = p; closing = eqb (j + 1) members; branches = at taken (count + j - 1) ∷ []; entries = es })
@@ -106,6 +109,26 @@ is-flagged written p e = eq-eqb (at written p) 1 e
 pub not-flagged : (written : List ℕ) (p : ℕ) → (at written p ≡ 1 → ⊥) → flagged written p ≡ false
 unfolding flagged
 not-flagged written p d = ne-eqb (at written p) 1 d
+
+-- No block is behind the cursor of piece 0, and none is of a piece that is not flagged.
+pub cursor-starts : (blocks : List ℕ) → ((i j : ℕ) → i < j → j < length blocks → at blocks i < at blocks j) → Cursor blocks 0 0
+cursor-starts blocks up = record { ascending = up; most = omega arith; behind = λ i h. absurd (not-suc-le-zero h); ahead = λ i h b. omega arith }
+
+pub cursor-skips : (blocks written : List ℕ) (p from : ℕ) → ((i : ℕ) → i < length blocks → flagged written (pieceOf (at blocks i)) ≡ true)
+    → (at written p ≡ 1 → ⊥) → Cursor blocks p from → Cursor blocks (p + 1) from
+unfolding flagged
+cursor-skips blocks written p from touched d c =
+    record {
+      ascending = c .ascending;
+      most = c .most;
+      behind = λ i h. let low = c .behind i h in omega arith;
+      ahead = λ i h b.
+          let low = c .ahead i h b in
+          ⊎-elim (λ (z : at blocks i < 96 * (p + 1)).
+          let e : pieceOf (at blocks i) ≡ p = omega arith in
+          absurd (d (ap (at written) (sym e) ∙ eqb-true (at written (pieceOf (at blocks i))) 1 (touched i b))))
+          (λ (z : 96 * (p + 1) ≤ at blocks i). z) (lt? (at blocks i) (96 * (p + 1)));
+    }
 
 -- Data, then members.
 module _ (s : State) (map blocks bytes news taken branches written : List ℕ) (count members allowance : ℕ) (before : ℕ → List ℕ) where

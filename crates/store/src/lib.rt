@@ -13,6 +13,7 @@ ghost use Rattle.volume.specs.Store.{applied, storesBelow};
 ghost use Rattle.volume.specs.Commit.{memberStore};
 ghost use Rattle.power.specs.Power.{powered};
 ghost use Rattle.pieces.specs.Arrays.{flagged, planOf, changeOf, blockStore};
+ghost use Rattle.entries.specs.Cursor.{Cursor};
 ghost use Rattle.store.specs.Ready.{Ready};
 use geometry::Geometry;
 use power::allowance::Power;
@@ -47,7 +48,8 @@ fn store_data(
     Power::Left(left)
 }
 
-// The j-th member, of piece p. Each after the first has one branch, to the member before; the last one closes.
+// The j-th member, of piece p. Each after the first has one branch, to the member before; the last one closes. The piece's
+// blocks stand from `from` on; answers where they end.
 fn store_member(
     s: State,
     image: &mut [u8],
@@ -60,7 +62,8 @@ fn store_member(
     members: u32,
     p: u32,
     j: u32,
-)
+    from: usize,
+) -> usize
     requires { ⌜ length (now image) ≡ sectorBytes * s .geometry .n ⌝ }
     requires { ⌜ length (now map) ≡ s .geometry .l ⌝ }
     requires { ⌜ length (now blocks) ≤ length (now news) ⌝ }
@@ -71,29 +74,24 @@ fn store_member(
     requires { ⌜ s .number + members < 2 ^ 32 ⌝ }
     requires { ⌜ j < members ⌝ }
     requires { ⌜ p < 256 ⌝ }
-    ensures { λ _. ⌜ sectorAt (now (image .exit)) ≡ updated (sectorAt (now (image .entry))) (at (now (taken .entry)) (count + j)) (encoded (s .geometry .l) (record { number = suc (s .number + j); piece = p; closing = eqb (suc j) members; branches = cond (isZero j) (now (branches .entry)) (at (now (taken .entry)) (count + (j - 1)) ∷ []); entries = pieceEntries (s .geometry .l) (updates (at (now (map .entry))) (at (now (blocks .entry))) (at (now (news .entry))) (length (now (blocks .entry)))) p })) ⌝ }
+    requires { ⌜ Cursor (now blocks) p from ⌝ }
+    ensures { λ r. ⌜ Cursor (now (blocks .entry)) (p + 1) r × (sectorAt (now (image .exit)) ≡ updated (sectorAt (now (image .entry))) (at (now (taken .entry)) (count + j)) (encoded (s .geometry .l) (record { number = suc (s .number + j); piece = p; closing = eqb (suc j) members; branches = cond (isZero j) (now (branches .entry)) (at (now (taken .entry)) (count + (j - 1)) ∷ []); entries = pieceEntries (s .geometry .l) (updates (at (now (map .entry))) (at (now (blocks .entry))) (at (now (news .entry))) (length (now (blocks .entry)))) p }))) ⌝ }
 {
     let l = s.geometry.l;
-    let first = s.number + 1;
-    let mut entries = [0u32; 96];
-    entries::changed_piece(map, l, p, blocks, news, &mut entries);
+    let number = s.number + 1 + j;
+    let closing = j + 1 == members;
     let place = (count as usize) + (j as usize);
     let k = taken[place] as usize;
+    let mut entries = [0u32; 96];
+    let next = entries::changed_piece(map, l, p, blocks, news, &mut entries, from);
     if j == 0 {
-        images::store_map(image, k, l, first, p, 1 == members, branches, &entries);
-        return;
+        images::store_map(image, k, l, number, p, closing, branches, &entries);
+        return next;
     }
-    let before = [taken[place - 1]];
-    images::store_map(
-        image,
-        k,
-        l,
-        first + j,
-        p,
-        j + 1 == members,
-        &before,
-        &entries,
-    );
+    let last = taken[place - 1];
+    let before = [last];
+    images::store_map(image, k, l, number, p, closing, &before, &entries);
+    next
 }
 
 // The members, by piece.
@@ -117,6 +115,7 @@ fn store_members(
     let pieces = Geometry::pieces_for(s.geometry.l);
     let mut left = allowance;
     let mut j: u32 = 0;
+    let mut from: usize = 0;
     let mut p: u32 = 0;
     'pieces: while p < pieces {
         if written[p as usize] != 1 {
@@ -126,7 +125,7 @@ fn store_members(
         if left == 0 {
             return Power::Failed;
         }
-        store_member(
+        from = store_member(
             s,
             image,
             map,
@@ -138,6 +137,7 @@ fn store_members(
             members,
             p,
             j,
+            from,
         );
         left -= 1;
         j += 1;

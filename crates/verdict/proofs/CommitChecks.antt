@@ -130,7 +130,7 @@ pub record Passed (s : State) (im mp pl nu us : List ℕ) (head : ℕ) (blocks :
   pub used : length us ≡ usedBytes (s .geometry .n)
   pub low : 1 ≤ length blocks
   pub high : length blocks ≤ 64
-  pub apart : (i j : ℕ) → i < j → j < length blocks → at blocks i ≡ at blocks j → ⊥
+  pub ascending : (i j : ℕ) → i < j → j < length blocks → at blocks i < at blocks j
   pub inside : (i : ℕ) → i < length blocks → at blocks i < s .geometry .l
   pub head-below : head < s .geometry .n
   pub sound-tables : consistent (s .geometry) (tablesOf mp pl nu us) (s .tail) (s .number) ≡ true
@@ -179,7 +179,7 @@ passed s im mp pl nu us head blocks count e =
       used = tables .used;
       low = named .some;
       high = named .most;
-      apart = named .apart;
+      ascending = named .ascending;
       inside = named .below;
       head-below = named .inside;
       sound-tables = agree;

@@ -24,6 +24,8 @@ store-requires c κs =
         record {
           whole = r .1 .1 .0;
           enough = g .enough;
+          ascending = g .ascending;
+          touched = g .touched;
           inside = g .inside;
           below = g .below;
           taken-all = omega arith;

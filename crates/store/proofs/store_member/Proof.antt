@@ -11,16 +11,14 @@ use Rattle.store.proofs.store_member.Tie as tie
 use Rattle.entries.proofs.changed_piece.Reads as changed-piece-reads
 use Rattle.images.proofs.store_map.Reads as store-map-reads
 
-add-first : tie.Need-add-first
-add-first c = search needs
+add-number : tie.Need-add-number
+add-number c = search needs
 
-slice-aggregate-changed-piece : tie.Need-slice-aggregate-changed-piece
-slice-aggregate-changed-piece c = search needs
+add-number-2 : tie.Need-add-number-2
+add-number-2 c = search needs
 
-changed-piece-requires : tie.Need-changed-piece-requires
-changed-piece-requires c κs =
-    let the-pre = c .before .before .before .before .before .before .before .before .pre in
-    (the-pre .1 .0, (the-pre .1 .1 .1 .1 .1 .1 .1 .1 .1, (the-pre .1 .1 .0, (refl, the-pre .1 .1 .1 .0))))
+add-closing : tie.Need-add-closing
+add-closing c = search needs
 
 add-place : tie.Need-add-place
 add-place c = search needs
@@ -33,17 +31,26 @@ shared-slice-read-k c = search needs
 
 cast-k : tie.Need-cast-k
 cast-k c =
-    let the-pre = c .before .before .before .before .before .before .before .before .before .before .before .pre in
-    let a = c .before .before .before .before .before .before .before .before .before .before .before .args in
+    let the-pre = c .before .before .before .before .before .before .before .before .pre in
+    let a = c .before .before .before .before .before .before .before .before .args in
     let k = the-pre .1 .1 .1 .1 .0 (a .count + a .j) (omega arith) in
     omega arith
+
+slice-aggregate-changed-piece : tie.Need-slice-aggregate-changed-piece
+slice-aggregate-changed-piece c = search needs
+
+changed-piece-requires : tie.Need-changed-piece-requires
+changed-piece-requires c κs =
+    let the-pre = c .before .before .before .before .before .before .before .before .before .pre in
+    let last = the-pre .1 .1 .1 .1 .1 .1 .1 .1 .1 in
+    (the-pre .1 .0, (last .0, (the-pre .1 .1 .0, (refl, (the-pre .1 .1 .1 .0, last .1)))))
 
 slice-aggregate-store-map : tie.Need-slice-aggregate-store-map
 slice-aggregate-store-map c = search needs
 
 store-map-requires : tie.Need-store-map-requires
 store-map-requires c κs =
-    let the-changed-piece = c .before .before .before .before .before .changed-piece in
+    let the-changed-piece = c .before .before .before .before .changed-piece in
     let the-pre = c .before .before .before .before .before .before .before .before .before .before .before .before .before .before .pre in
     let a = c .before .before .before .before .before .before .before .before .before .before .before .before .before .before .args in
     let k = the-pre .1 .1 .1 .1 .0 (a .count + a .j) (omega arith) in
@@ -56,27 +63,22 @@ returns : tie.Need-returns
 returns c =
     let the-store-map = c .before .before .store-map in
     let the-if1 = c .before .before .before .before .before .if1 in
-    let the-changed-piece = c .before .before .before .before .before .before .before .before .changed-piece in
-    let a = c .before .before .before .before .before .before .before .before .before .before .before .before .before .before .before .before .before .args in
-    the-store-map .ensures ∙ ap (updated (sectorAt (a .image .now)) (at (a .taken .now) (a .count + a .j))) (first-member (a .s .geometry .l) (a .s .number) (a .p) (a .members) (a .j) (a .count) (a .branches .now) (a .taken .now) _ _ (the-changed-piece .ensures) (the-if1 .taken))
+    let the-changed-piece = c .before .before .before .before .before .before .before .changed-piece in
+    let a = c .before .before .before .before .before .before .before .before .before .before .before .before .before .before .before .before .before .args in (
+      the-changed-piece .ensures .0,
+      the-store-map .ensures ∙ ap (updated (sectorAt (a .image .now)) (at (a .taken .now) (a .count + a .j)))
+          (first-member (a .s .geometry .l) (a .s .number) (a .p) (a .members) (a .j) (a .count) (a .branches .now) (a .taken .now) _ _ (the-changed-piece .ensures .1) (the-if1 .taken)),
+    )
 
-sub-store-map : tie.Need-sub-store-map
-sub-store-map c = search needs
+sub-last : tie.Need-sub-last
+sub-last c = search needs
 
-mul-store-map : tie.Need-mul-store-map
-mul-store-map c = search needs
+mul-last : tie.Need-mul-last
+mul-last c = search needs
 
-shared-slice-read-store-map : tie.Need-shared-slice-read-store-map
-shared-slice-read-store-map c = search needs
-
-add-store-map : tie.Need-add-store-map
-add-store-map c =
-    let the-pre = c .before .before .before .before .before .before .before .before .before .before .before .before .before .before .pre in
-    omega arith
-
-add-store-map-2 : tie.Need-add-store-map-2
-add-store-map-2 c =
-    let the-pre = c .before .before .before .before .before .before .before .before .before .before .before .before .before .before .pre in
+shared-slice-read-last : tie.Need-shared-slice-read-last
+shared-slice-read-last c =
+    let the-pre = c .before .before .before .before .before .before .before .before .before .before .before .before .before .pre in
     omega arith
 
 slice-aggregate-store-map-2 : tie.Need-slice-aggregate-store-map-2
@@ -87,7 +89,7 @@ slice-aggregate-store-map-3 c = search needs
 
 store-map-requires-2 : tie.Need-store-map-requires-2
 store-map-requires-2 c κs =
-    let the-changed-piece = c .before .before .before .before .before .before .before .changed-piece in
+    let the-changed-piece = c .before .before .before .before .before .before .changed-piece in
     let the-pre = c .before .before .before .before .before .before .before .before .before .before .before .before .before .before .before .before .pre in
     let a = c .before .before .before .before .before .before .before .before .before .before .before .before .before .before .before .before .args in
     let k = the-pre .1 .1 .1 .1 .0 (a .count + a .j) (omega arith) in
@@ -100,30 +102,33 @@ returns-2 : tie.Need-returns-2
 returns-2 c =
     let the-store-map2 = c .before .before .store-map2 in
     let the-if1 = c .before .before .before .before .before .before .before .if1 in
-    let the-changed-piece = c .before .before .before .before .before .before .before .before .before .before .changed-piece in
-    let a = c .before .before .before .before .before .before .before .before .before .before .before .before .before .before .before .before .before .before .before .args in
-    the-store-map2 .ensures ∙ ap (updated (sectorAt (a .image .now)) (at (a .taken .now) (a .count + a .j))) (later-member (a .s .geometry .l) (a .s .number) (a .p) (a .members) (a .j) (a .count) (a .branches .now) (a .taken .now) _ _ (the-changed-piece .ensures) (the-if1 .left))
+    let the-changed-piece = c .before .before .before .before .before .before .before .before .before .changed-piece in
+    let a = c .before .before .before .before .before .before .before .before .before .before .before .before .before .before .before .before .before .before .before .args in (
+      the-changed-piece .ensures .0,
+      the-store-map2 .ensures ∙ ap (updated (sectorAt (a .image .now)) (at (a .taken .now) (a .count + a .j)))
+          (later-member (a .s .geometry .l) (a .s .number) (a .p) (a .members) (a .j) (a .count) (a .branches .now) (a .taken .now) _ _ (the-changed-piece .ensures .1) (the-if1 .left)),
+    )
 
 pub store-member-spec : {M : Type 1} → statement M
 store-member-spec =
     tie.close
     (tie.spec
-    add-first
-    slice-aggregate-changed-piece
-    changed-piece-requires
+    add-number
+    add-number-2
+    add-closing
     add-place
     mul-k
     shared-slice-read-k
     cast-k
+    slice-aggregate-changed-piece
+    changed-piece-requires
     slice-aggregate-store-map
     store-map-requires
     same-length
     returns
-    sub-store-map
-    mul-store-map
-    shared-slice-read-store-map
-    add-store-map
-    add-store-map-2
+    sub-last
+    mul-last
+    shared-slice-read-last
     slice-aggregate-store-map-2
     slice-aggregate-store-map-3
     store-map-requires-2

@@ -1,4 +1,4 @@
--- The loop has made the members of the pieces below p; the next one's rank is j.
+-- The loop has made the members of the pieces below p; the next one's rank is j, and its blocks stand from `from` on.
 use borrow.Author.Needs.{needs}
 use Prim.Native.Nat.{ℕ, _-_, _≤_}
 use mathlib.Core.Path.{_≡_, refl, _∙_, subst}
@@ -12,26 +12,28 @@ use Rattle.power.proofs.Storing.{Storing, storing-starts, storing-skips, storin
 use Rattle.geometry.specs.Geometry.{piecesFor}
 use Rattle.pieces.specs.Arrays.{flagged}
 use Rattle.pieces.proofs.FlagLaws.{flags-none}
-use Rattle.store.proofs.StoreLaws.{stores, member-stored, rank-skips, rank-grows, is-flagged, not-flagged}
+use Rattle.entries.specs.Cursor.{Cursor}
+use Rattle.store.proofs.StoreLaws.{stores, member-stored, rank-skips, rank-grows, cursor-starts, cursor-skips, is-flagged, not-flagged}
 use Rattle.store.proofs.store_members.Statement.{statement}
 use Rattle.store.proofs.store_members.Tie as tie
 use Rattle.store.proofs.store_member.Reads as store-member-reads
 use Rattle.geometry.proofs.Geometry.pieces_for.Reads as pieces-for-reads
 
 abbrev Inv-pieces : tie.InvT-pieces
-Inv-pieces s image₀ map blocks news taken count branches written members allowance pieces left₀ j₀ p₀ image left j p =
-    (p ≤ pieces) × (length image ≡ length image₀) × (j ≡ countBelow (flagged written) p) × Storing (flagged written)
+Inv-pieces s image₀ map blocks news taken count branches written members allowance pieces left₀ j₀ from₀ p₀ image left j from p =
+    (p ≤ pieces) × (length image ≡ length image₀) × (j ≡ countBelow (flagged written) p) × Cursor blocks p from × Storing (flagged written)
     (stores s map blocks news taken branches written count members) (sectorAt image₀) allowance p left (sectorAt image)
 
 abbrev μ-pieces : tie.MeasureT-pieces
-μ-pieces s image₀ map blocks news taken count branches written members allowance pieces left₀ j₀ p₀ image left j p = pieces - p
+μ-pieces s image₀ map blocks news taken count branches written members allowance pieces left₀ j₀ from₀ p₀ image left j from p = pieces - p
 
 pieces-for-requires : tie.Need-pieces-for-requires Inv-pieces μ-pieces
 pieces-for-requires c κs = search needs
 
 pieces-holds : tie.Need-pieces-holds Inv-pieces μ-pieces
 pieces-holds c =
-    (omega arith, refl, flags-none _, storing-starts _ _ _ _)
+    let the-pre = c .before .before .before .before .before .before .before .before .pre in
+    (omega arith, refl, flags-none _, cursor-starts _ (the-pre .1 .ascending), storing-starts _ _ _ _)
 
 cast-if1 : tie.Need-cast-if1 Inv-pieces μ-pieces
 cast-if1 c = search needs
@@ -47,14 +49,16 @@ pieces-less c = omega arith
 
 pieces-again : tie.Need-pieces-again Inv-pieces μ-pieces
 pieces-again c =
+    let the-pre = c .before .before .before .before .before .before .before .before .before .before .before .before .pre in
     let l = c .before .before .before .pieces in (
       omega arith,
       l .inv .1,
       rank-skips _ (l .p) (l .j) (c .if1 .taken) (l .inv .2),
+      cursor-skips _ _ (l .p) (l .from) (the-pre .1 .touched) (c .if1 .taken) (l .inv .3),
       rw add-one
           (storing-skips _
           _
-          _ _ (l .p) (l .left) (sectorAt (l .image)) (not-flagged _ (l .p) (c .if1 .taken)) (l .inv .3)),
+          _ _ (l .p) (l .left) (sectorAt (l .image)) (not-flagged _ (l .p) (c .if1 .taken)) (l .inv .4)),
     )
 
 same-length : tie.Need-same-length Inv-pieces μ-pieces
@@ -67,7 +71,7 @@ returns c =
     storing-fails (flagged (a .written .now)) (stores (a .s) (a .map .now) (a .blocks .now) (a .news .now) (a .taken .now)
     (a .branches .now) (a .written .now) (a .count) (a .members)) (sectorAt (a .image .now)) (a .allowance) (l .p) (piecesFor (a .s .geometry .l))
     (sectorAt (l .image)) (omega arith) (is-flagged (a .written .now) (l .p) (c .before .if1 .left))
-    (subst (λ (x : ℕ). Storing (flagged (a .written .now)) (stores (a .s) (a .map .now) (a .blocks .now) (a .news .now) (a .taken .now) (a .branches .now) (a .written .now) (a .count) (a .members)) (sectorAt (a .image .now)) (a .allowance) (l .p) x (sectorAt (l .image))) (c .if2 .taken) (l .inv .3))
+    (subst (λ (x : ℕ). Storing (flagged (a .written .now)) (stores (a .s) (a .map .now) (a .blocks .now) (a .news .now) (a .taken .now) (a .branches .now) (a .written .now) (a .count) (a .members)) (sectorAt (a .image .now)) (a .allowance) (l .p) x (sectorAt (l .image))) (c .if2 .taken) (l .inv .4))
 
 store-member-requires : tie.Need-store-member-requires Inv-pieces μ-pieces
 store-member-requires c κs =
@@ -76,7 +80,7 @@ store-member-requires c κs =
     let l = c .before .before .before .before .before .pieces in
     let r = c .before .before .before .before .before .before .before .before .before .before .before .before .before .before .pre in
     let b = count-before (flagged (a .written .now)) (l .p) (piecesFor (a .s .geometry .l)) (omega arith) (is-flagged (a .written .now) (l .p) (the-if1 .left)) in
-    (l .inv .1 ∙ r .0, (r .1 .whole, (r .1 .enough, (r .1 .inside, (r .1 .below, (r .1 .taken-all, (r .1 .room, (r .1 .numbers, (omega arith, omega arith)))))))))
+    (l .inv .1 ∙ r .0, (r .1 .whole, (r .1 .enough, (r .1 .inside, (r .1 .below, (r .1 .taken-all, (r .1 .room, (r .1 .numbers, (omega arith, (omega arith, l .inv .3))))))))))
 
 sub-left : tie.Need-sub-left Inv-pieces μ-pieces
 sub-left c = search needs
@@ -100,12 +104,13 @@ pieces-again-2 c =
       omega arith,
       the-store-member .kept .1 .0 ∙ l .inv .1,
       rank-grows (a .written .now) (l .p) (l .j) (the-if1 .left) (l .inv .2),
+      the-store-member .ensures .0,
       rw add-one
           (storing-stores (flagged (a .written .now))
           (stores (a .s) (a .map .now) (a .blocks .now) (a .news .now) (a .taken .now) (a .branches .now) (a .written .now) (a .count) (a .members))
           (sectorAt (a .image .now)) (a .allowance) (l .p) (l .left) (sectorAt (l .image)) _ (is-flagged (a .written .now) (l .p) (the-if1 .left))
-          (positive (l .left) (the-if2 .left)) (l .inv .3)
-          (member-stored (a .s) (a .map .now) (a .blocks .now) (a .news .now) (a .taken .now) (a .branches .now) (a .written .now) (a .count) (a .members) (l .p) (l .j) (sectorAt (l .image)) _ (l .inv .2) (the-store-member .ensures))),
+          (positive (l .left) (the-if2 .left)) (l .inv .4)
+          (member-stored (a .s) (a .map .now) (a .blocks .now) (a .news .now) (a .taken .now) (a .branches .now) (a .written .now) (a .count) (a .members) (l .p) (l .j) (sectorAt (l .image)) _ (l .inv .2) (the-store-member .ensures .1))),
     )
 
 same-length-2 : tie.Need-same-length-2 Inv-pieces μ-pieces
@@ -117,7 +122,7 @@ returns-2 c =
     let l = c .before .pieces in
     let e : l .p ≡ piecesFor (a .s .geometry .l) = (omega arith) in
     storing-ends (flagged (a .written .now)) (stores (a .s) (a .map .now) (a .blocks .now) (a .news .now) (a .taken .now) (a .branches .now) (a .written .now) (a .count) (a .members)) (sectorAt (a .image .now)) (a .allowance) (piecesFor (a .s .geometry .l)) (l .left) (sectorAt (l .image))
-    (subst (λ (x : ℕ). Storing (flagged (a .written .now)) (stores (a .s) (a .map .now) (a .blocks .now) (a .news .now) (a .taken .now) (a .branches .now) (a .written .now) (a .count) (a .members)) (sectorAt (a .image .now)) (a .allowance) x (l .left) (sectorAt (l .image))) e (l .inv .3))
+    (subst (λ (x : ℕ). Storing (flagged (a .written .now)) (stores (a .s) (a .map .now) (a .blocks .now) (a .news .now) (a .taken .now) (a .branches .now) (a .written .now) (a .count) (a .members)) (sectorAt (a .image .now)) (a .allowance) x (l .left) (sectorAt (l .image))) e (l .inv .4))
 
 pub store-members-spec : {M : Type 1} → statement M
 store-members-spec =

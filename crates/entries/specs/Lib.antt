@@ -1,0 +1,2 @@
+-- How far the named blocks are used.
+pub mod Cursor
