@@ -128,9 +128,9 @@ module _ (l p : ℕ) (map blocks news : List ℕ) where
     pub changing-ends : (i < length blocks → 96 * p + 96 ≤ at blocks i) → Cursor blocks (p + 1) i × (xs ≡ pieceEntries l (changed (length blocks)) p)
     changing-ends high =
         let past : (j : ℕ) → i ≤ j → j < length blocks → 96 * p + 96 ≤ at blocks j = λ j h b.
-            let here = high (omega arith) in
-            ⊎-elim (λ (z : i < j). let q = c .ascending i j z b in omega arith)
-            (λ (z : j ≤ i). subst (λ (x : ℕ). 96 * p + 96 ≤ at blocks x) (let e : i ≡ j = omega arith in e) here) (lt? i j) in (
+        let here = high (omega arith) in
+        ⊎-elim (λ (z : i < j). let q = c .ascending i j z b in omega arith)
+        (λ (z : j ≤ i). subst (λ (x : ℕ). 96 * p + 96 ≤ at blocks x) (let e : i ≡ j = omega arith in e) here) (lt? i j) in (
           record {
             ascending = c .ascending;
             most = c .most;
@@ -138,5 +138,5 @@ module _ (l p : ℕ) (map blocks news : List ℕ) where
             ahead = λ j h b. let q = past j h b in omega arith;
           },
           c .are ∙ same-piece l p (changed i) (changed (length blocks)) (λ k low high.
-          updates-rest (at map) (at blocks) (at news) i (length blocks) k (c .most) (λ j a b z. let q = past j a b in omega arith)),
+              updates-rest (at map) (at blocks) (at news) i (length blocks) k (c .most) (λ j a b z. let q = past j a b in omega arith)),
         )
