@@ -26,8 +26,23 @@ pub fn entries_for(bytes: &[u8], places: &[u32], count: usize, entries: &mut [u3
     }
 }
 
-// The entries of piece p, as the map has them.
-fn copy_piece(map: &[u32], p: u32, entries: &mut [u32])
+// The entries of a piece that the map has whole, copied several at a time.
+fn copy_whole(map: &[u32], p: u32, entries: &mut [u32])
+    requires { ⌜ p < 256 ⌝ }
+    requires { ⌜ entriesPerPiece * p + entriesPerPiece ≤ length (now map) ⌝ }
+    requires { ⌜ length (now entries) ≡ entriesPerPiece ⌝ }
+    ensures { λ _. ⌜ now (entries .exit) ≡ pieceEntries (length (now (map .entry))) (at (now (map .entry))) p ⌝ }
+{
+    let first = (Geometry::ENTRIES * p) as usize;
+    let mut i = 0;
+    while i < 96 {
+        entries[i] = map[first + i];
+        i += 1;
+    }
+}
+
+// The entries of any piece: past the map's end they are zero.
+fn copy_last(map: &[u32], p: u32, entries: &mut [u32])
     requires { ⌜ p < 256 ⌝ }
     requires { ⌜ length (now entries) ≡ entriesPerPiece ⌝ }
     ensures { λ _. ⌜ now (entries .exit) ≡ pieceEntries (length (now (map .entry))) (at (now (map .entry))) p ⌝ }
@@ -39,6 +54,20 @@ fn copy_piece(map: &[u32], p: u32, entries: &mut [u32])
         entries[i] = entry;
         i += 1;
     }
+}
+
+// The entries of piece p, as the map has them.
+fn copy_piece(map: &[u32], p: u32, entries: &mut [u32])
+    requires { ⌜ p < 256 ⌝ }
+    requires { ⌜ length (now entries) ≡ entriesPerPiece ⌝ }
+    ensures { λ _. ⌜ now (entries .exit) ≡ pieceEntries (length (now (map .entry))) (at (now (map .entry))) p ⌝ }
+{
+    let end = (Geometry::ENTRIES * p + Geometry::ENTRIES) as usize;
+    if end <= map.len() {
+        copy_whole(map, p, entries);
+        return;
+    }
+    copy_last(map, p, entries);
 }
 
 // The entries of piece p after the change of the named blocks. Its blocks stand from `from` on; answers where they end.

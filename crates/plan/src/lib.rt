@@ -49,7 +49,34 @@ fn fold(written: &mut [u8], pieces: u32, listed: usize) -> usize
 }
 
 // The sectors that a commit takes, searched in a copy of the used map.
-fn take_sectors(used: &[u8], g: Geometry, head: u32, count: usize, taken: &mut [u32])
+fn take_in(used: &[u8], g: Geometry, head: u32, count: usize, taken: &mut [u32], marks: &mut [u8])
+    requires { ⌜ geometryFits g ≡ true ⌝ }
+    requires { ⌜ length (now used) ≡ usedBytes (g .n) ⌝ }
+    requires { ⌜ head < g .n ⌝ }
+    requires { ⌜ count ≤ length (now taken) ⌝ }
+    requires { ⌜ length (now used) ≤ length (now marks) ⌝ }
+    requires { ⌜ now marks ≡ replicate (length (now marks)) 0 ⌝ }
+    ensures { λ _. ⌜ take count (now (taken .exit)) ≡ listFrom (placeOf base (g .n) (bitAt (now (used .entry))) head) 0 count ⌝ }
+{
+    copy_used(used, marks);
+    placing::find_places(marks, g.n, head, count, taken);
+}
+
+// The same in a copy of 1,024 bits, which is cleared sooner.
+fn take_few(used: &[u8], g: Geometry, head: u32, count: usize, taken: &mut [u32])
+    requires { ⌜ g .n ≤ 1024 ⌝ }
+    requires { ⌜ geometryFits g ≡ true ⌝ }
+    requires { ⌜ length (now used) ≡ usedBytes (g .n) ⌝ }
+    requires { ⌜ head < g .n ⌝ }
+    requires { ⌜ count ≤ length (now taken) ⌝ }
+    ensures { λ _. ⌜ take count (now (taken .exit)) ≡ listFrom (placeOf base (g .n) (bitAt (now (used .entry))) head) 0 count ⌝ }
+{
+    let mut marks = [0u8; 128];
+    take_in(used, g, head, count, taken, &mut marks);
+}
+
+// The same for a volume of any size.
+fn take_any(used: &[u8], g: Geometry, head: u32, count: usize, taken: &mut [u32])
     requires { ⌜ geometryFits g ≡ true ⌝ }
     requires { ⌜ length (now used) ≡ usedBytes (g .n) ⌝ }
     requires { ⌜ head < g .n ⌝ }
@@ -57,8 +84,22 @@ fn take_sectors(used: &[u8], g: Geometry, head: u32, count: usize, taken: &mut [
     ensures { λ _. ⌜ take count (now (taken .exit)) ≡ listFrom (placeOf base (g .n) (bitAt (now (used .entry))) head) 0 count ⌝ }
 {
     let mut marks = [0u8; 8192];
-    copy_used(used, &mut marks);
-    placing::find_places(&mut marks, g.n, head, count, taken);
+    take_in(used, g, head, count, taken, &mut marks);
+}
+
+// The same, by the size of the volume.
+fn take_sectors(used: &[u8], g: Geometry, head: u32, count: usize, taken: &mut [u32])
+    requires { ⌜ geometryFits g ≡ true ⌝ }
+    requires { ⌜ length (now used) ≡ usedBytes (g .n) ⌝ }
+    requires { ⌜ head < g .n ⌝ }
+    requires { ⌜ count ≤ length (now taken) ⌝ }
+    ensures { λ _. ⌜ take count (now (taken .exit)) ≡ listFrom (placeOf base (g .n) (bitAt (now (used .entry))) head) 0 count ⌝ }
+{
+    if g.n <= 1024 {
+        take_few(used, g, head, count, taken);
+        return;
+    }
+    take_any(used, g, head, count, taken);
 }
 
 // Flags the pieces of the named blocks, and lists the branches to the others.

@@ -54,10 +54,18 @@ fn main() {
     try_history(200, 8, 20, 1500, 1);
     try_history(200, 12, 20, 1500, 1);
     try_history(1000, 48, 50, 400, 2);
+    // On both sides of a whole word of the used map, and of two.
+    try_history(600, 63, 30, 200, 3);
+    try_history(600, 64, 30, 200, 3);
+    try_history(600, 65, 30, 200, 3);
+    try_history(1500, 127, 60, 100, 4);
     try_history(2593, 90, 96, 80, 4);
     try_folds(4704, 128, 96, 80, 6);
     try_damage(true, 2, 4, 1, 2000);
     try_damage(true, 200, 12, 20, 3000);
+    try_damage(true, 300, 63, 20, 400);
+    try_damage(true, 300, 64, 20, 400);
+    try_damage(true, 300, 65, 20, 400);
     try_damage(true, 1000, 48, 50, 400);
     try_damage(false, 200, 12, 20, 3000);
     try_plugs();

@@ -106,4 +106,27 @@ returns-2 c =
     λ _. residues-distinct true _ _ _ (l .k) _ (l .inv .2) (c .sectors-test .left)
 
 pub residues-apart-spec : {M : Type 1} → statement M
-residues-apart-spec = tie.close (tie.spec Inv-sectors μ-sectors mul-room sectors-holds cast-number mul-number shared-slice-read-number add-k sectors-less sectors-again cast-residue rem-residue is-set-requires same-length returns set-bit-requires add-k-2 sectors-less-2 sectors-again-2 same-length-2 returns-2)
+residues-apart-spec =
+    tie.close
+    (tie.spec
+    Inv-sectors
+    μ-sectors
+    mul-room
+    sectors-holds
+    cast-number
+    mul-number
+    shared-slice-read-number
+    add-k
+    sectors-less
+    sectors-again
+    cast-residue
+    rem-residue
+    is-set-requires
+    same-length
+    returns
+    set-bit-requires
+    add-k-2
+    sectors-less-2
+    sectors-again-2
+    same-length-2
+    returns-2)

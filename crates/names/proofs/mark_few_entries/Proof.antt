@@ -124,4 +124,26 @@ returns c =
     λ others marks. p .ensures ∙ l .inv .3 others marks ∙ ap (λ (x : ℕ). usedBy (withEntries (at (a .map .now)) x others)) end
 
 pub mark-few-entries-spec : {M : Type 1} → statement M
-mark-few-entries-spec = tie.close (tie.spec Inv-entries μ-entries word-at-requires entries-holds mul-sector-of shared-slice-read-sector-of sector-of-requires cast-q add-i with-bit-requires entries-less entries-again put-word-requires word-at-requires-2 with-bit-requires-2 entries-less-2 entries-again-2 put-word-requires-2 same-length returns)
+mark-few-entries-spec =
+    tie.close
+    (tie.spec
+    Inv-entries
+    μ-entries
+    word-at-requires
+    entries-holds
+    mul-sector-of
+    shared-slice-read-sector-of
+    sector-of-requires
+    cast-q
+    add-i
+    with-bit-requires
+    entries-less
+    entries-again
+    put-word-requires
+    word-at-requires-2
+    with-bit-requires-2
+    entries-less-2
+    entries-again-2
+    put-word-requires-2
+    same-length
+    returns)

@@ -100,4 +100,25 @@ same-length c =
     l .inv .1
 
 pub mark-halves-spec : {M : Type 1} → statement M
-mark-halves-spec = tie.close (tie.spec Inv-loop μ-loop loop-holds mul-sector-of shared-slice-read-sector-of sector-of-requires cast-set-bit set-bit-requires add-sector-of mul-sector-of-2 shared-slice-read-sector-of-2 sector-of-requires-2 cast-set-bit-2 set-bit-requires-2 add-i loop-less loop-again same-length returns)
+mark-halves-spec =
+    tie.close
+    (tie.spec
+    Inv-loop
+    μ-loop
+    loop-holds
+    mul-sector-of
+    shared-slice-read-sector-of
+    sector-of-requires
+    cast-set-bit
+    set-bit-requires
+    add-sector-of
+    mul-sector-of-2
+    shared-slice-read-sector-of-2
+    sector-of-requires-2
+    cast-set-bit-2
+    set-bit-requires-2
+    add-i
+    loop-less
+    loop-again
+    same-length
+    returns)

@@ -12,15 +12,16 @@ touch-pieces-requires : tie.Need-touch-pieces-requires
 touch-pieces-requires c κs =
     let r = c .before .before .before .before .before .before .before .pre in
     let a = c .before .before .before .before .before .before .before .args in
-    touchable _ (a .written .now) (a .blocks .now) (r .0) (r .1 .1 .1 .1 .1 .0) (r .1 .1 .1 .1 .1 .1 .1 .0)
+    touchable (a .s .geometry) (a .written .now) (a .blocks .now) (r .0) (r .1 .1 .1 .1 .1 .0) (r .1 .1 .1 .1 .1 .1 .1 .0)
 
 list-branches-requires : tie.Need-list-branches-requires
 list-branches-requires c κs =
     let r = c .before .before .before .before .before .before .before .before .before .before .before .before .pre in
+    let a = c .before .before .before .before .before .before .before .before .before .before .before .before .args in
     let t = r .1 .1 .1 .1 .1 .1 in
     let nu = r .1 .1 .1 .0 in
     let room = flags-room _ _ (t .1 .0) (c .before .before .before .before .touch-pieces .kept .0) in
-    (r .1 .0, (r .1 .1 .0 ∙ sym nu, (pieces-few _ (r .0) _ nu, (pieces-room _ (r .0) _ _ nu room, (omega arith, (t .1 .1, live-for _ _ _ _ _ nu (t .0)))))))
+    (r .1 .0, (r .1 .1 .0 ∙ sym nu, (pieces-few (a .s .geometry) (r .0) _ nu, (pieces-room (a .s .geometry) (r .0) _ _ nu room, (omega arith, (t .1 .1, live-for _ _ _ _ _ nu (t .0)))))))
 
 same-length : tie.Need-same-length
 same-length c = search needs

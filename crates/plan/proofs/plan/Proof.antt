@@ -21,8 +21,9 @@ pieces-for-requires c κs = search needs
 count-members-requires : tie.Need-count-members-requires
 count-members-requires c κs =
     let f = c .before .before .before .before .before .before .before .before .before .before .before .before .before .before .before .before .before .before .pre .0 in
+    let a = c .before .before .before .before .before .before .before .before .before .before .before .before .before .before .before .before .before .before .args in
     let p = c .pieces-for .ensures in
-    (pieces-few _ f _ p, pieces-room _ f _ _ p (c .before .before .before .before .before .before .list-untouched .ensures .flags))
+    (pieces-few (a .s .geometry) f _ p, pieces-room (a .s .geometry) f _ _ p (c .before .before .before .before .before .before .list-untouched .ensures .flags))
 
 add-take-sectors : tie.Need-add-take-sectors
 add-take-sectors c =

@@ -42,7 +42,8 @@ returns c =
     let the-if1 = c .before .before .before .before .before .before .before .before .before .before .before .before .before .before .before .before .before .before .if1 in
     let the-walk-tables = c .before .before .before .before .before .before .before .before .before .before .before .before .before .before .before .before .before .before .before .before .before .before .before .before .before .before .before .walk-tables in
     let the-pre =
-    c .before .before .before .before .before .before .before .before .before .before .before .before .before .before .before .before .before .before .before .before .before .before .before .before .before .before .before .before .before .before .before .before .before .before .before .before .before .before .pre in
+    c .before .before .before .before .before .before .before .before .before .before .before .before .before .before .before .before .before .before
+    .before .before .before .before .before .before .before .before .before .before .before .before .before .before .before .before .before .before .before .before .pre in
     let kept = the-walk-tables .kept .1 .1 .1 .1 in
     scan-found _ _ _ _ _ _ _ _ _ _ _ (kept .0) (kept .1 .0) (kept .1 .1 .0) (kept .1 .1 .1 .0) _
     (found-incomplete _ _ _ _ (the-pre .1 .1 .0) (the-walk-tables .result) (the-walk-tables .ensures .0) (the-if1 .taken)) (the-by-scan .ensures)
@@ -76,7 +77,8 @@ returns-2 c =
     let the-if1 = c .before .before .before .before .before .before .before .before .before .before .before .before .before .before .before .before .before .before .if1 in
     let the-walk-tables = c .before .before .before .before .before .before .before .before .before .before .before .before .before .before .before .before .before .before .before .before .before .before .before .before .before .before .before .walk-tables in
     let the-pre =
-    c .before .before .before .before .before .before .before .before .before .before .before .before .before .before .before .before .before .before .before .before .before .before .before .before .before .before .before .before .before .before .before .before .before .before .before .before .before .before .pre in
+    c .before .before .before .before .before .before .before .before .before .before .before .before .before .before .before .before .before .before
+    .before .before .before .before .before .before .before .before .before .before .before .before .before .before .before .before .before .before .before .before .pre in
     let kept = the-walk-tables .kept .1 .1 .1 .1 in
     scan-found _ _ _ _ _ _ _ _ _ _ _ (kept .0) (kept .1 .0) (kept .1 .1 .0) (kept .1 .1 .1 .0) _
     (found-incomplete _ _ _ _ (the-pre .1 .1 .0) (the-walk-tables .result) (the-walk-tables .ensures .0) (the-if1 .taken)) (the-by-scan .ensures)
@@ -118,7 +120,8 @@ returns-3 c =
     let the-if1 = c .before .before .before .before .before .before .before .before .before .before .before .before .before .before .before .before .before .before .before .if1 in
     let the-walk-tables = c .before .before .before .before .before .before .before .before .before .before .before .before .before .before .before .before .before .before .before .before .before .before .before .before .before .before .before .before .walk-tables in
     let the-pre =
-    c .before .before .before .before .before .before .before .before .before .before .before .before .before .before .before .before .before .before .before .before .before .before .before .before .before .before .before .before .before .before .before .before .before .before .before .before .before .before .before .pre in
+    c .before .before .before .before .before .before .before .before .before .before .before .before .before .before .before .before .before .before
+    .before .before .before .before .before .before .before .before .before .before .before .before .before .before .before .before .before .before .before .before .before .pre in
     let kept = the-walk-tables .kept .1 .1 .1 .1 in
     let left = the-walk-tables .ensures .1 (not-false (the-walk-tables .result) (the-if1 .left)) in
     let last = the-walk-tables .last .1 .1 .1 .1 in
@@ -127,4 +130,30 @@ returns-3 c =
     (the-count-branches .result) (the-count-branches .ensures .0)) (the-after-walk .ensures)
 
 pub by-walk-spec : {M : Type 1} → statement M
-by-walk-spec = tie.close (tie.spec walk-tables-requires by-small-scan-requires same-length same-length-2 same-length-3 same-length-4 same-length-5 returns by-scan-requires same-length-6 same-length-7 same-length-8 same-length-9 same-length-10 returns-2 count-branches-requires add-read after-walk-requires same-length-11 same-length-12 same-length-13 same-length-14 same-length-15 returns-3)
+by-walk-spec =
+    tie.close
+    (tie.spec
+    walk-tables-requires
+    by-small-scan-requires
+    same-length
+    same-length-2
+    same-length-3
+    same-length-4
+    same-length-5
+    returns
+    by-scan-requires
+    same-length-6
+    same-length-7
+    same-length-8
+    same-length-9
+    same-length-10
+    returns-2
+    count-branches-requires
+    add-read
+    after-walk-requires
+    same-length-11
+    same-length-12
+    same-length-13
+    same-length-14
+    same-length-15
+    returns-3)

@@ -120,4 +120,32 @@ returns-3 c =
     asked-for _ _ _ _ _ _ (the-volume .result) (the-volume .ensures) _ _ (the-by-walk .ensures)
 
 pub find-spec : {M : Type 1} → statement M
-find-spec = tie.close (tie.spec cast-volume volume-requires parked-at-requires enum-told by-small-scan-requires same-length same-length-2 same-length-3 same-length-4 same-length-5 returns by-scan-requires enum-known-tail by-walk-requires same-length-6 same-length-7 same-length-8 same-length-9 same-length-10 returns-2 same-length-11 same-length-12 same-length-13 same-length-14 same-length-15 returns-3)
+find-spec =
+    tie.close
+    (tie.spec
+    cast-volume
+    volume-requires
+    parked-at-requires
+    enum-told
+    by-small-scan-requires
+    same-length
+    same-length-2
+    same-length-3
+    same-length-4
+    same-length-5
+    returns
+    by-scan-requires
+    enum-known-tail
+    by-walk-requires
+    same-length-6
+    same-length-7
+    same-length-8
+    same-length-9
+    same-length-10
+    returns-2
+    same-length-11
+    same-length-12
+    same-length-13
+    same-length-14
+    same-length-15
+    returns-3)

@@ -149,4 +149,28 @@ returns c =
     (past-view (a .g) (sectorAt (a .image .now)))
 
 pub read-signed-spec : {M : Type 1} → statement M
-read-signed-spec = tie.close (tie.spec Inv-sectors μ-sectors sectors-holds cast-sector sector-requires has-mark-requires add-k sectors-less sectors-again marked-valid-requires add-k-2 sectors-less-2 sectors-again-2 cast-keep keep-requires add-k-3 sectors-less-3 sectors-again-3 same-length same-length-2 same-length-3 returns)
+read-signed-spec =
+    tie.close
+    (tie.spec
+    Inv-sectors
+    μ-sectors
+    sectors-holds
+    cast-sector
+    sector-requires
+    has-mark-requires
+    add-k
+    sectors-less
+    sectors-again
+    marked-valid-requires
+    add-k-2
+    sectors-less-2
+    sectors-again-2
+    cast-keep
+    keep-requires
+    add-k-3
+    sectors-less-3
+    sectors-again-3
+    same-length
+    same-length-2
+    same-length-3
+    returns)
