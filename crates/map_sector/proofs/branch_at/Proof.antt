@@ -14,7 +14,8 @@ word-at-requires c κs = search needs
 
 returns : tie.Need-returns
 returns c =
-    c .word-at .ensures ∙ sym (branch-word (wordsOf (c .before .before .args .s .now)) (c .before .before .args .i) (c .before .before .pre .1))
+    let a = c .before .before .args in
+    c .word-at .ensures ∙ sym (branch-word (wordsOf (a .s .now)) (a .i) (c .before .before .pre .1))
 
 pub branch-at-spec : {M : Type 1} → statement M
 branch-at-spec = tie.close (tie.spec add-word-at word-at-requires returns)

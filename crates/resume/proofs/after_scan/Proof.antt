@@ -64,9 +64,10 @@ same-length-6 c = search needs
 
 returns-2 : tie.Need-returns-2
 returns-2 c =
+    let the-scanned = c .before .scanned in
     let k = c .before .before .before .before .before .before .before .clear-all in
     recovery-whole _ _ _ _ (Scanned _) _ _ _ _ _ _ _ (k .kept .0) (k .ensures .1)
-    (c .before .scanned .result) (c .running .result) _ (c .before .scanned .ensures) (c .running .ensures) (sym (c .before .before .before .power .given .1) ∙ k .ensures .0)
+    (the-scanned .result) (c .running .result) _ (the-scanned .ensures) (c .running .ensures) (sym (c .before .before .before .power .given .1) ∙ k .ensures .0)
 
 pub after-scan-spec : {M : Type 1} → statement M
 after-scan-spec =

@@ -64,9 +64,10 @@ same-length-6 c = search needs
 
 returns-2 : tie.Need-returns-2
 returns-2 c =
+    let the-walked = c .before .walked in
     let k = c .before .before .before .before .before .before .before .clear-first in
     recovery-whole _ _ _ _ (Walked _) _ _ _ _ _ _ _ (k .kept .0) (k .ensures .1)
-    (c .before .walked .result) (c .running .result) _ (c .before .walked .ensures) (c .running .ensures) (sym (c .before .before .before .power .given .1) ∙ k .ensures .0)
+    (the-walked .result) (c .running .result) _ (the-walked .ensures) (c .running .ensures) (sym (c .before .before .before .power .given .1) ∙ k .ensures .0)
 
 pub after-walk-spec : {M : Type 1} → statement M
 after-walk-spec =

@@ -51,16 +51,17 @@ once-with-room-requires c κs =
 
 returns-3 : tie.Need-returns-3
 returns-3 c =
+    let the-if1 = c .before .before .before .if1 in
     let m = c .before .before .before .before .before .judge-names in
     let b = c .before .before .named-bits-agree in
     let o = c .once-with-room in
     let a = c .before .before .before .before .before .before .before .before .before .args in
     let p = c .before .before .before .before .before .before .before .before .before .pre in
     let some = sectors-some (a .g) (p .0) in
-    let bits = bits-pass (a .g) (at (a .map .now)) (at (a .places .now)) (bitAt (a .used .now)) (m .result .inside) (m .ensures .0) (c .before .before .before .if1 .left)
+    let bits = bits-pass (a .g) (at (a .map .now)) (at (a .places .now)) (bitAt (a .used .now)) (m .result .inside) (m .ensures .0) (the-if1 .left)
     (b .result) (length (a .used .now)) (p .1 .1 .1 .0) _ (named-bits (a .g) (at (a .map .now)) (at (a .places .now)) _ _ (p .1 .1 .0) (p .1 .0) _ refl) (b .ensures) (c .before .if2 .left) in
-    room-decides (a .g) (at (a .map .now)) (at (a .places .now)) (bitAt (a .used .now)) (m .result .inside) (m .ensures .0) (c .before .before .before .if1 .left)
-    bits (omega arith) (a .free) (m .result .count) (p .1 .1 .1 .1) (m .ensures .1 (not-false (m .result .inside) (c .before .before .before .if1 .left)) .0) (o .result) (o .ensures)
+    room-decides (a .g) (at (a .map .now)) (at (a .places .now)) (bitAt (a .used .now)) (m .result .inside) (m .ensures .0) (the-if1 .left)
+    bits (omega arith) (a .free) (m .result .count) (p .1 .1 .1 .1) (m .ensures .1 (not-false (m .result .inside) (the-if1 .left)) .0) (o .result) (o .ensures)
 
 pub names-agree-spec : {M : Type 1} → statement M
 names-agree-spec = tie.close (tie.spec judge-names-requires returns named-bits-agree-requires returns-2 once-with-room-requires returns-3)

@@ -51,6 +51,7 @@ same-length c = search needs
 
 returns-2 : tie.Need-returns-2
 returns-2 c =
+    let the-if1 = c .before .before .before .before .before .before .before .if1 in
     let m = c .before .before .before .before .before .before .before .before .before .judge-names in
     let u = c .before .before .before .before .before .make-used in
     let f = c .before .count-free in
@@ -58,8 +59,8 @@ returns-2 c =
     let a = c .before .before .before .before .before .before .before .before .before .before .before .before .before .args in
     let p = c .before .before .before .before .before .before .before .before .before .before .before .before .before .pre in
     let some = sectors-some (a .g) (p .0) in
-    room-made (a .g) (at (a .map .now)) (at (a .places .now)) (m .result .inside) (m .ensures .0) (c .before .before .before .before .before .before .before .if1 .left) (omega arith) _ (u .ensures)
-    (f .result) (m .result .count) (f .ensures) (m .ensures .1 (not-false (m .result .inside) (c .before .before .before .before .before .before .before .if1 .left)) .0) (o .result) (o .ensures)
+    room-made (a .g) (at (a .map .now)) (at (a .places .now)) (m .result .inside) (m .ensures .0) (the-if1 .left) (omega arith) _ (u .ensures)
+    (f .result) (m .result .count) (f .ensures) (m .ensures .1 (not-false (m .result .inside) (the-if1 .left)) .0) (o .result) (o .ensures)
 
 pub mark-used-spec : {M : Type 1} → statement M
 mark-used-spec = tie.close (tie.spec judge-names-requires returns make-used-requires count-free-requires once-with-room-requires same-length returns-2)
