@@ -335,36 +335,71 @@ marked-past sector (suc m) bits x =
     fun-ext (λ k. twice (eqb k x) (eqb k (sector m)) (marked sector m bits k))
     ∙ ap (λ (b : ℕ → Bool). updated b (sector m) true) (marked-past sector m bits x)
 
--- The lower half, and the upper.
-module _ (sector : ℕ → ℕ) (half : ℕ) where
-  pub upper : ℕ → ℕ
-  upper j = sector (half + j)
+-- Two runs of marks, in either order.
+marked-swap : (f g : ℕ → ℕ) (a b : ℕ) (bits : ℕ → Bool) → marked f a (marked g b bits) ≡ marked g b (marked f a bits)
+unfolding marked
+marked-swap f g a zero bits = refl
+marked-swap f g a (suc b) bits =
+    sym (marked-past f a (marked g b bits) (g b)) ∙ ap (λ (x : ℕ → Bool). updated x (g b) true) (marked-swap f g a b bits)
 
-  abbrev pub Halves : ℕ → (ℕ → Bool) → (ℕ → Bool) → Type 0
-  Halves i first bits = bits ≡ marked upper i (marked sector i first)
+-- Parts of one width, each from its first on: part m begins at m * width.
+module _ (sector : ℕ → ℕ) (width : ℕ) where
+  unfoldable pub inPart : ℕ → ℕ → ℕ
+  inPart m i = sector (m * width + i)
 
-  pub halves-start : (first : ℕ → Bool) → Halves 0 first first
+  -- The first i of each of m parts.
+  unfoldable pub parts : ℕ → ℕ → (ℕ → Bool) → ℕ → Bool
+  parts zero i first = first
+  parts (suc m) i first = marked (inPart m) i (parts m i first)
+
+  parts-none : (m : ℕ) (first : ℕ → Bool) → parts m 0 first ≡ first
+  unfolding parts marked
+  parts-none zero first = refl
+  parts-none (suc m) first = parts-none m first
+
+  parts-more : (m i : ℕ) (first : ℕ → Bool) → parts m (suc i) first ≡ marked (λ j. inPart j i) m (parts m i first)
+  unfolding parts marked
+  parts-more zero i first = refl
+  parts-more (suc m) i first =
+      ap (λ (b : ℕ → Bool). updated b (inPart m i) true)
+      (ap (marked (inPart m) i) (parts-more m i first) ∙ marked-swap (inPart m) (λ j. inPart j i) i m (parts m i first))
+
+  joined : (start i : ℕ) (first : ℕ → Bool) → marked (λ j. sector (start + j)) i (marked sector start first) ≡ marked sector (start + i) first
   unfolding marked
-  halves-start first = refl
+  joined start zero first = ap (λ (x : ℕ). marked sector x first) (let e : start ≡ start + 0 = omega arith in e)
+  joined start (suc i) first =
+      ap (λ (b : ℕ → Bool). updated b (sector (start + i)) true) (joined start i first)
+      ∙ ap (λ (x : ℕ). marked sector x first) (let e : suc (start + i) ≡ start + suc i = omega arith in e)
 
-  pub halves-next : (i : ℕ) (first bits once after : ℕ → Bool) (k j : ℕ) → k ≡ sector i → j ≡ sector (half + i)
-      → Halves i first bits → once ≡ updated bits k true → after ≡ updated once j true → Halves (i + 1) first after
-  unfolding marked upper
-  halves-next i first bits once after k j s t h u v =
-      let low : once ≡ marked upper i (marked sector (suc i) first) =
-      u ∙ ap (λ (x : ℕ). updated bits x true) s ∙ ap (λ (b : ℕ → Bool). updated b (sector i) true) h ∙ marked-past upper i (marked sector i first) (sector i) in
-      rw add-one (v ∙ ap (λ (x : ℕ). updated once x true) t ∙ ap (λ (b : ℕ → Bool). updated b (sector (half + i)) true) low)
+  parts-whole : (m : ℕ) (first : ℕ → Bool) → parts m width first ≡ marked sector (m * width) first
+  unfolding parts inPart marked
+  parts-whole zero first = ap (λ (x : ℕ). marked sector x first) (let e : 0 ≡ 0 * width = omega arith in e)
+  parts-whole (suc m) first =
+      ap (marked (inPart m) width) (parts-whole m first) ∙ joined (m * width) width first
+      ∙ ap (λ (x : ℕ). marked sector x first) (let e : m * width + width ≡ suc m * width = omega arith in e)
 
-  joined : (i : ℕ) (first : ℕ → Bool) → marked upper i (marked sector half first) ≡ marked sector (half + i) first
-  unfolding marked upper
-  joined zero first = ap (λ (x : ℕ). marked sector x first) (let e : half ≡ half + 0 = omega arith in e)
-  joined (suc i) first =
-      ap (λ (b : ℕ → Bool). updated b (sector (half + i)) true) (joined i first)
-      ∙ ap (λ (x : ℕ). marked sector x first) (let e : suc (half + i) ≡ half + suc i = omega arith in e)
+  -- A loop that marks one of each of four parts in turn.
+  abbrev pub Quarters : ℕ → (ℕ → Bool) → (ℕ → Bool) → Type 0
+  Quarters i first bits = bits ≡ parts 4 i first
 
-  pub halves-end : (i : ℕ) (first bits : ℕ → Bool) → i ≡ half → Halves i first bits → bits ≡ marked sector (half + half) first
-  halves-end i first bits e h =
-      h ∙ ap (λ (x : ℕ). marked upper x (marked sector x first)) e ∙ joined half first
+  pub quarters-start : (first : ℕ → Bool) → Quarters 0 first first
+  quarters-start first = sym (parts-none 4 first)
+
+  pub quarters-next : (i : ℕ) (first bits one two three after : ℕ → Bool) → Quarters i first bits → one ≡ updated bits (sector i) true
+      → two ≡ updated one (sector (width + i)) true → three ≡ updated two (sector (2 * width + i)) true
+      → after ≡ updated three (sector (3 * width + i)) true → Quarters (i + 1) first after
+  unfolding marked inPart
+  quarters-next i first bits one two three after h a b c d =
+      let zeroth : sector i ≡ sector (0 * width + i) = ap sector (omega arith) in
+      let first-part : sector (width + i) ≡ sector (1 * width + i) = ap sector (omega arith) in
+      let e = a ∙ ap (λ (k : ℕ). updated bits k true) zeroth in
+      let f = b ∙ ap (λ (x : ℕ → Bool). updated x (sector (width + i)) true) e ∙ ap (λ (k : ℕ). updated (updated bits (sector (0 * width + i)) true) k true) first-part in
+      let g = c ∙ ap (λ (x : ℕ → Bool). updated x (sector (2 * width + i)) true) f in
+      rw add-one
+      (d ∙ ap (λ (x : ℕ → Bool). updated x (sector (3 * width + i)) true) g ∙ ap (marked (λ j. inPart j i) 4) h ∙ sym (parts-more 4 i first))
+
+  pub quarters-end : (i : ℕ) (first bits : ℕ → Bool) → i ≡ width → Quarters i first bits → bits ≡ marked sector (4 * width) first
+  quarters-end i first bits e h = h ∙ ap (λ (x : ℕ). parts 4 x first) e ∙ parts-whole 4 first
 
 -- Marked so, the bits are those of the entries.
 pub entries-marked : (entry : ℕ → ℕ) (others : List ℕ) (m : ℕ) → marked (λ b. sectorOf (entry b)) m (usedBy others) ≡ usedBy (withEntries entry m others)

@@ -6,7 +6,7 @@ ghost use Prim.Native.Nat.{ℕ, suc, _+_, _*_, _-_, _/_, _%_, _^_, _≤_, _<_};
 ghost use lib.ListN.{length, replicate};
 ghost use lib.Dec.{eqb};
 ghost use Rattle.geometry.specs.Geometry.{within, mostBlocks, piecesFor};
-ghost use Rattle.layout.specs.Bounded.{at, countBelow, all, always, gathered};
+ghost use Rattle.layout.specs.Bounded.{at, countBelow, all, always, gathered, updated};
 ghost use Rattle.layout.specs.Entry.{isEmpty, sectorOf};
 ghost use Rattle.volume.specs.Tables.{bitAt, namedBy, usedBy};
 ghost use Rattle.names.specs.Marked.{withEntries, marked};
@@ -115,19 +115,29 @@ fn mark_places(marks: &mut [u8], places: &[u32])
     }
 }
 
-// Marks the sectors of the first entries, twice `half` of them. Neighbours are often in one byte, and each would wait for the one before
-// to be stored: so one of the lower half and one of the upper are marked in turn.
-fn mark_halves(marks: &mut [u8], map: &[u32], half: usize)
-    requires { ⌜ half + half ≤ length (now map) ⌝ }
+// Marks the sector of entry b.
+fn mark_entry(marks: &mut [u8], map: &[u32], b: usize)
+    requires { ⌜ b < length (now map) ⌝ }
+    requires { ⌜ sectorOf (at (now map) b) < 8 * length (now marks) ⌝ }
+    ensures { λ _. ⌜ bitAt (now (marks .exit)) ≡ updated (bitAt (now (marks .entry))) (sectorOf (at (now (map .entry)) b)) true ⌝ }
+{
+    let k = blocks::sector_of(map[b]);
+    bits::set_bit(marks, k as usize);
+}
+
+// Marks the sectors of the first entries, four times `quarter` of them. Neighbours are often in one byte, and each would wait for the one
+// before to be stored: so one of each quarter is marked in turn.
+fn mark_quarters(marks: &mut [u8], map: &[u32], quarter: usize)
+    requires { ⌜ 4 * quarter ≤ length (now map) ⌝ }
     requires { ⌜ ((b : ℕ) → b < length (now map) → sectorOf (at (now map) b) < 8 * length (now marks)) ⌝ }
-    ensures { λ _. ⌜ bitAt (now (marks .exit)) ≡ marked (λ b. sectorOf (at (now (map .entry)) b)) (half + half) (bitAt (now (marks .entry))) ⌝ }
+    ensures { λ _. ⌜ bitAt (now (marks .exit)) ≡ marked (λ b. sectorOf (at (now (map .entry)) b)) (4 * quarter) (bitAt (now (marks .entry))) ⌝ }
 {
     let mut i = 0;
-    while i < half {
-        let lower = blocks::sector_of(map[i]);
-        bits::set_bit(marks, lower as usize);
-        let upper = blocks::sector_of(map[half + i]);
-        bits::set_bit(marks, upper as usize);
+    while i < quarter {
+        mark_entry(marks, map, i);
+        mark_entry(marks, map, quarter + i);
+        mark_entry(marks, map, 2 * quarter + i);
+        mark_entry(marks, map, 3 * quarter + i);
         i += 1;
     }
 }
@@ -140,8 +150,7 @@ fn mark_rest(marks: &mut [u8], map: &[u32], from: usize)
 {
     let mut i = from;
     while i < map.len() {
-        let k = blocks::sector_of(map[i]);
-        bits::set_bit(marks, k as usize);
+        mark_entry(marks, map, i);
         i += 1;
     }
 }
@@ -152,9 +161,9 @@ fn mark_entries(marks: &mut [u8], map: &[u32])
     requires { ⌜ ((b : ℕ) → b < length (now map) → sectorOf (at (now map) b) < 8 * length (now marks)) ⌝ }
     ensures { λ _. ⌜ ((others : List ℕ) → bitAt (now (marks .entry)) ≡ usedBy others → bitAt (now (marks .exit)) ≡ usedBy (withEntries (at (now (map .entry))) (length (now (map .entry))) others)) ⌝ }
 {
-    let half = map.len() / 2;
-    mark_halves(marks, map, half);
-    mark_rest(marks, map, half + half);
+    let quarter = map.len() / 4;
+    mark_quarters(marks, map, quarter);
+    mark_rest(marks, map, 4 * quarter);
 }
 
 // The same, where most entries are empty: these are passed over, since all would mark sector 0, each after the other.

@@ -28,13 +28,12 @@ loop-holds c =
 
 loop-again : tie.Need-loop-again Inv-loop μ-loop
 loop-again c =
-    let s = c .before .before .set-bit in
-    let k = c .before .before .before .before .sector-of in
-    let l = c .before .before .before .before .before .before .before .loop in
-    let a = c .before .before .before .before .before .before .before .before .before .before .args in (
+    let s = c .before .before .mark-entry in
+    let l = c .before .before .before .before .before .loop in
+    let a = c .before .before .before .before .before .before .before .before .args in (
       omega arith,
       s .kept .0 ∙ l .inv .1,
-      λ first h. marked-next (λ b. sectorOf (at (a .map .now) b)) (l .i) first _ _ (k .result) (k .ensures) (l .inv .2 first h) (s .ensures),
+      λ first h. marked-next (λ b. sectorOf (at (a .map .now) b)) (l .i) first _ _ _ refl (l .inv .2 first h) (s .ensures),
     )
 
 returns : tie.Need-returns Inv-loop μ-loop
@@ -44,25 +43,11 @@ returns c =
     let end : l .i ≡ length (a .map .now) = omega arith in
     λ first h. l .inv .2 first h ∙ ap (λ (x : ℕ). marked (λ b. sectorOf (at (a .map .now) b)) x first) end
 
-mul-sector-of : tie.Need-mul-sector-of Inv-loop μ-loop
-mul-sector-of c = omega arith
-
-shared-slice-read-sector-of : tie.Need-shared-slice-read-sector-of Inv-loop μ-loop
-shared-slice-read-sector-of c = omega arith
-
-sector-of-requires : tie.Need-sector-of-requires Inv-loop μ-loop
-sector-of-requires c κs = search needs
-
-cast-set-bit : tie.Need-cast-set-bit Inv-loop μ-loop
-cast-set-bit c = omega arith
-
-set-bit-requires : tie.Need-set-bit-requires Inv-loop μ-loop
-set-bit-requires c κs =
-    let l = c .before .before .before .before .loop in
+mark-entry-requires : tie.Need-mark-entry-requires Inv-loop μ-loop
+mark-entry-requires c κs =
+    let l = c .before .before .loop in
     let len = l .inv .1 in
-    let k = c .before .sector-of .ensures in
-    let below = c .before .before .before .before .before .before .before .pre .1 (l .i) (omega arith) in
-    omega arith
+    (omega arith, (let below = c .before .before .before .before .before .pre .1 (l .i) (omega arith) in omega arith))
 
 add-i : tie.Need-add-i Inv-loop μ-loop
 add-i c = omega arith
@@ -76,4 +61,4 @@ same-length c =
     l .inv .1
 
 pub mark-rest-spec : {M : Type 1} → statement M
-mark-rest-spec = tie.close (tie.spec Inv-loop μ-loop loop-holds mul-sector-of shared-slice-read-sector-of sector-of-requires cast-set-bit set-bit-requires add-i loop-less loop-again same-length returns)
+mark-rest-spec = tie.close (tie.spec Inv-loop μ-loop loop-holds mark-entry-requires add-i loop-less loop-again same-length returns)
