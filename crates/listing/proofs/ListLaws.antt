@@ -26,6 +26,7 @@ use Rattle.tournament.specs.Tournament.{keyAt, below, Keyed}
 use Rattle.tournament.proofs.TournamentLaws.{keyed-first, keyed-below}
 use Rattle.laws.proofs.Words.{length-wordsOf}
 use Rattle.laws.proofs.Sectors.{sector-length}
+use Rattle.map_sector.proofs.Branches.{branch-room}
 use Rattle.listing.specs.Listing.{Taken}
 
 -- The key of a candidate.
@@ -280,12 +281,6 @@ module _ (pieces : ℕ) (t : Tables) (view : View) (remaining : ℕ → Bool) wh
       either : (b : Bool) (x : ℕ) (xs : List ℕ) → cond b xs (x ∷ xs) ≡ cond b [] (x ∷ []) ++ xs
       either true x xs = refl
       either false x xs = refl
-
-pub branch-room : (bytes : List ℕ) → length bytes ≡ 512 → length (branchWords (wordsOf bytes)) ≡ 24
-branch-room bytes e =
-    let w = length-wordsOf bytes in
-    let d = length-drop 8 (wordsOf bytes) in
-    length-take-le 24 (drop 8 (wordsOf bytes)) (omega arith)
 
 -- The whole listing: what is listed so far, and what is listed from here on.
 module _ (g : Geometry) (image : ℕ → List ℕ) (pl nu touched : List ℕ) (number : ℕ) where

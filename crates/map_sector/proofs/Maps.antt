@@ -60,22 +60,6 @@ module _ (l : ℕ) (ws : List ℕ) (h : headerFits l ws ≡ true) where
   pub header-count : at ws 6 ≤ branchRoom
   header-count = leb-true (at ws 6) branchRoom (passed .1)
 
-pub branches-parts : (n count : ℕ) (ws : List ℕ) → count ≤ 24
-    → branchesFit n count (branchWords ws) ≡ (all (within 1 (n - 1)) (slice 8 (8 + count) ws) && all isZero (slice (8 + count) 32 ws))
-unfolding branchesFit
-branches-parts n count ws h =
-    let used : slice 8 (8 + count) ws ≡ take count (take 24 (drop 8 ws)) = drop-take 8 count ws ∙ sym (take-take count 24 (drop 8 ws) h) in
-    let unused : slice (8 + count) 32 ws ≡ drop count (take 24 (drop 8 ws)) =
-    sym (drop-drop count 8 (take 32 ws)) ∙ ap (drop count) (drop-take 8 24 ws) in
-    rw (used, unused)
-
-module _ (n count : ℕ) (ws : List ℕ) (room : count ≤ 24) (used : Bool) (e : used ≡ all (within 1 (n - 1)) (slice 8 (8 + count) ws)) where
-  pub branches-bad : used ≡ false → branchesFit n count (branchWords ws) ≡ false
-  branches-bad f = branches-parts n count ws room ∙ rw (sym e ∙ f)
-
-  pub branches-left : used ≡ true → branchesFit n count (branchWords ws) ≡ all isZero (slice (8 + count) 32 ws)
-  branches-left f = branches-parts n count ws room ∙ rw (sym e ∙ f)
-
 module _ (d : ℕ) (ws : List ℕ) (long : length ws ≡ 128) where
   pub entries-all : 96 ≤ d → all isZero (drop d (entryWords ws)) ≡ true
   unfolding all

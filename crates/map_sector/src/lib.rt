@@ -1,7 +1,7 @@
 // Map sectors: whether a sector is one ("signed"), what one says, and how one is made. Word 0 is the mark, 1 the balance, 2 the
 // number, 3 zero, 4 the piece, 5 the kind, 6 the count of branches, 7 L, 8 to 31 the branches, 32 to 127 the entries.
 ghost use mathlib.Core.Path.{_≡_};
-ghost use mathlib.Core.Bool.{true};
+ghost use mathlib.Core.Bool.{true, _&&_};
 ghost use Prim.Native.Nat.{_*_, _-_, _≤_, _<_};
 ghost use lib.ListN.{length, drop};
 ghost use lib.Dec.{eqb};
@@ -9,7 +9,7 @@ ghost use Rattle.geometry.specs.Geometry.{sectorBytes, piecesFor, entriesPerPie
 ghost use Rattle.layout.specs.Bounded.{at, all, isZero};
 ghost use Rattle.layout.specs.Word.{wordsOf, startsWith};
 ghost use Rattle.layout.specs.MapSector.{mapMark, branchWords, entryWords, branchesFit, valid};
-ghost use Rattle.map_sector.specs.Header.{fieldsFit, headerFits};
+ghost use Rattle.map_sector.specs.Header.{fieldsFit, headerFits, branchFits};
 use geometry::Geometry;
 
 // The sector's number.
@@ -104,19 +104,36 @@ fn header_fits(s: &[u8], l: u32) -> bool
     )
 }
 
-// Whether the branches are sectors from 1 to n - 1, and the unused ones zero.
+// Whether all fitted so far, and w fits as branch i of so many: a sector from 1 to n - 1, and past the last one zero.
+fn still_fits(good: bool, w: u32, i: u32, count: u32, n: u32) -> bool
+    requires { ⌜ 1 ≤ n ⌝ }
+    ensures { λ r. ⌜ r ≡ (good && branchFits n count i w) ⌝ }
+{
+    if n <= w {
+        return false;
+    }
+    if (w != 0) != (i < count) {
+        return false;
+    }
+    good
+}
+
+// Whether the branches are sectors from 1 to n - 1, and the unused ones zero. All 24 are looked at, so that the compiler compares several
+// at a time, however many are used.
 fn branches_fit(s: &[u8], n: u32) -> bool
     requires { ⌜ length (now s) ≡ sectorBytes ⌝ }
     requires { ⌜ 1 ≤ n ⌝ }
     requires { ⌜ at (wordsOf (now s)) 6 ≤ branchRoom ⌝ }
     ensures { λ r. ⌜ r ≡ branchesFit n (at (wordsOf (now (s .entry))) 6) (branchWords (wordsOf (now (s .entry)))) ⌝ }
 {
-    let count = words::word_at(s, 6) as usize;
-    let end = 8 + count;
-    if !words::words_within(s, 8, end, 1, n - 1) {
-        return false;
+    let count = words::word_at(s, 6);
+    let mut good = true;
+    let mut i: u32 = 0;
+    while i < Geometry::BRANCHES {
+        good = still_fits(good, branch_at(s, i as usize), i, count, n);
+        i += 1;
     }
-    words::words_zero(s, end, 32)
+    good
 }
 
 // Whether the entries past block l - 1 are zero.

@@ -26,6 +26,7 @@ use Rattle.signed.specs.Signed.{isSigned, signedAt, below}
 use Rattle.signed.proofs.ViewLaws.{inside, view-signed, valid-view, invalid-view, valid-piece, signed-count, signed-branches}
 use Rattle.tournament.specs.Tournament.{ranked, keyAt, Tournament, Replayed, Keyed}
 use Rattle.tournament.proofs.TournamentLaws.{changed-to}
+use Rattle.map_sector.proofs.Branches.{branch-room}
 use Rattle.targets.specs.Waiting.{walkOf, mayWait, doesWait, Waits, Put}
 
 and-out : (a b : Bool) → (a && b) ≡ false → b ≡ true → a ≡ false
@@ -196,10 +197,7 @@ module _ (g : Geometry) (image : ℕ → List ℕ) (k : ℕ) (e : signedAt g ima
     count-most = let h = signed-count g image k e in let u = f ∙ ap (λ (x : List ℕ). at (wordsOf x) 6) is in omega arith
 
     words-long : length (branchWords (wordsOf s)) ≡ 24
-    words-long =
-        let w = length-wordsOf s in
-        let z = ap length is ∙ size in
-        simp (length-take, length-drop) (omega arith)
+    words-long = branch-room s (ap length is ∙ size)
 
     pub count-is : length (branchesIn (seen k)) ≡ count
     count-is =
