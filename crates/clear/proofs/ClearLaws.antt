@@ -1,12 +1,15 @@
 -- Sector 0 zeroed, or left as it is; and the stores of a recovery in two parts.
-use Prim.Native.Nat.{ℕ, zero, suc, _-_, _+_}
+use Prim.Native.Nat.{ℕ, zero, suc, _-_, _+_, _/_, _%_, _^_, _≤_, _<_}
 use mathlib.Core.Path.{_≡_, refl, sym, _∙_, ap}
+use mathlib.Core.Logic.{⊎-elim}
 use mathlib.Core.Bool.{Bool, true, false, _||_}
 use mathlib.Core.List.{List, [], _∷_, _++_}
+use native.Mathlib.Nat.{zero-div}
 use native.Mathlib.Omega.{arith}
 use lib.ListN.{length, take}
-use borrow.Author.Tests.{le-ltb}
-use Rattle.layout.specs.Bounded.{updated, countBelow}
+use lib.Dec.{eqb}
+use borrow.Author.Tests.{le-ltb, eqb-true}
+use Rattle.layout.specs.Bounded.{at, all, isZero, updated, countBelow}
 use Rattle.layout.specs.Entry.{blank}
 use Rattle.volume.specs.Store.{Store, applied, storesBelow}
 use Rattle.volume.specs.Format.{blankStore}
@@ -14,7 +17,10 @@ use Rattle.volume.specs.Recover.{parkSectorCleared, isBlank}
 use Rattle.power.specs.declared.allowance.Power.{Power}
 use Rattle.power.specs.declared.allowance.Power.the-variants.{Left, Failed}
 use Rattle.power.specs.Power.{powered}
+use Rattle.volume.specs.Tables.{bitAt}
+use Rattle.laws.proofs.Bounded.{lt?, all-at, past-end}
 use Rattle.laws.proofs.Stores.{below-length}
+use Rattle.power.proofs.Storing.{Storing, storing-starts, storing-skips}
 use Rattle.power.proofs.Runs.{first-fails, second-runs}
 
 module _ (done : Bool) (allowance : ℕ) (before : ℕ → List ℕ) where
@@ -68,3 +74,18 @@ module _ (n allowance : ℕ) (bits : ℕ → Bool) (before image : ℕ → List 
       (e ∙ ap (λ (k : ℕ). powered k allowance) (sym (below-length bits blankStore n))) m
       (f ∙ ap (λ (b : Bool). powered (length (parkSectorCleared b)) left) same)
       (i ∙ ap (λ (b : Bool). applied (take left (parkSectorCleared b)) mid) same)
+
+-- No bit is set, and no store is due.
+pub none-marked : (above : List ℕ) → all isZero above ≡ true → (k : ℕ) → bitAt above k ≡ false
+unfolding bitAt
+none-marked above e k =
+    ap (λ (x : ℕ). eqb (x / 2 ^ (k % 8) % 2) 1)
+    (⊎-elim (λ (h : k / 8 < length above). eqb-true (at above (k / 8)) 0 (all-at isZero above (k / 8) e h))
+    (λ (h : length above ≤ k / 8). sym (past-end above (k / 8) h)) (lt? (k / 8) (length above)))
+    ∙ ap (λ (x : ℕ). eqb (x % 2) 1) (zero-div (2 ^ (k % 8)))
+
+pub storing-none : (which : ℕ → Bool) (store : ℕ → Store) (before : ℕ → List ℕ) (allowance : ℕ) → ((k : ℕ) → which k ≡ false) → (n : ℕ)
+    → Storing which store before allowance n allowance before
+storing-none which store before allowance none zero = storing-starts which store before allowance
+storing-none which store before allowance none (suc n) =
+    storing-skips which store before allowance n allowance before (none n) (storing-none which store before allowance none n)

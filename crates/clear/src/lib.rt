@@ -13,8 +13,8 @@ ghost use Rattle.volume.specs.Recover.{parkSectorCleared, isBlank};
 ghost use Rattle.power.specs.Power.{powered};
 use power::allowance::Power;
 
-// Zeros over the marked sectors, ascending.
-fn clear_above(image: &mut [u8], n: u32, above: &[u8], allowance: u32) -> Power
+// Zeros over the marked sectors, ascending: each sector is looked at.
+fn clear_each(image: &mut [u8], n: u32, above: &[u8], allowance: u32) -> Power
     requires { ⌜ sectorBytes * n ≤ length (now image) ⌝ }
     requires { ⌜ n ≤ 8 * length (now above) ⌝ }
     ensures { λ r. ⌜ (r ≡ powered (countBelow (bitAt (now (above .entry))) n) allowance) × (sectorAt (now (image .exit)) ≡ applied (take allowance (storesBelow (bitAt (now (above .entry))) blankStore n)) (sectorAt (now (image .entry)))) ⌝ }
@@ -34,6 +34,18 @@ fn clear_above(image: &mut [u8], n: u32, above: &[u8], allowance: u32) -> Power
         k += 1;
     }
     Power::Left(left)
+}
+
+// The same; where none is marked, as after most plugs, that is seen at once.
+fn clear_above(image: &mut [u8], n: u32, above: &[u8], allowance: u32) -> Power
+    requires { ⌜ sectorBytes * n ≤ length (now image) ⌝ }
+    requires { ⌜ n ≤ 8 * length (now above) ⌝ }
+    ensures { λ r. ⌜ (r ≡ powered (countBelow (bitAt (now (above .entry))) n) allowance) × (sectorAt (now (image .exit)) ≡ applied (take allowance (storesBelow (bitAt (now (above .entry))) blankStore n)) (sectorAt (now (image .entry)))) ⌝ }
+{
+    if blocks::is_blank(above) {
+        return Power::Left(allowance);
+    }
+    clear_each(image, n, above, allowance)
 }
 
 // Zeros over sector 0, unless that is done already.

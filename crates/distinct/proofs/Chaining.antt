@@ -12,7 +12,7 @@ use lib.Seq.{getD-set-same, getD-set-other}
 use borrow.Author.Tests.{eq-eqb, ne-eqb}
 use Rattle.layout.specs.Bounded.{at, distinct}
 use Rattle.laws.proofs.Bounded.{eq?, lt?, cond-true, cond-false}
-use Rattle.distinct.specs.Chains.{groupOf, restOf, lastIn, Back, Linked, Apart}
+use Rattle.distinct.specs.Chains.{groups, rests, groupOf, restOf, lastIn, Back, Linked, Apart}
 use Rattle.distinct.proofs.Equal.{differ-distinct, equal-distinct}
 
 module _ (group : ℕ → ℕ) (g : ℕ) where
@@ -51,17 +51,17 @@ module _ (group : ℕ → ℕ) (g : ℕ) where
 module _ (xs : List ℕ) (next₀ : List ℕ) where
   pub record Linking (heads next : List ℕ) (i : ℕ) : Type 0 where
     pub inside : i ≤ length xs
-    pub groups : length heads ≡ 16384
+    pub wide : length heads ≡ groups
     pub long : length next ≡ length next₀
-    pub ends : (g : ℕ) → g < 16384 → at heads g ≡ lastIn (groupOf xs) g i
+    pub ends : (g : ℕ) → g < groups → at heads g ≡ lastIn (groupOf xs) g i
     pub back : (j : ℕ) → j < i → at next j ≡ lastIn (groupOf xs) (groupOf xs j) j
 
-  pub linking-none : (heads : List ℕ) → length heads ≡ 16384 → ((g : ℕ) → at heads g ≡ 0) → Linking heads next₀ 0
+  pub linking-none : (heads : List ℕ) → length heads ≡ groups → ((g : ℕ) → at heads g ≡ 0) → Linking heads next₀ 0
   unfolding lastIn
   linking-none heads n z =
       record {
         inside = omega arith;
-        groups = n;
+        wide = n;
         long = refl;
         ends = λ g h. z g;
         back = λ j h. absurd (not-suc-le-zero h);
@@ -70,13 +70,13 @@ module _ (xs : List ℕ) (next₀ : List ℕ) where
   pub linking-more : (heads next : List ℕ) (i : ℕ) → Linking heads next i → at xs i < 2 ^ 32 → i < length xs → length xs ≤ length next₀
       → Linking (set heads (groupOf xs i) (i + 1)) (set next i (at heads (groupOf xs i))) (i + 1)
   linking-more heads next i l word h fit =
-      let n = l .groups in
+      let n = l .wide in
       let m = l .long in
-      let own : groupOf xs i < 16384 = omega arith in
+      let own : groupOf xs i < groups = omega arith in
       rw add-one
       (record {
         inside = h;
-        groups = length-set heads (groupOf xs i) (suc i) ∙ n;
+        wide = length-set heads (groupOf xs i) (suc i) ∙ n;
         long = length-set next i (at heads (groupOf xs i)) ∙ m;
         ends = λ g b.
             ⊎-elim (λ (e : g ≡ groupOf xs i).
@@ -110,12 +110,12 @@ module _ (xs : List ℕ) (next₀ : List ℕ) where
 
 -- Numbers of one group with one rest are equal.
 same-number : (xs : List ℕ) (i j : ℕ) → groupOf xs i ≡ groupOf xs j → restOf xs i ≡ restOf xs j → at xs i ≡ at xs j
-same-number xs i j e f = let a = div-add-mod (at xs i) 262144 in let b = div-add-mod (at xs j) 262144 in omega arith
+same-number xs i j e f = let a = div-add-mod (at xs i) rests in let b = div-add-mod (at xs j) rests in omega arith
 
 -- Walking: of the numbers of group g, those from index p on have been met. They are all different, and theirs are the stamps g + 1.
 module _ (xs : List ℕ) (g : ℕ) where
   pub record Walking (stamps : List ℕ) (p : ℕ) : Type 0 where
-    pub long : length stamps ≡ 262144
+    pub long : length stamps ≡ rests
     pub inside : p ≤ length xs
     pub own : (q : ℕ) → p ≡ suc q → groupOf xs q ≡ g
     pub most : (k : ℕ) → at stamps k ≤ g + 1
@@ -123,7 +123,7 @@ module _ (xs : List ℕ) (g : ℕ) where
     pub origin : (k : ℕ) → at stamps k ≡ g + 1 → (j : ℕ) × (p ≤ j) × (j < length xs) × (groupOf xs j ≡ g) × (restOf xs j ≡ k)
     pub apart : (i j : ℕ) → p ≤ i → i < j → j < length xs → groupOf xs i ≡ g → groupOf xs j ≡ g → restOf xs i ≡ restOf xs j → ⊥
 
-  pub walking-none : (stamps : List ℕ) (p : ℕ) → length stamps ≡ 262144 → ((k : ℕ) → at stamps k ≤ g)
+  pub walking-none : (stamps : List ℕ) (p : ℕ) → length stamps ≡ rests → ((k : ℕ) → at stamps k ≤ g)
       → p ≡ lastIn (groupOf xs) g (length xs) → Walking stamps p
   walking-none stamps p n low e =
       let b = last-le (groupOf xs) g (length xs) in
@@ -209,11 +209,11 @@ module _ (xs : List ℕ) (g : ℕ) where
 -- Group after group: those below g have been walked, and left no higher stamps.
 module _ (xs : List ℕ) where
   pub record Grouping (stamps : List ℕ) (g : ℕ) : Type 0 where
-    pub long : length stamps ≡ 262144
+    pub long : length stamps ≡ rests
     pub most : (k : ℕ) → at stamps k ≤ g
     pub apart : (h : ℕ) → h < g → Apart xs h
 
-  pub grouping-none : (stamps : List ℕ) → length stamps ≡ 262144 → ((k : ℕ) → at stamps k ≤ 0) → Grouping stamps 0
+  pub grouping-none : (stamps : List ℕ) → length stamps ≡ rests → ((k : ℕ) → at stamps k ≤ 0) → Grouping stamps 0
   grouping-none stamps n low = record { long = n; most = low; apart = λ h b. absurd (not-suc-le-zero b) }
 
   pub grouping-more : (stamps new : List ℕ) (g : ℕ) → Grouping stamps g → length new ≡ length stamps → Apart xs g
@@ -226,8 +226,8 @@ module _ (xs : List ℕ) where
       }
 
   -- Equal numbers are of one group.
-  pub grouping-ends : (stamps : List ℕ) (g : ℕ) → Grouping stamps g → 16384 ≤ g → ((i : ℕ) → at xs i < 2 ^ 32) → true ≡ distinct xs
+  pub grouping-ends : (stamps : List ℕ) (g : ℕ) → Grouping stamps g → groups ≤ g → ((i : ℕ) → at xs i < 2 ^ 32) → true ≡ distinct xs
   grouping-ends stamps g w h word =
       sym (differ-distinct xs (λ i j a b e.
       let s = word i in
-      w .apart (groupOf xs i) (omega arith) i j a b refl (ap (λ (x : ℕ). x / 262144) (sym e)) (ap (λ (x : ℕ). x % 262144) e)))
+      w .apart (groupOf xs i) (omega arith) i j a b refl (ap (λ (x : ℕ). x / rests) (sym e)) (ap (λ (x : ℕ). x % rests) e)))

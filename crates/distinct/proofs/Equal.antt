@@ -1,18 +1,14 @@
 -- Distinct numbers as lists in which no two indices have one number, and the map of residues.
-use Prim.Native.Nat.{ℕ, zero, suc, _+_, _-_, _%_, _≤_, _<_}
+use Prim.Native.Nat.{ℕ, zero, suc, _+_, _%_, _≤_, _<_}
 use mathlib.Core.Path.{_≡_, refl, sym, _∙_, ap, subst}
 use mathlib.Core.Logic.{⊎-elim}
-use mathlib.Core.Bool.{true, false, not}
+use mathlib.Core.Bool.{true, false}
 use mathlib.Core.List.{List, [], _∷_}
 use native.Mathlib.Nat.{not-suc-le-zero, le-of-suc-le-suc}
-use native.Mathlib.Numerals.{add-one}
 use native.Mathlib.Omega.{arith}
-use lib.ListN.{length, take, drop, length-drop}
-use lib.Seq.{take-all}
-use lib.Dec.{eqb}
-use borrow.Author.Tests.{eq-eqb, not-true}
-use Rattle.layout.specs.Bounded.{at, elem, distinct, gathered, isZero, updated}
-use Rattle.laws.proofs.Bounded.{bool?, lt?, eq?, clash, updated-here, updated-other, gathered-distinct, elem-cons, elem-here, elem-there, distinct-head, distinct-rest, distinct-cons, not-elem}
+use lib.ListN.{length}
+use Rattle.layout.specs.Bounded.{at, elem, distinct, updated}
+use Rattle.laws.proofs.Bounded.{bool?, eq?, clash, updated-here, updated-other, elem-cons, elem-here, elem-there, distinct-head, distinct-rest, distinct-cons, not-elem}
 
 elem-at : (k : ℕ) (xs : List ℕ) → elem k xs ≡ true → (i : ℕ) × (i < length xs) × (at xs i ≡ k)
 unfolding elem
@@ -53,56 +49,34 @@ pub equal-distinct : (xs : List ℕ) (i j : ℕ) → i < j → j < length xs →
 equal-distinct xs i j h g f =
     ⊎-elim (λ (e : distinct xs ≡ true). absurd (distinct-differ xs e i j h g f)) (λ (e : distinct xs ≡ false). e) (bool? (distinct xs))
 
--- The residues of the numbers below i are marked, in bytes or in bits, and no two agree. 0 stands for none.
-module _ {A : Type 0} (mark : A) (m : ℕ) (num : ℕ → ℕ) where
-  abbrev Some : ℕ → Type 0
-  Some j = num j ≡ 0 → ⊥
+-- The residues of the numbers below i are marked, in bytes or in bits, and no two agree.
+module _ {A : Type 0} (mark : A) (m : ℕ) (xs : List ℕ) where
+  abbrev residue : ℕ → ℕ
+  residue j = at xs j % m
 
   pub record Residues (seen : ℕ → A) (i : ℕ) : Type 0 where
-    pub marked : (j : ℕ) → j < i → Some j → seen (num j % m) ≡ mark
-    pub differ : (j k : ℕ) → j < k → k < i → Some j → num j ≡ num k → ⊥
+    pub marked : (j : ℕ) → j < i → seen (residue j) ≡ mark
+    pub differ : Differ xs i
 
   pub residues-none : (seen : ℕ → A) → Residues seen 0
   residues-none seen = record { marked = λ j g. absurd (not-suc-le-zero g); differ = λ j k h g. absurd (not-suc-le-zero g) }
 
-  pub residues-skip : (seen : ℕ → A) (i : ℕ) → Residues seen i → num i ≡ 0 → Residues seen (i + 1)
-  residues-skip seen i r e =
-      record {
-        marked = λ j h d.
-            ⊎-elim (λ (y : j ≡ i). absurd (d (ap num y ∙ e))) (λ (y : j ≡ i → ⊥). r .marked j (omega arith) d) (eq? j i);
-        differ = λ j k h g d f.
-            ⊎-elim (λ (y : k ≡ i). d (f ∙ ap num y ∙ e)) (λ (y : k ≡ i → ⊥). r .differ j k h (omega arith) d f) (eq? k i);
-      }
-
-  pub residues-more : (seen after : ℕ → A) (i : ℕ) → Residues seen i → (seen (num i % m) ≡ mark → ⊥) → after ≡ updated seen (num i % m) mark
+  pub residues-more : (seen after : ℕ → A) (i : ℕ) → Residues seen i → (seen (residue i) ≡ mark → ⊥) → after ≡ updated seen (residue i) mark
       → Residues after (i + 1)
   residues-more seen after i r free u =
-      let k = num i % m in
+      let k = residue i in
       record {
-        marked = λ j h d.
-            ap (λ (f : ℕ → A). f (num j % m)) u
-            ∙ ⊎-elim (λ (z : num j % m ≡ k). ap (updated seen k mark) z ∙ updated-here seen k mark)
-            (λ (z : num j % m ≡ k → ⊥).
-            updated-other seen k (num j % m) mark z
-            ∙ ⊎-elim (λ (y : j ≡ i). absurd (z (ap (λ (x : ℕ). num x % m) y))) (λ (y : j ≡ i → ⊥). r .marked j (omega arith) d) (eq? j i))
-            (eq? (num j % m) k);
-        differ = λ j l h g d f.
-            ⊎-elim (λ (y : l ≡ i). free (ap (λ (x : ℕ). seen (x % m)) (sym (f ∙ ap num y)) ∙ r .marked j (omega arith) d))
-            (λ (y : l ≡ i → ⊥). r .differ j l h (omega arith) d f) (eq? l i);
+        marked = λ j h.
+            ap (λ (f : ℕ → A). f (residue j)) u
+            ∙ ⊎-elim (λ (z : residue j ≡ k). ap (updated seen k mark) z ∙ updated-here seen k mark)
+            (λ (z : residue j ≡ k → ⊥).
+            updated-other seen k (residue j) mark z
+            ∙ ⊎-elim (λ (y : j ≡ i). absurd (z (ap residue y))) (λ (y : j ≡ i → ⊥). r .marked j (omega arith)) (eq? j i))
+            (eq? (residue j) k);
+        differ = λ j l h g f.
+            ⊎-elim (λ (y : l ≡ i). free (ap (λ (x : ℕ). seen (x % m)) (sym (f ∙ ap (at xs) y)) ∙ r .marked j (omega arith)))
+            (λ (y : l ≡ i → ⊥). r .differ j l h (omega arith) f) (eq? l i);
       }
 
-  pub residues-distinct : (seen : ℕ → A) (i n : ℕ) → Residues seen i → n ≤ i → distinct (gathered (λ k. not (isZero (num k))) num [] n) ≡ true
-  unfolding distinct elem
-  residues-distinct seen i n r h =
-      gathered-distinct (λ k. not (isZero (num k))) num [] n refl (λ j g e. refl)
-      (λ j k a b e f q.
-      let d : Some j = λ (z : num j ≡ 0). clash (isZero (num j)) (eq-eqb (num j) 0 z) (not-true (isZero (num j)) e) in
-      let d′ : Some k = λ (z : num k ≡ 0). clash (isZero (num k)) (eq-eqb (num k) 0 z) (not-true (isZero (num k)) f) in
-      ⊎-elim (λ (y : j ≡ k). y)
-      (λ (y : j ≡ k → ⊥).
-      ⊎-elim (λ (x : j < k). absurd (r .differ j k x (omega arith) d q)) (λ (x : k ≤ j). absurd (r .differ k j (omega arith) (omega arith) d′ (sym q))) (lt? j k))
-      (eq? j k))
-
--- What is lent from an index on, given up to the end.
-pub lent-end : (xs : List ℕ) (n from : ℕ) → length xs ≡ n → from ≤ length xs → take (n - from) (drop from xs) ≡ drop from xs
-lent-end xs n from e h = take-all (n - from) (drop from xs) (let d = length-drop from xs in omega arith)
+  pub residues-distinct : (seen : ℕ → A) (i : ℕ) → Residues seen i → length xs ≤ i → distinct xs ≡ true
+  residues-distinct seen i r h = differ-distinct xs (λ j k a b. r .differ j k a (omega arith))

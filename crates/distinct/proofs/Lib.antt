@@ -1,4 +1,3 @@
 -- Laws that this crate's proofs cite, and its callers' may.
 pub mod Equal
 pub mod Chaining
-pub mod Gathering

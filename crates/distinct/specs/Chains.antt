@@ -7,13 +7,20 @@ use lib.ListN.{length}
 use lib.Dec.{eqb}
 use Rattle.layout.specs.Bounded.{at}
 
--- The group of the number at an index is its upper 14 bits.
-abbrev pub groupOf : List ℕ → ℕ → ℕ
-groupOf xs i = at xs i / 262144
+-- A group for each number of 15 bits, and in it a rest for each of 17.
+abbrev pub groups : ℕ
+groups = 32768
 
--- The other 18, in which numbers of one group differ.
+abbrev pub rests : ℕ
+rests = 131072
+
+-- The group of the number at an index is its upper 15 bits.
+abbrev pub groupOf : List ℕ → ℕ → ℕ
+groupOf xs i = at xs i / rests
+
+-- The other 17, in which numbers of one group differ.
 abbrev pub restOf : List ℕ → ℕ → ℕ
-restOf xs i = at xs i % 262144
+restOf xs i = at xs i % rests
 
 -- One more than the last index below n that is of group g, 0 for none.
 unfoldable pub lastIn : (ℕ → ℕ) → ℕ → ℕ → ℕ
@@ -25,7 +32,7 @@ abbrev pub Back : List ℕ → List ℕ → Type 0
 Back xs next = (i : ℕ) → i < length xs → at next i ≡ lastIn (groupOf xs) (groupOf xs i) i
 
 pub record Linked (xs heads next : List ℕ) : Type 0 where
-  pub ends : (g : ℕ) → g < 16384 → at heads g ≡ lastIn (groupOf xs) g (length xs)
+  pub ends : (g : ℕ) → g < groups → at heads g ≡ lastIn (groupOf xs) g (length xs)
   pub back : Back xs next
 
 -- The numbers of group g are all different.

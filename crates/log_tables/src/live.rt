@@ -1,12 +1,13 @@
-// The live map sector of every piece, found in one pass over what the signed sectors say.
+// The live map sector of every piece, found in one pass over what is listed of the signed sectors.
 ghost use mathlib.Core.Path.{_≡_};
 ghost use mathlib.Core.Bool.{cond};
-ghost use Prim.Native.Nat.{ℕ, _+_, _≤_, _<_};
-ghost use lib.ListN.{length, set, replicate};
+ghost use mathlib.Core.List.{List};
+ghost use Prim.Native.Nat.{ℕ, _≤_, _<_};
+ghost use lib.ListN.{length, set};
 ghost use lib.Dec.{ltb};
-ghost use Rattle.layout.specs.Bounded.{at, best, listFrom};
-ghost use Rattle.signed.specs.Signed.{pieceKey};
-ghost use Rattle.signed.proofs.Newest.{Live};
+ghost use Rattle.layout.specs.Bounded.{at};
+ghost use Rattle.signed.specs.Signed.{stepped};
+ghost use Rattle.log_tables.specs.LogTables.{raised};
 
 // Puts sector k in as the live sector of piece q, if it is newer than the one that stands there.
 fn raise(places: &mut [u32], numbers: &mut [u32], q: usize, k: u32, number: u32)
@@ -21,52 +22,54 @@ fn raise(places: &mut [u32], numbers: &mut [u32], q: usize, k: u32, number: u32)
     numbers[q] = number;
 }
 
-// Sector k, where it is numbered and not above c: the live sectors of the pieces are then those of one sector more. A sector that
-// is numbered 0 is not signed, and its piece says nothing.
-fn raise_signed(
+// The sector that is listed at i, where it is not numbered above c.
+fn raise_listed(
+    sectors: &[u16],
     numbered: &[u32],
     pieces: &[u8],
     c: u32,
-    k: u32,
+    i: usize,
     places: &mut [u32],
     numbers: &mut [u32],
 )
-    requires { ⌜ k < length (now numbered) ⌝ }
-    requires { ⌜ k < length (now pieces) ⌝ }
+    requires { ⌜ i < length (now sectors) ⌝ }
+    requires { ⌜ i < length (now numbered) ⌝ }
+    requires { ⌜ i < length (now pieces) ⌝ }
     requires { ⌜ length (now numbers) ≡ length (now places) ⌝ }
-    requires { ⌜ ((at (now numbered) k ≡ 0 → ⊥) → at (now pieces) k < length (now places)) ⌝ }
-    ensures { λ _. ⌜ ((m : ℕ) → length (now (places .entry)) ≡ m → Live (pieceKey (now (numbered .entry)) (now (pieces .entry)) c) m k (now (places .entry)) (now (numbers .entry)) → Live (pieceKey (now (numbered .entry)) (now (pieces .entry)) c) m (k + 1) (now (places .exit)) (now (numbers .exit))) ⌝ }
+    requires { ⌜ at (now pieces) i < length (now places) ⌝ }
+    ensures { λ _. ⌜ _≡_ {A = List ℕ × List ℕ} (now (places .exit), now (numbers .exit)) (raised c (at (now (sectors .entry)) i) (at (now (numbered .entry)) i) (at (now (pieces .entry)) i) (now (places .entry), now (numbers .entry))) ⌝ }
 {
-    let number = numbered[k as usize];
-    if number == 0 {
-        return;
-    }
+    let number = numbered[i];
     if c < number {
         return;
     }
-    raise(places, numbers, pieces[k as usize] as usize, k, number);
+    raise(
+        places,
+        numbers,
+        pieces[i] as usize,
+        sectors[i] as u32,
+        number,
+    );
 }
 
-// For each piece its sector with the highest number up to c, and that number; 0 where there is none.
+// For each piece its sector with the highest number up to c, and that number, in tables that have none yet.
 pub fn find_live(
+    sectors: &[u16],
     numbered: &[u32],
     pieces: &[u8],
-    n: u32,
     c: u32,
     places: &mut [u32],
     numbers: &mut [u32],
 )
-    requires { ⌜ 1 ≤ n ⌝ }
-    requires { ⌜ n ≤ length (now numbered) ⌝ }
-    requires { ⌜ n ≤ length (now pieces) ⌝ }
-    requires { ⌜ now places ≡ replicate (length (now places)) 0 ⌝ }
-    requires { ⌜ now numbers ≡ replicate (length (now places)) 0 ⌝ }
-    requires { ⌜ ((k : ℕ) → (at (now numbered) k ≡ 0 → ⊥) → at (now pieces) k < length (now places)) ⌝ }
-    ensures { λ _. ⌜ (now (places .exit) ≡ listFrom (λ p. best (pieceKey (now (numbered .entry)) (now (pieces .entry)) c p) n) 0 (length (now (places .entry)))) × (now (numbers .exit) ≡ listFrom (λ p. pieceKey (now (numbered .entry)) (now (pieces .entry)) c p (best (pieceKey (now (numbered .entry)) (now (pieces .entry)) c p) n)) 0 (length (now (places .entry)))) ⌝ }
+    requires { ⌜ length (now numbered) ≡ length (now sectors) ⌝ }
+    requires { ⌜ length (now pieces) ≡ length (now sectors) ⌝ }
+    requires { ⌜ length (now numbers) ≡ length (now places) ⌝ }
+    requires { ⌜ ((i : ℕ) → i < length (now pieces) → at (now pieces) i < length (now places)) ⌝ }
+    ensures { λ _. ⌜ _≡_ {A = List ℕ × List ℕ} (now (places .exit), now (numbers .exit)) (stepped (raised c) (now (sectors .entry)) (now (numbered .entry)) (now (pieces .entry)) (now (places .entry), now (numbers .entry))) ⌝ }
 {
-    let mut k: u32 = 0;
-    while k < n {
-        raise_signed(numbered, pieces, c, k, places, numbers);
-        k += 1;
+    let mut i = sectors.len();
+    while 0 < i {
+        i -= 1;
+        raise_listed(sectors, numbered, pieces, c, i, places, numbers);
     }
 }

@@ -3,29 +3,30 @@ use Prim.Native.Nat.{ℕ, _≤_, _<_}
 use mathlib.Core.Path.{_≡_, refl, sym, _∙_, ap, subst}
 use mathlib.Core.Logic.{⊎-elim}
 use mathlib.Core.Bool.{Bool, true, false, cond, not, _||_, true≢false}
-use mathlib.Core.List.{List}
+use mathlib.Core.List.{List, []}
 use mathlib.Core.Option.{none, some}
 use native.Mathlib.Omega.{arith}
+use lib.ListN.{length}
 use lib.Dec.{ltb}
-use borrow.Author.Tests.{eq-eqb, ne-eqb, eqb-true, not-true, not-false}
+use borrow.Author.Tests.{eq-eqb, ne-eqb, eqb-true, lt-ltb, ltb-true, not-true, not-false}
 use Rattle.geometry.specs.declared.Geometry.{Geometry}
 use Rattle.geometry.specs.Geometry.{piecesFor, pieceOf, indexOf}
 use Rattle.answer.specs.declared.Answer.the-variants.{Scanned}
 use Rattle.answer.specs.declared.Loss.the-variants.{NoLog, DamagedLog}
-use Rattle.layout.specs.Bounded.{at, anyBelow, best, distinct, isZero, listFrom, tabled}
+use Rattle.layout.specs.Bounded.{at, anyBelow, all, distinct, isZero, listFrom, tabled}
 use Rattle.layout.specs.Word.{wordsOf}
 use Rattle.layout.specs.MapSector.{View, entryWords, fields}
 use Rattle.volume.specs.Tables.{Tables, tablesOf, namedBy, usedBy, bitAt, consistent}
-use Rattle.volume.specs.Recover.{numberIn, entryIn, pieceNumber, tablesFrom, imageView, newestClosing, scanPlace, signedNumbers, isConsistent, scannedLog, scanDamaged, scanStores, scanFinding, closedUpTo, closingNumber, Finding, found, missing}
-use Rattle.laws.proofs.Bounded.{bool?, clash, anyBelow-at, anyBelow-is, listFrom-same, best-below, cond-true, cond-false}
+use Rattle.volume.specs.Recover.{numberIn, pieceIn, entryIn, pieceNumber, tablesFrom, imageView, newestClosing, scanPlace, signedNumbers, isUncommitted, isConsistent, scannedLog, scanDamaged, scanStores, scanFinding, closedUpTo, Finding, found, missing}
+use Rattle.laws.proofs.Bounded.{bool?, clash, anyBelow-at, anyBelow-is, all-at, gathered-all, listFrom-same, best-below, cond-true, cond-false}
 use Rattle.laws.proofs.Names.{sound}
-use Rattle.signed.specs.Signed.{below, Read, Closings, closingKey, pieceKey}
+use Rattle.signed.specs.Signed.{below, signedSectors, signedPieces, Listed}
 use Rattle.log_tables.specs.LogTables.{tablesNamed, livePlaces, liveNumbers, mapFrom}
 use Rattle.scan.specs.Scanned.{scanFound, scanAbove}
 use Rattle.scan.specs.declared.Found.{Found}
 use Rattle.scan.specs.declared.Found.the-variants.{Log, Missing}
 use Rattle.signed.proofs.Newest.{listed}
-use Rattle.signed.proofs.ViewLaws.{closing-view, closings-view, above-view, piece-view, pieces-view, piece-signed, piece-number}
+use Rattle.signed.proofs.ViewLaws.{above-view, piece-inside, piece-signed, piece-number}
 
 -- Tables with the same words, places and numbers are the same.
 pub tables-same : (l : ℕ) (entry entry′ place place′ number number′ : ℕ → ℕ) → entry ≡ entry′ → place ≡ place′ → number ≡ number′
@@ -92,33 +93,26 @@ module _ (d a c : Bool) where
       twice true = refl
       twice false = refl
 
-module _ (g : Geometry) (image : ℕ → List ℕ) (numbered ofPiece : List ℕ) (read : Read (imageView g image) numbered ofPiece) (c : ℕ) where
+module _ (g : Geometry) (image : ℕ → List ℕ) (c : ℕ) where
   abbrev view : View
   view = imageView g image
 
   abbrev live : ℕ → ℕ
   live p = scanPlace (g .n) view c p
 
-  place-view : (p : ℕ) → best (pieceKey numbered ofPiece c p) (g .n) ≡ live p
-  unfolding scanPlace
-  place-view p = ap (λ (f : ℕ → ℕ). best f (g .n)) (pieces-view g image numbered ofPiece read c p)
-
   -- A piece has no sector.
   Lost : Bool
   Lost = anyBelow (λ p. isZero (pieceNumber c p (view (live p)))) (piecesFor (g .l))
 
-  module _ (map places numbers : List ℕ) (p : places ≡ livePlaces numbered ofPiece c (g .n) (piecesFor (g .l))) (q : numbers ≡ liveNumbers numbered ofPiece c (g .n) (piecesFor (g .l)))
+  module _ (map places numbers : List ℕ) (p : places ≡ livePlaces view c (g .n) (piecesFor (g .l))) (q : numbers ≡ liveNumbers view c (g .n) (piecesFor (g .l)))
       (m : map ≡ mapFrom image places (g .l)) where
     places-are : places ≡ listFrom live 0 (piecesFor (g .l))
     unfolding livePlaces
-    places-are =
-        p ∙ listFrom-same (λ p. best (pieceKey numbered ofPiece c p) (g .n)) live 0 (piecesFor (g .l)) (λ k a b. place-view k)
+    places-are = p
 
     numbers-are : numbers ≡ listFrom (λ p. pieceNumber c p (view (live p))) 0 (piecesFor (g .l))
     unfolding liveNumbers
-    numbers-are =
-        q ∙ listFrom-same (λ p. pieceKey numbered ofPiece c p (best (pieceKey numbered ofPiece c p) (g .n))) (λ p. pieceNumber c p (view (live p))) 0 (piecesFor (g .l))
-        (λ k a b. ap (pieceKey numbered ofPiece c k) (place-view k) ∙ piece-view g image numbered ofPiece read c k (live k))
+    numbers-are = q
 
     at-number : (k : ℕ) → k < piecesFor (g .l) → at numbers k ≡ pieceNumber c k (view (live k))
     at-number k h = ap (λ (xs : List ℕ). at xs k) numbers-are ∙ listed (λ p. pieceNumber c p (view (live p))) (piecesFor (g .l)) k h
@@ -188,22 +182,32 @@ module _ (g : Geometry) (image : ℕ → List ℕ) (numbered ofPiece : List ℕ)
     λ z. absurd (true≢false (sym z)),
   )
 
-  pub place-inside : (p : ℕ) (places : List ℕ) → 0 < g .n → places ≡ livePlaces numbered ofPiece c (g .n) (piecesFor (g .l)) → p < piecesFor (g .l) → at places p < g .n
-  unfolding livePlaces
+  pub place-inside : (p : ℕ) (places : List ℕ) → 0 < g .n → places ≡ livePlaces view c (g .n) (piecesFor (g .l)) → p < piecesFor (g .l) → at places p < g .n
+  unfolding livePlaces scanPlace
   place-inside p places pos e h =
-      subst (λ (x : ℕ). x < g .n) (sym (ap (λ (xs : List ℕ). at xs p) e ∙ listed (λ p. best (pieceKey numbered ofPiece c p) (g .n)) (piecesFor (g .l)) p h))
-      (best-below (pieceKey numbered ofPiece c p) (g .n) pos)
+      subst (λ (x : ℕ). x < g .n) (sym (ap (λ (xs : List ℕ). at xs p) e ∙ listed live (piecesFor (g .l)) p h))
+      (best-below (λ k. pieceNumber c p (view k)) (g .n) pos)
 
-  -- What the code leaves, under the names of the definition.
-  pub are-places : (m : ℕ) (places : List ℕ) → m ≡ piecesFor (g .l) → places ≡ listFrom (λ p. best (pieceKey numbered ofPiece c p) (g .n)) 0 m
-      → places ≡ livePlaces numbered ofPiece c (g .n) (piecesFor (g .l))
-  unfolding livePlaces
-  are-places m places e f = f ∙ ap (listFrom (λ p. best (pieceKey numbered ofPiece c p) (g .n)) 0) e
+  -- Of what is listed, each piece is one of the pieces, and each sector lies in the image.
+  module _ (sectors numbered pieces : List ℕ) (l : Listed view (g .n) sectors numbered pieces) where
+    pub pieces-inside : (i : ℕ) → i < length pieces → at pieces i < piecesFor (g .l)
+    unfolding signedPieces all
+    pieces-inside i h =
+        ltb-true (at pieces i) (piecesFor (g .l))
+        (all-at (λ x. ltb x (piecesFor (g .l))) pieces i
+        (ap (all (λ x. ltb x (piecesFor (g .l)))) (l .piece)
+        ∙ gathered-all (λ k. not (isZero (numberIn (view k)))) (λ k. pieceIn (view k)) [] (λ x. ltb x (piecesFor (g .l))) (g .n) refl
+        (λ k a e. lt-ltb (pieceIn (view k)) (piecesFor (g .l)) (piece-inside g image k (λ (z : numberIn (view k) ≡ 0). clash (isZero (numberIn (view k))) (ap isZero z) (not-true (isZero (numberIn (view k))) e)))))
+        h)
 
-  pub are-numbers : (m : ℕ) (numbers : List ℕ) → m ≡ piecesFor (g .l) → numbers ≡ listFrom (λ p. pieceKey numbered ofPiece c p (best (pieceKey numbered ofPiece c p) (g .n))) 0 m
-      → numbers ≡ liveNumbers numbered ofPiece c (g .n) (piecesFor (g .l))
-  unfolding liveNumbers
-  are-numbers m numbers e f = f ∙ ap (listFrom (λ p. pieceKey numbered ofPiece c p (best (pieceKey numbered ofPiece c p) (g .n))) 0) e
+    pub sectors-inside : (i : ℕ) → i < length sectors → at sectors i < g .n
+    unfolding signedSectors all
+    sectors-inside i h =
+        ltb-true (at sectors i) (g .n)
+        (all-at (λ x. ltb x (g .n)) sectors i
+        (ap (all (λ x. ltb x (g .n))) (l .sector)
+        ∙ gathered-all (λ k. not (isZero (numberIn (view k)))) (λ k. k) [] (λ x. ltb x (g .n)) (g .n) refl (λ k a e. lt-ltb k (g .n) a))
+        h)
 
 pub is-map : (image : ℕ → List ℕ) (places map : List ℕ) (m l : ℕ) → m ≡ l
     → map ≡ listFrom (λ b. at (entryWords (wordsOf (image (at places (pieceOf b))))) (indexOf b)) 0 m → map ≡ mapFrom image places l
@@ -211,18 +215,9 @@ unfolding mapFrom
 is-map image places map m l e f = f ∙ ap (listFrom (λ b. at (entryWords (wordsOf (image (at places (pieceOf b))))) (indexOf b)) 0) e
 
 -- What the scan answers.
-module _ (g : Geometry) (image : ℕ → List ℕ) (numbered ofPiece : List ℕ) (read : Read (imageView g image) numbered ofPiece) (closing : List ℕ)
-    (kinds : Closings (imageView g image) closing) (tail c : ℕ) (newest : tail ≡ best (closingKey numbered closing) (g .n)) (number : c ≡ closingKey numbered closing tail) where
+module _ (g : Geometry) (image : ℕ → List ℕ) (tail c : ℕ) (newest : tail ≡ newestClosing (g .n) (imageView g image)) (number : c ≡ closedUpTo (g .n) (imageView g image)) where
   abbrev seen : View
   seen = imageView g image
-
-  pub tail-newest : tail ≡ newestClosing (g .n) seen
-  unfolding newestClosing
-  tail-newest = newest ∙ ap (λ (f : ℕ → ℕ). best f (g .n)) (closings-view g image numbered ofPiece read closing kinds)
-
-  c-is : closedUpTo (g .n) seen ≡ c
-  unfolding closedUpTo
-  c-is = ap (λ (k : ℕ). closingNumber (seen k)) (sym tail-newest) ∙ sym (closing-view g image numbered ofPiece read closing kinds tail) ∙ sym number
 
   abbrev Whole : ℕ → Finding
   Whole c = found (scannedLog g seen c) (Scanned (g .n)) (scanStores (g .n) seen (image 0) c)
@@ -232,7 +227,7 @@ module _ (g : Geometry) (image : ℕ → List ℕ) (numbered ofPiece : List ℕ)
 
   finding-is : scanFinding g seen (image 0) ≡ Judged c
   unfolding scanFinding
-  finding-is = ap Judged c-is
+  finding-is = ap Judged (sym number)
 
   abbrev pub Answered : Found → Tables → (ℕ → Bool) → Type 0
   Answered r t above = (scanFound r (g .n) seen (image 0) t ≡ scanFinding g seen (image 0)) × scanAbove r seen above
@@ -258,12 +253,12 @@ module _ (g : Geometry) (image : ℕ → List ℕ) (numbered ofPiece : List ℕ)
       refl,
     )
 
-    pub scan-finds : not r ≡ false → (above : ℕ → Bool) → above ≡ below (λ k. ltb c (at numbered k)) (g .n) → Answered (Log tail c) t above
+    pub scan-finds : not r ≡ false → (above : ℕ → Bool) → above ≡ below (isUncommitted seen c) (g .n) → Answered (Log tail c) t above
     unfolding scanFound scanAbove scannedLog
     scan-finds f above u = (
       ap (λ (x : Tables). found (record { tables = x; tail = tail; number = c }) (Scanned (g .n)) (scanStores (g .n) seen (image 0) c)) (e .1 (not-false r f))
-          ∙ ap (λ (k : ℕ). found (record { tables = scannedLog g seen c .tables; tail = k; number = c }) (Scanned (g .n)) (scanStores (g .n) seen (image 0) c)) tail-newest
+          ∙ ap (λ (k : ℕ). found (record { tables = scannedLog g seen c .tables; tail = k; number = c }) (Scanned (g .n)) (scanStores (g .n) seen (image 0) c)) newest
           ∙ sym (judged-is ∙ cond-false (scanDamaged g seen c (scannedLog g seen c)) (missing DamagedLog) (Whole c)
           (not-true (scanDamaged g seen c (scannedLog g seen c)) (sym (e .0) ∙ not-false r f))),
-      u ∙ above-view g image numbered ofPiece read c,
+      u ∙ above-view g image c,
     )

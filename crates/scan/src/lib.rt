@@ -4,10 +4,9 @@ ghost use mathlib.Core.Bool.{true, not};
 ghost use Prim.Native.Nat.{_*_, _≤_};
 ghost use lib.ListN.{length, replicate};
 ghost use Rattle.geometry.specs.Geometry.{sectorBytes, piecesFor, usedBytes, geometryFits};
-ghost use Rattle.layout.specs.Bounded.{distinct};
 ghost use Rattle.volume.specs.Tables.{sectorAt, bitAt, tablesOf};
-ghost use Rattle.volume.specs.Recover.{newestClosing, signedNumbers, scannedLog, scanDamaged, scanFinding, imageView};
-ghost use Rattle.signed.specs.Signed.{Read, Closings};
+ghost use Rattle.volume.specs.Recover.{newestClosing, closedUpTo, scannedLog, scanDamaged, scanFinding, imageView};
+ghost use Rattle.signed.specs.Signed.{Listed};
 ghost use Rattle.log_tables.specs.LogTables.{livePlaces, liveNumbers, mapFrom};
 ghost use Rattle.scan.specs.Scanned.{scanFound, scanAbove};
 use answer::Loss;
@@ -15,6 +14,7 @@ use geometry::Geometry;
 use log_tables::agrees;
 use log_tables::fill_map;
 use log_tables::live;
+use signed::Signed;
 
 pub enum Found {
     // The tail, and its number.
@@ -22,32 +22,11 @@ pub enum Found {
     Missing(Loss),
 }
 
-// Reads what the signed sectors say into arrays of zeros, and says whether their numbers are all different.
-fn read_apart(
-    image: &[u8],
-    g: Geometry,
-    numbered: &mut [u32],
-    pieces: &mut [u8],
-    closing: &mut [u8],
-) -> bool
-    requires { ⌜ geometryFits g ≡ true ⌝ }
-    requires { ⌜ length (now image) ≡ sectorBytes * g .n ⌝ }
-    requires { ⌜ g .n ≤ length (now numbered) ⌝ }
-    requires { ⌜ g .n ≤ length (now pieces) ⌝ }
-    requires { ⌜ g .n ≤ length (now closing) ⌝ }
-    requires { ⌜ now numbered ≡ replicate (length (now numbered)) 0 ⌝ }
-    requires { ⌜ now pieces ≡ replicate (length (now pieces)) 0 ⌝ }
-    requires { ⌜ now closing ≡ replicate (length (now closing)) 0 ⌝ }
-    ensures { λ r. ⌜ (r ≡ distinct (signedNumbers (imageView g (sectorAt (now (image .entry)))) (g .n))) × Read (imageView g (sectorAt (now (image .entry)))) (now (numbered .exit)) (now (pieces .exit)) × Closings (imageView g (sectorAt (now (image .entry)))) (now (closing .exit)) ⌝ }
-{
-    signed::read_signed(image, g, numbered, pieces, closing);
-    distinct::numbers_distinct(numbered, g.n)
-}
-
 // The live sectors of the pieces up to number c, and the map that they hold.
 fn scan_live(
     image: &[u8],
     g: Geometry,
+    sectors: &[u16],
     numbered: &[u32],
     pieces: &[u8],
     c: u32,
@@ -57,30 +36,29 @@ fn scan_live(
 )
     requires { ⌜ 1 ≤ g .n ⌝ }
     requires { ⌜ length (now image) ≡ sectorBytes * g .n ⌝ }
-    requires { ⌜ g .n ≤ length (now numbered) ⌝ }
-    requires { ⌜ g .n ≤ length (now pieces) ⌝ }
-    requires { ⌜ Read (imageView g (sectorAt (now image))) (now numbered) (now pieces) ⌝ }
+    requires { ⌜ length (now numbered) ≡ length (now sectors) ⌝ }
+    requires { ⌜ length (now pieces) ≡ length (now sectors) ⌝ }
+    requires { ⌜ Listed (imageView g (sectorAt (now image))) (g .n) (now sectors) (now numbered) (now pieces) ⌝ }
     requires { ⌜ length (now map) ≡ g .l ⌝ }
     requires { ⌜ length (now places) ≡ piecesFor (g .l) ⌝ }
     requires { ⌜ length (now numbers) ≡ piecesFor (g .l) ⌝ }
-    ensures { λ _. ⌜ (now (places .exit) ≡ livePlaces (now (numbered .entry)) (now (pieces .entry)) c (g .n) (piecesFor (g .l))) × (now (numbers .exit) ≡ liveNumbers (now (numbered .entry)) (now (pieces .entry)) c (g .n) (piecesFor (g .l))) × (now (map .exit) ≡ mapFrom (sectorAt (now (image .entry))) (now (places .exit)) (g .l)) ⌝ }
+    ensures { λ _. ⌜ (now (places .exit) ≡ livePlaces (imageView g (sectorAt (now (image .entry)))) c (g .n) (piecesFor (g .l))) × (now (numbers .exit) ≡ liveNumbers (imageView g (sectorAt (now (image .entry)))) c (g .n) (piecesFor (g .l))) × (now (map .exit) ≡ mapFrom (sectorAt (now (image .entry))) (now (places .exit)) (g .l)) ⌝ }
 {
     fill::zero_words(places);
     fill::zero_words(numbers);
-    live::find_live(numbered, pieces, g.n, c, places, numbers);
+    live::find_live(sectors, numbered, pieces, c, places, numbers);
     fill_map::fill_map(image, places, map);
 }
 
-// Whether the log up to number c is whole: no two signed sectors with one number, no piece missing, and its tables sound. The
-// tables then stand in what was lent.
+// Whether the log up to the newest closing number is whole: no two signed sectors with one number, no piece missing, and its tables
+// sound. The tables then stand in what was lent.
 fn scan_tables(
     image: &[u8],
     g: Geometry,
-    apart: bool,
+    read: Signed,
+    sectors: &[u16],
     numbered: &[u32],
     pieces: &[u8],
-    tail: u32,
-    c: u32,
     map: &mut [u32],
     places: &mut [u32],
     numbers: &mut [u32],
@@ -88,33 +66,42 @@ fn scan_tables(
 ) -> bool
     requires { ⌜ geometryFits g ≡ true ⌝ }
     requires { ⌜ length (now image) ≡ sectorBytes * g .n ⌝ }
-    requires { ⌜ apart ≡ distinct (signedNumbers (imageView g (sectorAt (now image))) (g .n)) ⌝ }
-    requires { ⌜ g .n ≤ length (now numbered) ⌝ }
-    requires { ⌜ g .n ≤ length (now pieces) ⌝ }
-    requires { ⌜ Read (imageView g (sectorAt (now image))) (now numbered) (now pieces) ⌝ }
-    requires { ⌜ tail ≡ newestClosing (g .n) (imageView g (sectorAt (now image))) ⌝ }
+    requires { ⌜ read .tail ≡ newestClosing (g .n) (imageView g (sectorAt (now image))) ⌝ }
+    requires { ⌜ length (now sectors) ≤ 65536 ⌝ }
+    requires { ⌜ length (now numbered) ≡ length (now sectors) ⌝ }
+    requires { ⌜ length (now pieces) ≡ length (now sectors) ⌝ }
+    requires { ⌜ Listed (imageView g (sectorAt (now image))) (g .n) (now sectors) (now numbered) (now pieces) ⌝ }
     requires { ⌜ length (now map) ≡ g .l ⌝ }
     requires { ⌜ length (now places) ≡ piecesFor (g .l) ⌝ }
     requires { ⌜ length (now numbers) ≡ piecesFor (g .l) ⌝ }
     requires { ⌜ length (now used) ≡ usedBytes (g .n) ⌝ }
-    ensures { λ r. ⌜ (r ≡ not (scanDamaged g (imageView g (sectorAt (now (image .entry)))) c (scannedLog g (imageView g (sectorAt (now (image .entry)))) c))) × (r ≡ true → tablesOf (now (map .exit)) (now (places .exit)) (now (numbers .exit)) (now (used .exit)) ≡ scannedLog g (imageView g (sectorAt (now (image .entry)))) c .tables) ⌝ }
+    ensures { λ r. ⌜ (r ≡ not (scanDamaged g (imageView g (sectorAt (now (image .entry)))) (read .number) (scannedLog g (imageView g (sectorAt (now (image .entry)))) (read .number)))) × (r ≡ true → tablesOf (now (map .exit)) (now (places .exit)) (now (numbers .exit)) (now (used .exit)) ≡ scannedLog g (imageView g (sectorAt (now (image .entry)))) (read .number) .tables) ⌝ }
 {
-    if !apart {
+    if !distinct::numbers_distinct(numbered) {
         return false;
     }
-    scan_live(image, g, numbered, pieces, c, map, places, numbers);
-    agrees::log_agrees(g, map, places, numbers, used, tail, c)
+    scan_live(
+        image,
+        g,
+        sectors,
+        numbered,
+        pieces,
+        read.number,
+        map,
+        places,
+        numbers,
+    );
+    agrees::log_agrees(g, map, places, numbers, used, read.tail, read.number)
 }
 
-// The scan, given what the signed sectors say, and whether their numbers are all different. That there is no closing sector is
-// judged before what is damaged.
-fn scan_signed(
+// The scan, given what was read of the signed sectors. That there is no closing sector is judged before what is damaged.
+fn scan_listed(
     image: &[u8],
     g: Geometry,
-    apart: bool,
+    read: Signed,
+    sectors: &[u16],
     numbered: &[u32],
     pieces: &[u8],
-    closing: &[u8],
     map: &mut [u32],
     places: &mut [u32],
     numbers: &mut [u32],
@@ -123,12 +110,12 @@ fn scan_signed(
 ) -> Found
     requires { ⌜ geometryFits g ≡ true ⌝ }
     requires { ⌜ length (now image) ≡ sectorBytes * g .n ⌝ }
-    requires { ⌜ apart ≡ distinct (signedNumbers (imageView g (sectorAt (now image))) (g .n)) ⌝ }
-    requires { ⌜ g .n ≤ length (now numbered) ⌝ }
-    requires { ⌜ g .n ≤ length (now pieces) ⌝ }
-    requires { ⌜ g .n ≤ length (now closing) ⌝ }
-    requires { ⌜ Read (imageView g (sectorAt (now image))) (now numbered) (now pieces) ⌝ }
-    requires { ⌜ Closings (imageView g (sectorAt (now image))) (now closing) ⌝ }
+    requires { ⌜ read .tail ≡ newestClosing (g .n) (imageView g (sectorAt (now image))) ⌝ }
+    requires { ⌜ read .number ≡ closedUpTo (g .n) (imageView g (sectorAt (now image))) ⌝ }
+    requires { ⌜ length (now sectors) ≤ 65536 ⌝ }
+    requires { ⌜ length (now numbered) ≡ length (now sectors) ⌝ }
+    requires { ⌜ length (now pieces) ≡ length (now sectors) ⌝ }
+    requires { ⌜ Listed (imageView g (sectorAt (now image))) (g .n) (now sectors) (now numbered) (now pieces) ⌝ }
     requires { ⌜ length (now map) ≡ g .l ⌝ }
     requires { ⌜ length (now places) ≡ piecesFor (g .l) ⌝ }
     requires { ⌜ length (now numbers) ≡ piecesFor (g .l) ⌝ }
@@ -137,20 +124,16 @@ fn scan_signed(
     requires { ⌜ now above ≡ replicate (length (now above)) 0 ⌝ }
     ensures { λ r. ⌜ (scanFound r (g .n) (imageView g (sectorAt (now (image .entry)))) (sectorAt (now (image .entry)) 0) (tablesOf (now (map .exit)) (now (places .exit)) (now (numbers .exit)) (now (used .exit))) ≡ scanFinding g (imageView g (sectorAt (now (image .entry)))) (sectorAt (now (image .entry)) 0)) × scanAbove r (imageView g (sectorAt (now (image .entry)))) (bitAt (now (above .exit))) ⌝ }
 {
-    let tail = signed::newest_closing(numbered, closing, g.n);
-    let c = signed::closing_at(numbered, closing, tail);
-    if c == 0 {
+    if read.number == 0 {
         return Found::Missing(Loss::NoLog);
     }
-    signed::mark_above(numbered, g.n, c, above);
     if !scan_tables(
         image,
         g,
-        apart,
+        read,
+        sectors,
         numbered,
         pieces,
-        tail,
-        c,
         map,
         places,
         numbers,
@@ -158,10 +141,58 @@ fn scan_signed(
     ) {
         return Found::Missing(Loss::DamagedLog);
     }
-    Found::Log { tail, number: c }
+    signed::mark_above(sectors, numbered, read.number, above);
+    Found::Log {
+        tail: read.tail,
+        number: read.number,
+    }
 }
 
-// The scan of a volume of at most 1,024 sectors. What a scan keeps is cleared first, so that a small volume has small arrays.
+// The scan, by arrays that have room for all sectors.
+fn scan_in(
+    image: &[u8],
+    g: Geometry,
+    sectors: &mut [u16],
+    numbered: &mut [u32],
+    pieces: &mut [u8],
+    map: &mut [u32],
+    places: &mut [u32],
+    numbers: &mut [u32],
+    used: &mut [u8],
+    above: &mut [u8],
+) -> Found
+    requires { ⌜ geometryFits g ≡ true ⌝ }
+    requires { ⌜ length (now image) ≡ sectorBytes * g .n ⌝ }
+    requires { ⌜ g .n ≤ length (now sectors) ⌝ }
+    requires { ⌜ length (now sectors) ≤ 65536 ⌝ }
+    requires { ⌜ length (now numbered) ≡ length (now sectors) ⌝ }
+    requires { ⌜ length (now pieces) ≡ length (now sectors) ⌝ }
+    requires { ⌜ length (now map) ≡ g .l ⌝ }
+    requires { ⌜ length (now places) ≡ piecesFor (g .l) ⌝ }
+    requires { ⌜ length (now numbers) ≡ piecesFor (g .l) ⌝ }
+    requires { ⌜ length (now used) ≡ usedBytes (g .n) ⌝ }
+    requires { ⌜ g .n ≤ 8 * length (now above) ⌝ }
+    requires { ⌜ now above ≡ replicate (length (now above)) 0 ⌝ }
+    ensures { λ r. ⌜ (scanFound r (g .n) (imageView g (sectorAt (now (image .entry)))) (sectorAt (now (image .entry)) 0) (tablesOf (now (map .exit)) (now (places .exit)) (now (numbers .exit)) (now (used .exit))) ≡ scanFinding g (imageView g (sectorAt (now (image .entry)))) (sectorAt (now (image .entry)) 0)) × scanAbove r (imageView g (sectorAt (now (image .entry)))) (bitAt (now (above .exit))) ⌝ }
+{
+    let read = signed::read_signed(image, g, sectors, numbered, pieces);
+    let from = read.from;
+    scan_listed(
+        image,
+        g,
+        read,
+        &sectors[from..],
+        &numbered[from..],
+        &pieces[from..],
+        map,
+        places,
+        numbers,
+        used,
+        above,
+    )
+}
+
+// The scan of a volume of at most 1,024 sectors. The arrays are cleared first, so a small volume has small ones.
 pub fn scan_small(
     image: &[u8],
     g: Geometry,
@@ -182,17 +213,15 @@ pub fn scan_small(
     requires { ⌜ now above ≡ replicate (length (now above)) 0 ⌝ }
     ensures { λ r. ⌜ (scanFound r (g .n) (imageView g (sectorAt (now (image .entry)))) (sectorAt (now (image .entry)) 0) (tablesOf (now (map .exit)) (now (places .exit)) (now (numbers .exit)) (now (used .exit))) ≡ scanFinding g (imageView g (sectorAt (now (image .entry)))) (sectorAt (now (image .entry)) 0)) × scanAbove r (imageView g (sectorAt (now (image .entry)))) (bitAt (now (above .exit))) ⌝ }
 {
+    let mut sectors = [0u16; 1024];
     let mut numbered = [0u32; 1024];
     let mut pieces = [0u8; 1024];
-    let mut closing = [0u8; 1024];
-    let apart = read_apart(image, g, &mut numbered, &mut pieces, &mut closing);
-    scan_signed(
+    scan_in(
         image,
         g,
-        apart,
-        &numbered,
-        &pieces,
-        &closing,
+        &mut sectors,
+        &mut numbered,
+        &mut pieces,
         map,
         places,
         numbers,
@@ -201,7 +230,45 @@ pub fn scan_small(
     )
 }
 
-// The same of at most 16,384 sectors.
+// The same of at most 4,096 sectors.
+fn scan_few(
+    image: &[u8],
+    g: Geometry,
+    map: &mut [u32],
+    places: &mut [u32],
+    numbers: &mut [u32],
+    used: &mut [u8],
+    above: &mut [u8],
+) -> Found
+    requires { ⌜ g .n ≤ 4096 ⌝ }
+    requires { ⌜ geometryFits g ≡ true ⌝ }
+    requires { ⌜ length (now image) ≡ sectorBytes * g .n ⌝ }
+    requires { ⌜ length (now map) ≡ g .l ⌝ }
+    requires { ⌜ length (now places) ≡ piecesFor (g .l) ⌝ }
+    requires { ⌜ length (now numbers) ≡ piecesFor (g .l) ⌝ }
+    requires { ⌜ length (now used) ≡ usedBytes (g .n) ⌝ }
+    requires { ⌜ g .n ≤ 8 * length (now above) ⌝ }
+    requires { ⌜ now above ≡ replicate (length (now above)) 0 ⌝ }
+    ensures { λ r. ⌜ (scanFound r (g .n) (imageView g (sectorAt (now (image .entry)))) (sectorAt (now (image .entry)) 0) (tablesOf (now (map .exit)) (now (places .exit)) (now (numbers .exit)) (now (used .exit))) ≡ scanFinding g (imageView g (sectorAt (now (image .entry)))) (sectorAt (now (image .entry)) 0)) × scanAbove r (imageView g (sectorAt (now (image .entry)))) (bitAt (now (above .exit))) ⌝ }
+{
+    let mut sectors = [0u16; 4096];
+    let mut numbered = [0u32; 4096];
+    let mut pieces = [0u8; 4096];
+    scan_in(
+        image,
+        g,
+        &mut sectors,
+        &mut numbered,
+        &mut pieces,
+        map,
+        places,
+        numbers,
+        used,
+        above,
+    )
+}
+
+// The same of at most 16,384.
 fn scan_medium(
     image: &[u8],
     g: Geometry,
@@ -222,17 +289,15 @@ fn scan_medium(
     requires { ⌜ now above ≡ replicate (length (now above)) 0 ⌝ }
     ensures { λ r. ⌜ (scanFound r (g .n) (imageView g (sectorAt (now (image .entry)))) (sectorAt (now (image .entry)) 0) (tablesOf (now (map .exit)) (now (places .exit)) (now (numbers .exit)) (now (used .exit))) ≡ scanFinding g (imageView g (sectorAt (now (image .entry)))) (sectorAt (now (image .entry)) 0)) × scanAbove r (imageView g (sectorAt (now (image .entry)))) (bitAt (now (above .exit))) ⌝ }
 {
+    let mut sectors = [0u16; 16384];
     let mut numbered = [0u32; 16384];
     let mut pieces = [0u8; 16384];
-    let mut closing = [0u8; 16384];
-    let apart = read_apart(image, g, &mut numbered, &mut pieces, &mut closing);
-    scan_signed(
+    scan_in(
         image,
         g,
-        apart,
-        &numbered,
-        &pieces,
-        &closing,
+        &mut sectors,
+        &mut numbered,
+        &mut pieces,
         map,
         places,
         numbers,
@@ -261,17 +326,15 @@ fn scan_large(
     requires { ⌜ now above ≡ replicate (length (now above)) 0 ⌝ }
     ensures { λ r. ⌜ (scanFound r (g .n) (imageView g (sectorAt (now (image .entry)))) (sectorAt (now (image .entry)) 0) (tablesOf (now (map .exit)) (now (places .exit)) (now (numbers .exit)) (now (used .exit))) ≡ scanFinding g (imageView g (sectorAt (now (image .entry)))) (sectorAt (now (image .entry)) 0)) × scanAbove r (imageView g (sectorAt (now (image .entry)))) (bitAt (now (above .exit))) ⌝ }
 {
+    let mut sectors = [0u16; 65536];
     let mut numbered = [0u32; 65536];
     let mut pieces = [0u8; 65536];
-    let mut closing = [0u8; 65536];
-    let apart = read_apart(image, g, &mut numbered, &mut pieces, &mut closing);
-    scan_signed(
+    scan_in(
         image,
         g,
-        apart,
-        &numbered,
-        &pieces,
-        &closing,
+        &mut sectors,
+        &mut numbered,
+        &mut pieces,
         map,
         places,
         numbers,
@@ -300,6 +363,9 @@ pub fn scan(
     requires { ⌜ now above ≡ replicate (length (now above)) 0 ⌝ }
     ensures { λ r. ⌜ (scanFound r (g .n) (imageView g (sectorAt (now (image .entry)))) (sectorAt (now (image .entry)) 0) (tablesOf (now (map .exit)) (now (places .exit)) (now (numbers .exit)) (now (used .exit))) ≡ scanFinding g (imageView g (sectorAt (now (image .entry)))) (sectorAt (now (image .entry)) 0)) × scanAbove r (imageView g (sectorAt (now (image .entry)))) (bitAt (now (above .exit))) ⌝ }
 {
+    if g.n <= 4096 {
+        return scan_few(image, g, map, places, numbers, used, above);
+    }
     if g.n <= 16384 {
         return scan_medium(image, g, map, places, numbers, used, above);
     }

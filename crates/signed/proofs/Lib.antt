@@ -1,5 +1,5 @@
 -- Laws that this crate's proofs cite, and its callers' may.
+pub mod Listing
 pub mod Newest
-pub mod Reading
 pub mod SignedLaws
 pub mod ViewLaws

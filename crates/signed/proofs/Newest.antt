@@ -13,17 +13,6 @@ use borrow.Author.Tests.{lt-ltb, le-ltb, eq-eqb, ne-eqb, le-leb, lt-leb}
 use Rattle.layout.specs.Bounded.{at, best, listFrom}
 use Rattle.laws.proofs.Filling.{zeros-get}
 use Rattle.laws.proofs.Bounded.{lt?, eq?, cond-true, cond-false, length-listFrom, listFrom-at}
-use Rattle.signed.specs.Signed.{closingKey, pieceKey}
-
--- A sector's number, given by whether it is closing.
-module _ (numbers closing : List ℕ) (k : ℕ) where
-  pub closing-none : (at closing k ≡ 1 → ⊥) → 0 ≡ closingKey numbers closing k
-  unfolding closingKey
-  closing-none d = sym (cond-false (eqb (at closing k) 1) (at numbers k) 0 (ne-eqb (at closing k) 1 d))
-
-  pub closing-some : at closing k ≡ 1 → at numbers k ≡ closingKey numbers closing k
-  unfolding closingKey
-  closing-some e = sym (cond-true (eqb (at closing k) 1) (at numbers k) 0 (eq-eqb (at closing k) 1 e))
 
 module _ (key : ℕ → ℕ) where
   -- The greatest key below k, 0 for none.
@@ -55,15 +44,13 @@ module _ (key : ℕ → ℕ) where
   top-same zero h = ap key (best-same 0 h) ∙ (let z : key 0 ≡ 0 = omega arith in z)
   top-same (suc k) h = ap key (best-same (suc k) h)
 
-  -- A loop that keeps the newest and its key, from sector 1 on.
+  -- A loop that keeps the newest and its key.
   abbrev pub Newest : ℕ → ℕ → ℕ → Type 0
   Newest k found highest = (found ≡ best key k) × (highest ≡ top k)
 
-  pub newest-first : (highest : ℕ) → highest ≡ key 0 → Newest 1 0 highest
+  pub newest-none : Newest 0 0 0
   unfolding top best
-  newest-first highest e =
-      let z : best key 1 ≡ 0 = cond-false (ltb (key 0) (key 0)) 0 0 (le-ltb (key 0) (key 0) (omega arith)) in
-      (sym z, e ∙ sym (ap key z))
+  newest-none = (refl, refl)
 
   pub newest-more : (k found highest number found′ highest′ : ℕ) → Newest k found highest → number ≡ key k → highest < number → found′ ≡ k → highest′ ≡ number
       → Newest (k + 1) found′ highest′
@@ -151,29 +138,28 @@ module _ (key : ℕ → ℕ → ℕ) (pieces : ℕ) where
         ∙ sym (listed (λ p. key p (best (key p) n)) pieces i (omega arith))),
   )
 
--- The keys of the pieces at one sector: only its own piece has one, and only where its number is up to c.
-module _ (numbers pieces : List ℕ) (c k : ℕ) where
-  same-or : (b : Bool) (x : ℕ) → x ≡ 0 → cond b x 0 ≡ 0
-  same-or true x z = z
-  same-or false x z = refl
+-- The keys of the pieces at a sector with number x and piece q: only its own piece has one, and only where x is up to c.
+module _ (c x q : ℕ) where
+  abbrev keyAt : ℕ → ℕ
+  keyAt p = cond (eqb q p && leb x c) x 0
 
-  pub keys-zero : at numbers k ≡ 0 → (p : ℕ) → pieceKey numbers pieces c p k ≡ 0
-  unfolding pieceKey
-  keys-zero z p = same-or (eqb (at pieces k) p && leb (at numbers k) c) (at numbers k) z
+  same-or : (b : Bool) → x ≡ 0 → cond b x 0 ≡ 0
+  same-or true z = z
+  same-or false z = refl
 
-  pub keys-above : c < at numbers k → (p : ℕ) → pieceKey numbers pieces c p k ≡ 0
-  unfolding pieceKey
-  keys-above h p = rw (lt-leb (at numbers k) c h) (off (eqb (at pieces k) p))
+  pub keys-zero : x ≡ 0 → (p : ℕ) → keyAt p ≡ 0
+  keys-zero z p = same-or (eqb q p && leb x c) z
+
+  pub keys-above : c < x → (p : ℕ) → keyAt p ≡ 0
+  keys-above h p = rw (lt-leb x c h) (off (eqb q p))
     where
-      off : (b : Bool) → cond (b && false) (at numbers k) 0 ≡ 0
+      off : (b : Bool) → cond (b && false) x 0 ≡ 0
       off true = refl
       off false = refl
 
-  module _ (h : at numbers k ≤ c) where
-    pub key-own : pieceKey numbers pieces c (at pieces k) k ≡ at numbers k
-    unfolding pieceKey
-    key-own = rw (eq-eqb (at pieces k) (at pieces k) refl, le-leb (at numbers k) c h) refl
+  module _ (h : x ≤ c) where
+    pub key-own : keyAt q ≡ x
+    key-own = rw (eq-eqb q q refl, le-leb x c h) refl
 
-    pub keys-other : (p : ℕ) → (p ≡ at pieces k → ⊥) → pieceKey numbers pieces c p k ≡ 0
-    unfolding pieceKey
-    keys-other p d = rw (ne-eqb (at pieces k) p (λ (z : at pieces k ≡ p). d (sym z))) refl
+    pub keys-other : (p : ℕ) → (p ≡ q → ⊥) → keyAt p ≡ 0
+    keys-other p d = rw (ne-eqb q p (λ (z : q ≡ p). d (sym z))) refl

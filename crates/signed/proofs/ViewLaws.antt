@@ -1,9 +1,9 @@
 -- The signed sectors, as bits and as they were read, against the sectors as map sectors: all say the same.
 use Prim.Native.Nat.{ℕ, _*_, _-_, _≤_, _<_}
-use mathlib.Core.Path.{_≡_, refl, sym, _∙_, ap, fun-ext}
+use mathlib.Core.Path.{_≡_, refl, sym, _∙_, ap, subst, fun-ext}
 use mathlib.Core.Logic.{⊎-elim}
-use mathlib.Core.Bool.{Bool, true, false, cond, not, _&&_, true≢false}
-use mathlib.Core.List.{List, []}
+use mathlib.Core.Bool.{Bool, true, false, cond, _&&_, true≢false}
+use mathlib.Core.List.{List}
 use mathlib.Core.Option.{Option, none, some}
 use native.Mathlib.Omega.{arith}
 use lib.ListN.{take, drop}
@@ -11,13 +11,14 @@ use lib.Dec.{eqb, leb, ltb}
 use borrow.Author.Tests.{lt-ltb, le-ltb, ltb-true, leb-true}
 use Rattle.geometry.specs.declared.Geometry.{Geometry}
 use Rattle.geometry.specs.Geometry.{within, piecesFor, branchRoom, entriesPerPiece}
-use Rattle.layout.specs.Bounded.{at, all, isZero, gathered}
+use Rattle.layout.specs.Bounded.{at, best, all, isZero}
 use Rattle.layout.specs.Word.{wordsOf, wordSum, startsWith}
 use Rattle.layout.specs.MapSector.{MapSector, View, mapMark, branchesFit, branchWords, entryWords, valid, fields, decoded}
-use Rattle.volume.specs.Recover.{numberIn, pieceIn, closingNumber, pieceNumber, imageView, signedNumbers, isUncommitted}
+use Rattle.volume.specs.Recover.{numberIn, pieceIn, closingNumber, pieceNumber, newestClosing, closedUpTo, imageView, isUncommitted}
 use Rattle.laws.proofs.Bounded.{bool?, lt?, and-l, and-r, cond-true, cond-false, tabled-past}
 use Rattle.laws.proofs.Sizes.{view-at}
-use Rattle.signed.specs.Signed.{below, isSigned, signedAt, closingMark, Read, Closings, closingKey, pieceKey}
+use Rattle.signed.specs.Signed.{below, isSigned, signedAt}
+use Rattle.signed.proofs.Newest.{top, top-at}
 
 -- The fifth of ten tests.
 fifth : (a b c d e f g h i j : Bool) → (a && b && c && d && e && f && g && h && i && j) ≡ true → e ≡ true
@@ -31,10 +32,16 @@ fifth a b c d false f g h i j z = absurd (true≢false (sym z ∙ off a b c d f 
     off true false c d f g h i j = refl
     off false b c d f g h i j = refl
 
--- The seventh and the ninth.
+-- The third, the seventh and the ninth.
 module _ (a b c d e f g h i j : Bool) (z : (a && b && c && d && e && f && g && h && i && j) ≡ true) where
   up-to-ninth : (a && b && c && d && e && f && g && h && i) ≡ true
   up-to-ninth = and-l (a && b && c && d && e && f && g && h && i) j z
+
+  third : c ≡ true
+  third =
+      and-r (a && b) c
+      (and-l (a && b && c) d (and-l (a && b && c && d) e (and-l (a && b && c && d && e) f
+      (and-l (a && b && c && d && e && f) g (and-l (a && b && c && d && e && f && g) h (and-l (a && b && c && d && e && f && g && h) i up-to-ninth))))))
 
   ninth : i ≡ true
   ninth = and-r (a && b && c && d && e && f && g && h) i up-to-ninth
@@ -44,17 +51,8 @@ module _ (a b c d e f g h i j : Bool) (z : (a && b && c && d && e && f && g && h
       and-r (a && b && c && d && e && f) g
       (and-l (a && b && c && d && e && f && g) h (and-l (a && b && c && d && e && f && g && h) i up-to-ninth))
 
--- What was read of a sector, put together.
-marked-number : (o : Option MapSector) → cond (eqb (closingMark o) 1) (numberIn o) 0 ≡ closingNumber o
-unfolding closingMark numberIn closingNumber
-marked-number none = refl
-marked-number (some m) = go (m .closing)
-  where
-    go : (b : Bool) → cond (eqb (cond b 1 0) 1) (m .number) 0 ≡ cond b (m .number) 0
-    go true = refl
-    go false = refl
-
-number-of-piece : (c p : ℕ) (o : Option MapSector) → cond (eqb (pieceIn o) p && leb (numberIn o) c) (numberIn o) 0 ≡ pieceNumber c p o
+-- A sector's number for a piece, by its number and its piece.
+pub number-of-piece : (c p : ℕ) (o : Option MapSector) → cond (eqb (pieceIn o) p && leb (numberIn o) c) (numberIn o) 0 ≡ pieceNumber c p o
 unfolding pieceIn numberIn pieceNumber
 number-of-piece c p none = none-of (eqb 0 p && leb 0 c)
   where
@@ -104,6 +102,17 @@ module _ (g : Geometry) (image : ℕ → List ℕ) where
   unfolding imageView
   past-view k h = tabled-past none (g .n) (λ j. decoded g (image j)) k h
 
+  -- A signed sector's number is from 1 on.
+  pub valid-number : (s : List ℕ) → valid g s (wordsOf s) ≡ true → at (wordsOf s) 2 ≡ 0 → ⊥
+  unfolding valid
+  valid-number s e z =
+      let ws = wordsOf s in
+      let h = leb-true 1 (at ws 2)
+      (third (startsWith mapMark s) (isZero (wordSum ws)) (leb 1 (at ws 2)) (isZero (at ws 3)) (ltb (at ws 4) (piecesFor (g .l))) (leb (at ws 5) 1)
+      (leb (at ws 6) branchRoom) (eqb (at ws 7) (g .l)) (branchesFit (g .n) (at ws 6) (branchWords ws))
+      (all isZero (drop (g .l - entriesPerPiece * at ws 4) (entryWords ws))) e) in
+      omega arith
+
   -- A signed sector's piece is one of the pieces.
   pub valid-piece : (s : List ℕ) → valid g s (wordsOf s) ≡ true → at (wordsOf s) 4 < piecesFor (g .l)
   unfolding valid
@@ -136,43 +145,21 @@ module _ (g : Geometry) (image : ℕ → List ℕ) where
       (leb (at ws 6) branchRoom) (eqb (at ws 7) (g .l)) (branchesFit (g .n) (at ws 6) (branchWords ws))
       (all isZero (drop (g .l - entriesPerPiece * at ws 4) (entryWords ws))) (is-valid k e))
 
-  -- The sectors as they were read.
-  module _ (numbers pieces : List ℕ) (read : Read Seen numbers pieces) where
-    module _ (closing : List ℕ) (kinds : Closings Seen closing) where
-      pub closing-view : (k : ℕ) → closingKey numbers closing k ≡ closingNumber (Seen k)
-      unfolding closingKey
-      closing-view k = rw (read .number k, kinds k) (marked-number (Seen k))
+  -- The uncommitted sectors lie below n.
+  pub above-view : (c : ℕ) → below (isUncommitted Seen c) (g .n) ≡ isUncommitted Seen c
+  unfolding below numberIn
+  above-view c = fun-ext (λ k.
+      ⊎-elim (λ (h : k < g .n). rw (lt-ltb k (g .n) h) refl)
+      (λ (h : g .n ≤ k). rw (le-ltb k (g .n) h) (sym (ap (λ (o : Option MapSector). ltb c (numberIn o)) (past-view k h) ∙ le-ltb c 0 (omega arith))))
+      (lt? k (g .n)))
 
-      pub closings-view : closingKey numbers closing ≡ (λ k. closingNumber (Seen k))
-      closings-view = fun-ext closing-view
-
-    pub piece-view : (c p k : ℕ) → pieceKey numbers pieces c p k ≡ pieceNumber c p (Seen k)
-    unfolding pieceKey
-    piece-view c p k = rw (read .number k, read .piece k) (number-of-piece c p (Seen k))
-
-    pub pieces-view : (c p : ℕ) → pieceKey numbers pieces c p ≡ (λ k. pieceNumber c p (Seen k))
-    pieces-view c p = fun-ext (piece-view c p)
-
-    pub numbers-view : (m : ℕ) → gathered (λ k. not (isZero (at numbers k))) (at numbers) [] m ≡ signedNumbers Seen m
-    unfolding signedNumbers
-    numbers-view m = ap (λ (f : ℕ → ℕ). gathered (λ k. not (isZero (f k))) f [] m) (fun-ext {f = at numbers} {g = λ k. numberIn (Seen k)} (read .number))
-
-    pub above-view : (c : ℕ) → below (λ k. ltb c (at numbers k)) (g .n) ≡ isUncommitted Seen c
-    unfolding below numberIn
-    above-view c = fun-ext (λ k.
-        ⊎-elim (λ (h : k < g .n). rw (lt-ltb k (g .n) h) (ap (ltb c) (read .number k)))
-        (λ (h : g .n ≤ k). rw (le-ltb k (g .n) h) (sym (ap (λ (o : Option MapSector). ltb c (numberIn o)) (past-view k h) ∙ le-ltb c 0 (omega arith))))
-        (lt? k (g .n)))
-
-    -- Where there is a number there is a piece.
-    pub piece-inside : (k : ℕ) → (at numbers k ≡ 0 → ⊥) → at pieces k < piecesFor (g .l)
-    unfolding numberIn pieceIn
-    piece-inside k d =
-        ⊎-elim (λ (z : signedAt g image k ≡ true).
-        let e : at pieces k ≡ at (wordsOf (image k)) 4 = read .piece k ∙ ap pieceIn (view-signed k z) in
-        let h = signed-piece k z in
-        omega arith)
-        (λ (z : signedAt g image k ≡ false). absurd (d (read .number k ∙ ap numberIn (view-unsigned k z)))) (bool? (signedAt g image k))
+  -- Where there is a number there is a piece.
+  pub piece-inside : (k : ℕ) → (numberIn (Seen k) ≡ 0 → ⊥) → pieceIn (Seen k) < piecesFor (g .l)
+  unfolding numberIn pieceIn
+  piece-inside k d =
+      ⊎-elim (λ (z : signedAt g image k ≡ true).
+      subst (λ (x : ℕ). x < piecesFor (g .l)) (sym (ap pieceIn (view-signed k z))) (signed-piece k z))
+      (λ (z : signedAt g image k ≡ false). absurd (d (ap numberIn (view-unsigned k z)))) (bool? (signedAt g image k))
 
   -- A sector with a number for a piece is signed, and that is its number.
   pub piece-signed : (c p k : ℕ) → (pieceNumber c p (Seen k) ≡ 0 → ⊥) → Seen k ≡ some (fields (wordsOf (image k)))
@@ -189,3 +176,17 @@ piece-number c p (some m) d = go (eqb (m .piece) p && leb (m .number) c) d
     go : (b : Bool) → (cond b (m .number) 0 ≡ 0 → ⊥) → cond b (m .number) 0 ≡ m .number
     go true f = refl
     go false f = absurd (f refl)
+
+-- The newest closing sector, as a loop found it.
+pub no-closing : (o : Option MapSector) → o ≡ none → 0 ≡ closingNumber o
+unfolding closingNumber
+no-closing o e = sym (ap closingNumber e)
+
+module _ (view : View) (k n : ℕ) where
+  pub is-newest : (tail : ℕ) → k ≡ n → tail ≡ best (λ j. closingNumber (view j)) k → tail ≡ newestClosing n view
+  unfolding newestClosing
+  is-newest tail e f = f ∙ ap (best (λ j. closingNumber (view j))) e
+
+  pub is-closed : (highest : ℕ) → k ≡ n → 0 < n → highest ≡ top (λ j. closingNumber (view j)) k → highest ≡ closedUpTo n view
+  unfolding closedUpTo newestClosing
+  is-closed highest e h f = f ∙ ap (top (λ j. closingNumber (view j))) e ∙ top-at (λ j. closingNumber (view j)) n h

@@ -1,15 +1,14 @@
--- A volume's signed sectors: as bits, and what they say as it is kept when they are read.
+-- A volume's signed sectors: as bits, and what they say as it is listed when they are read.
 use Prim.Native.Nat.{ℕ}
 use mathlib.Core.Path.{_≡_}
-use mathlib.Core.Bool.{Bool, cond, _&&_}
-use mathlib.Core.List.{List}
-use mathlib.Core.Option.{Option, none, some}
-use lib.Dec.{eqb, leb, ltb}
+use mathlib.Core.Bool.{Bool, true, cond, not, _&&_}
+use mathlib.Core.List.{List, [], _∷_}
+use lib.Dec.{ltb}
 use Rattle.geometry.specs.declared.Geometry.{Geometry}
-use Rattle.layout.specs.Bounded.{at}
+use Rattle.layout.specs.Bounded.{gathered, isZero, updated}
 use Rattle.layout.specs.Word.{wordsOf}
-use Rattle.layout.specs.MapSector.{MapSector, View, valid}
-use Rattle.volume.specs.Recover.{numberIn, pieceIn}
+use Rattle.layout.specs.MapSector.{View, valid}
+use Rattle.volume.specs.Recover.{numberIn, pieceIn, signedNumbers}
 
 -- The test, below a bound only.
 unfoldable pub below : (ℕ → Bool) → ℕ → ℕ → Bool
@@ -23,22 +22,26 @@ isSigned g image k = valid g (image k) (wordsOf (image k))
 unfoldable pub signedAt : Geometry → (ℕ → List ℕ) → ℕ → Bool
 signedAt g image = below (isSigned g image) (g .n)
 
--- 1 for a closing sector; 0 for another, and where the sector is not signed.
-unfoldable pub closingMark : Option MapSector → ℕ
-closingMark none = 0
-closingMark (some m) = cond (m .closing) 1 0
+-- The signed sectors below n, the last first, and their pieces; their numbers are the definition's.
+unfoldable pub signedSectors : View → ℕ → List ℕ
+signedSectors view n = gathered (λ k. not (isZero (numberIn (view k)))) (λ k. k) [] n
 
--- The signed sectors as they were read: number and piece of each, and 0 of all others; and which of them are closing.
-pub record Read (view : View) (numbers pieces : List ℕ) : Type 0 where
-  pub number : (k : ℕ) → at numbers k ≡ numberIn (view k)
-  pub piece : (k : ℕ) → at pieces k ≡ pieceIn (view k)
+unfoldable pub signedPieces : View → ℕ → List ℕ
+signedPieces view n = gathered (λ k. not (isZero (numberIn (view k)))) (λ k. pieceIn (view k)) [] n
 
-abbrev pub Closings : View → List ℕ → Type 0
-Closings view closing = (k : ℕ) → at closing k ≡ closingMark (view k)
+pub record Listed (view : View) (n : ℕ) (sectors numbers pieces : List ℕ) : Type 0 where
+  pub sector : sectors ≡ signedSectors view n
+  pub number : numbers ≡ signedNumbers view n
+  pub piece : pieces ≡ signedPieces view n
 
--- A sector's number where it is closing; and where it is of piece p and numbered up to c. 0 where it is not.
-unfoldable pub closingKey : List ℕ → List ℕ → ℕ → ℕ
-closingKey numbers closing k = cond (eqb (at closing k) 1) (at numbers k) 0
+-- One step for each that is listed, the first sector's first: by its sector and two of its values.
+module _ {S : Type 0} (step : ℕ → ℕ → ℕ → S → S) where
+  unfoldable pub stepped : List ℕ → List ℕ → List ℕ → S → S
+  stepped [] xs ys s = s
+  stepped (k ∷ ks) [] ys s = s
+  stepped (k ∷ ks) (x ∷ xs) [] s = s
+  stepped (k ∷ ks) (x ∷ xs) (y ∷ ys) s = step k x y (stepped ks xs ys s)
 
-unfoldable pub pieceKey : List ℕ → List ℕ → ℕ → ℕ → ℕ → ℕ
-pieceKey numbers pieces c p k = cond (eqb (at pieces k) p && leb (at numbers k) c) (at numbers k) 0
+-- Sector k is marked where its number x is above c.
+unfoldable pub markedAbove : ℕ → ℕ → ℕ → ℕ → (ℕ → Bool) → ℕ → Bool
+markedAbove c k x y bits = cond (ltb c x) (updated bits k true) bits

@@ -1,62 +1,72 @@
-// The signed sectors of an image: each sector is read once, and what the signed ones say is kept.
+// The signed sectors of an image: each sector is read once, and what the signed ones say is listed.
 ghost use mathlib.Core.Path.{_≡_};
 ghost use mathlib.Core.Bool.{cond};
-ghost use Prim.Native.Nat.{_*_, _≤_, _<_};
-ghost use lib.ListN.{length, set, replicate};
-ghost use lib.Dec.{eqb, ltb};
+ghost use Prim.Native.Nat.{ℕ, _*_, _≤_, _<_};
+ghost use lib.ListN.{length, set, drop};
+ghost use lib.Dec.{eqb};
 ghost use Rattle.geometry.specs.Geometry.{sectorBytes, piecesFor};
-ghost use Rattle.layout.specs.Bounded.{at, best};
+ghost use Rattle.layout.specs.Bounded.{at};
 ghost use Rattle.layout.specs.Word.{wordsOf};
 ghost use Rattle.volume.specs.Tables.{sectorAt, bitAt};
-ghost use Rattle.volume.specs.Recover.{imageView};
-ghost use Rattle.signed.specs.Signed.{below, Read, Closings, closingKey};
+ghost use Rattle.volume.specs.Recover.{newestClosing, closedUpTo, imageView};
+ghost use Rattle.signed.specs.Signed.{Listed, stepped, markedAbove};
 use geometry::Geometry;
 
-// 1 for a closing sector, and 0 for another.
-fn closing_mark(s: &[u8]) -> u8
+// What was read of an image: where the list of its signed sectors begins, and the newest closing one with its number, 0 where there
+// is none.
+pub struct Signed {
+    pub from: usize,
+    pub tail: u32,
+    pub number: u32,
+}
+
+// The number of a sector where it is closing, and 0 where it is not.
+fn closing_number(s: &[u8]) -> u32
     requires { ⌜ length (now s) ≡ sectorBytes ⌝ }
-    ensures { λ r. ⌜ r ≡ cond (eqb (at (wordsOf (now (s .entry))) 5) 1) 1 0 ⌝ }
+    ensures { λ r. ⌜ r ≡ cond (eqb (at (wordsOf (now (s .entry))) 5) 1) (at (wordsOf (now (s .entry))) 2) 0 ⌝ }
 {
-    if map_sector::is_closing(s) {
-        return 1;
+    if !map_sector::is_closing(s) {
+        return 0;
     }
-    0
+    map_sector::number_of(s)
 }
 
-// Keeps what sector k says.
-fn keep(s: &[u8], k: usize, numbers: &mut [u32], pieces: &mut [u8], closing: &mut [u8])
+// Lists at i what sector k says.
+fn list(s: &[u8], k: u32, i: usize, sectors: &mut [u16], numbers: &mut [u32], pieces: &mut [u8])
     requires { ⌜ length (now s) ≡ sectorBytes ⌝ }
+    requires { ⌜ k < 65536 ⌝ }
     requires { ⌜ at (wordsOf (now s)) 4 < 256 ⌝ }
-    requires { ⌜ k < length (now numbers) ⌝ }
-    requires { ⌜ k < length (now pieces) ⌝ }
-    requires { ⌜ k < length (now closing) ⌝ }
-    ensures { λ _. ⌜ (now (numbers .exit) ≡ set (now (numbers .entry)) k (at (wordsOf (now (s .entry))) 2)) × (now (pieces .exit) ≡ set (now (pieces .entry)) k (at (wordsOf (now (s .entry))) 4)) × (now (closing .exit) ≡ set (now (closing .entry)) k (cond (eqb (at (wordsOf (now (s .entry))) 5) 1) 1 0)) ⌝ }
+    requires { ⌜ i < length (now sectors) ⌝ }
+    requires { ⌜ i < length (now numbers) ⌝ }
+    requires { ⌜ i < length (now pieces) ⌝ }
+    ensures { λ _. ⌜ (now (sectors .exit) ≡ set (now (sectors .entry)) i k) × (now (numbers .exit) ≡ set (now (numbers .entry)) i (at (wordsOf (now (s .entry))) 2)) × (now (pieces .exit) ≡ set (now (pieces .entry)) i (at (wordsOf (now (s .entry))) 4)) ⌝ }
 {
-    numbers[k] = map_sector::number_of(s);
-    pieces[k] = map_sector::piece_of(s) as u8;
-    closing[k] = closing_mark(s);
+    sectors[i] = k as u16;
+    numbers[i] = map_sector::number_of(s);
+    pieces[i] = map_sector::piece_of(s) as u8;
 }
 
-// Reads the image once, and keeps of each signed sector its number, its piece, and 1 where it is closing. The others keep 0. Most have
-// no mark, and are passed over without a call.
+// Reads the image once, and lists its signed sectors with their numbers and pieces at the ends of three arrays, the last sector first.
+// Most sectors have no mark, and are passed over without a call.
 pub fn read_signed(
     image: &[u8],
     g: Geometry,
+    sectors: &mut [u16],
     numbers: &mut [u32],
     pieces: &mut [u8],
-    closing: &mut [u8],
-)
+) -> Signed
     requires { ⌜ length (now image) ≡ sectorBytes * g .n ⌝ }
     requires { ⌜ 1 ≤ g .n ⌝ }
+    requires { ⌜ g .n ≤ 65536 ⌝ }
     requires { ⌜ piecesFor (g .l) ≤ 256 ⌝ }
-    requires { ⌜ g .n ≤ length (now numbers) ⌝ }
-    requires { ⌜ g .n ≤ length (now pieces) ⌝ }
-    requires { ⌜ g .n ≤ length (now closing) ⌝ }
-    requires { ⌜ now numbers ≡ replicate (length (now numbers)) 0 ⌝ }
-    requires { ⌜ now pieces ≡ replicate (length (now pieces)) 0 ⌝ }
-    requires { ⌜ now closing ≡ replicate (length (now closing)) 0 ⌝ }
-    ensures { λ _. ⌜ Read (imageView g (sectorAt (now (image .entry)))) (now (numbers .exit)) (now (pieces .exit)) × Closings (imageView g (sectorAt (now (image .entry)))) (now (closing .exit)) ⌝ }
+    requires { ⌜ g .n ≤ length (now sectors) ⌝ }
+    requires { ⌜ length (now numbers) ≡ length (now sectors) ⌝ }
+    requires { ⌜ length (now pieces) ≡ length (now sectors) ⌝ }
+    ensures { λ r. ⌜ (r .from ≤ length (now (sectors .entry))) × Listed (imageView g (sectorAt (now (image .entry)))) (g .n) (drop (r .from) (now (sectors .exit))) (drop (r .from) (now (numbers .exit))) (drop (r .from) (now (pieces .exit))) × (r .tail ≡ newestClosing (g .n) (imageView g (sectorAt (now (image .entry))))) × (r .number ≡ closedUpTo (g .n) (imageView g (sectorAt (now (image .entry))))) ⌝ }
 {
+    let mut from = sectors.len();
+    let mut tail: u32 = 0;
+    let mut highest: u32 = 0;
     let mut k: u32 = 0;
     'sectors: while k < g.n {
         let s = images::sector(image, k as usize);
@@ -68,58 +78,34 @@ pub fn read_signed(
             k += 1;
             continue 'sectors;
         }
-        keep(s, k as usize, numbers, pieces, closing);
-        k += 1;
-    }
-}
-
-// The number of sector k if it is closing, and 0 if not.
-pub fn closing_at(numbers: &[u32], closing: &[u8], k: u32) -> u32
-    requires { ⌜ k < length (now numbers) ⌝ }
-    requires { ⌜ k < length (now closing) ⌝ }
-    ensures { λ r. ⌜ r ≡ closingKey (now (numbers .entry)) (now (closing .entry)) k ⌝ }
-{
-    if closing[k as usize] != 1 {
-        return 0;
-    }
-    numbers[k as usize]
-}
-
-// The newest closing sector, of equal ones the lowest; 0 where there is none.
-pub fn newest_closing(numbers: &[u32], closing: &[u8], n: u32) -> u32
-    requires { ⌜ 1 ≤ n ⌝ }
-    requires { ⌜ n ≤ length (now numbers) ⌝ }
-    requires { ⌜ n ≤ length (now closing) ⌝ }
-    ensures { λ r. ⌜ r ≡ best (closingKey (now (numbers .entry)) (now (closing .entry))) n ⌝ }
-{
-    let mut found: u32 = 0;
-    let mut highest = closing_at(numbers, closing, 0);
-    let mut k: u32 = 1;
-    while k < n {
-        let number = closing_at(numbers, closing, k);
+        from -= 1;
+        list(s, k, from, sectors, numbers, pieces);
+        let number = closing_number(s);
         if highest < number {
-            found = k;
+            tail = k;
             highest = number;
         }
         k += 1;
     }
-    found
+    Signed {
+        from,
+        tail,
+        number: highest,
+    }
 }
 
-// Marks the uncommitted sectors: those numbered above c.
-pub fn mark_above(numbers: &[u32], n: u32, c: u32, above: &mut [u8])
-    requires { ⌜ n ≤ length (now numbers) ⌝ }
-    requires { ⌜ n ≤ 8 * length (now above) ⌝ }
-    requires { ⌜ now above ≡ replicate (length (now above)) 0 ⌝ }
-    ensures { λ _. ⌜ bitAt (now (above .exit)) ≡ below (λ k. ltb c (at (now (numbers .entry)) k)) n ⌝ }
+// Marks the uncommitted ones of the sectors that are listed: those numbered above c.
+pub fn mark_above(sectors: &[u16], numbers: &[u32], c: u32, above: &mut [u8])
+    requires { ⌜ length (now numbers) ≡ length (now sectors) ⌝ }
+    requires { ⌜ ((i : ℕ) → i < length (now sectors) → at (now sectors) i < 8 * length (now above)) ⌝ }
+    ensures { λ _. ⌜ bitAt (now (above .exit)) ≡ stepped (markedAbove c) (now (sectors .entry)) (now (numbers .entry)) (now (numbers .entry)) (bitAt (now (above .entry))) ⌝ }
 {
-    let mut k: u32 = 0;
-    'sectors: while k < n {
-        if numbers[k as usize] <= c {
-            k += 1;
-            continue 'sectors;
+    let mut i = sectors.len();
+    'listed: while 0 < i {
+        i -= 1;
+        if numbers[i] <= c {
+            continue 'listed;
         }
-        bits::set_bit(above, k as usize);
-        k += 1;
+        bits::set_bit(above, sectors[i] as usize);
     }
 }

@@ -5,14 +5,15 @@ use native.Mathlib.Omega.{arith}
 use borrow.Author.Needs.{needs}
 use borrow.Author.Tests.{not-true, not-false}
 use Rattle.distinct.proofs.Chaining.{Grouping, grouping-none, grouping-more, grouping-ends}
+use Rattle.distinct.specs.Chains.{groups}
 use Rattle.distinct.proofs.groups_distinct.Statement.{statement}
 use Rattle.distinct.proofs.groups_distinct.Tie as tie
 
 abbrev Inv-loop : tie.InvT-loop
-Inv-loop xs heads next stamps₀ g₀ stamps g = (g ≤ 16384) × Grouping xs stamps g
+Inv-loop xs heads next stamps₀ g₀ stamps g = (g ≤ groups) × Grouping xs stamps g
 
 abbrev μ-loop : tie.MeasureT-loop
-μ-loop xs heads next stamps₀ g₀ stamps g = 16384 - g
+μ-loop xs heads next stamps₀ g₀ stamps g = groups - g
 
 loop-holds : tie.Need-loop-holds Inv-loop μ-loop
 loop-holds c =

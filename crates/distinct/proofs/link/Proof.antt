@@ -35,7 +35,7 @@ mul-next c =
 
 slice-read-next : tie.Need-slice-read-next Inv-loop μ-loop
 slice-read-next c =
-    let the-loop = c .before .before .before .loop in let n = the-loop .inv .groups in let b = c .before .shared-slice-known .given (the-loop .i) in omega arith
+    let the-loop = c .before .before .before .loop in let n = the-loop .inv .wide in let b = c .before .shared-slice-known .given (the-loop .i) in omega arith
 
 cast-next : tie.Need-cast-next Inv-loop μ-loop
 cast-next c =
@@ -59,11 +59,11 @@ cast-heads c = search needs
 
 mul-heads : tie.Need-mul-heads Inv-loop μ-loop
 mul-heads c =
-    let the-loop = c .before .before .before .loop in let n = the-loop .inv .groups in let b = c .before .shared-slice-known .given (the-loop .i) in omega arith
+    let the-loop = c .before .before .before .loop in let n = the-loop .inv .wide in let b = c .before .shared-slice-known .given (the-loop .i) in omega arith
 
 slice-write-heads : tie.Need-slice-write-heads Inv-loop μ-loop
 slice-write-heads c =
-    let the-loop = c .before .before .before .loop in let n = the-loop .inv .groups in let b = c .before .shared-slice-known .given (the-loop .i) in omega arith
+    let the-loop = c .before .before .before .loop in let n = the-loop .inv .wide in let b = c .before .shared-slice-known .given (the-loop .i) in omega arith
 
 add-i : tie.Need-add-i Inv-loop μ-loop
 add-i c = search needs
@@ -78,7 +78,7 @@ loop-again c =
     (c .before .before .loop-test .taken) (c .before .before .before .before .pre .1 .1 .1)
 
 same-length : tie.Need-same-length Inv-loop μ-loop
-same-length c = c .before .loop .inv .groups ∙ sym (c .before .before .pre .1 .0)
+same-length c = c .before .loop .inv .wide ∙ sym (c .before .before .pre .1 .0)
 
 same-length-2 : tie.Need-same-length-2 Inv-loop μ-loop
 same-length-2 c = c .before .loop .inv .long

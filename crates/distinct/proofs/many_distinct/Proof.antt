@@ -10,11 +10,11 @@ many-apart-requires c κs = search needs
 returns : tie.Need-returns
 returns c = sym (c .before .many-apart .ensures (c .if1 .taken))
 
-chains-distinct-requires : tie.Need-chains-distinct-requires
-chains-distinct-requires c κs = search needs
+words-distinct-requires : tie.Need-words-distinct-requires
+words-distinct-requires c κs = search needs
 
 returns-2 : tie.Need-returns-2
 returns-2 c = search needs
 
 pub many-distinct-spec : {M : Type 1} → statement M
-many-distinct-spec = tie.close (tie.spec many-apart-requires returns chains-distinct-requires returns-2)
+many-distinct-spec = tie.close (tie.spec many-apart-requires returns words-distinct-requires returns-2)

@@ -5,6 +5,7 @@ use native.Mathlib.Omega.{arith}
 use lib.ListN.{length-replicate}
 use Rattle.laws.proofs.Filling.{zeros-get}
 use borrow.Author.Needs.{needs}
+use Rattle.distinct.specs.Chains.{groups, rests}
 use Rattle.distinct.proofs.words_distinct.Statement.{statement}
 use Rattle.distinct.proofs.words_distinct.Tie as tie
 
@@ -18,7 +19,7 @@ link-requires : tie.Need-link-requires
 link-requires c κs =
     let the-pre = c .before .before .before .pre in
     let n = length-replicate {A = ℕ} 65536 0 in
-    (the-pre, (length-replicate {A = ℕ} 16384 0, (zeros-get 16384, omega arith)))
+    (the-pre, (length-replicate {A = ℕ} groups 0, (zeros-get groups, omega arith)))
 
 slice-aggregate-groups-distinct : tie.Need-slice-aggregate-groups-distinct
 slice-aggregate-groups-distinct c = search needs
@@ -34,7 +35,7 @@ groups-distinct-requires c κs =
     let the-link = c .before .before .before .before .before .link in
     let the-pre = c .before .before .before .before .before .before .before .before .before .pre in
     let n = the-link .kept .1 .1 .0 ∙ length-replicate {A = ℕ} 65536 0 in
-    (omega arith, (the-link .kept .1 .0 ∙ length-replicate {A = ℕ} 16384 0, (the-link .ensures, (length-replicate {A = ℕ} 262144 0, λ k. let z = zeros-get 262144 k in omega arith))))
+    (omega arith, (the-link .kept .1 .0 ∙ length-replicate {A = ℕ} groups 0, (the-link .ensures, (length-replicate {A = ℕ} rests 0, λ k. let z = zeros-get rests k in omega arith))))
 
 returns : tie.Need-returns
 returns c = search needs

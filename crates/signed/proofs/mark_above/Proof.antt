@@ -1,104 +1,119 @@
--- The sectors below k that are numbered above c are marked.
-use Prim.Native.Nat.{_-_, _≤_}
-use mathlib.Core.Path.{_≡_, refl, _∙_, ap}
+-- Those from index i on are marked.
+use Prim.Native.Nat.{ℕ, _-_, _≤_}
+use mathlib.Core.Path.{_≡_, refl, sym, _∙_, ap}
+use mathlib.Core.Bool.{true}
 use native.Mathlib.Omega.{arith}
 use lib.ListN.{length}
 use lib.Dec.{ltb}
 use borrow.Author.Tests.{lt-ltb, le-ltb}
-use Rattle.layout.specs.Bounded.{at}
+use Rattle.layout.specs.Bounded.{at, updated}
 use Rattle.volume.specs.Tables.{bitAt}
-use Rattle.signed.specs.Signed.{below}
-use Rattle.signed.proofs.SignedLaws.{marks-none, marks-miss, marks-hit}
+use Rattle.signed.specs.Signed.{markedAbove}
+use Rattle.signed.proofs.Listing.{Stepped, stepped-none, stepped-more, stepped-whole}
+use Rattle.signed.proofs.SignedLaws.{marked-not, marked-so}
 use Rattle.signed.proofs.mark_above.Statement.{statement}
 use Rattle.signed.proofs.mark_above.Tie as tie
 
-abbrev Inv-sectors : tie.InvT-sectors
-Inv-sectors numbers n c above₀ k₀ above k = (k ≤ n) × (length above ≡ length above₀) × (bitAt above ≡ below (λ j. ltb c (at numbers j)) k)
+abbrev Inv-listed : tie.InvT-listed
+Inv-listed sectors numbers c above₀ i₀ above i =
+    (i ≤ length sectors) × (length above ≡ length above₀) × Stepped (markedAbove c) sectors numbers numbers i (bitAt above₀) (bitAt above)
 
-abbrev μ-sectors : tie.MeasureT-sectors
-μ-sectors numbers n c above₀ k₀ above k = n - k
+abbrev μ-listed : tie.MeasureT-listed
+μ-listed sectors numbers c above₀ i₀ above i = i
 
-sectors-holds : tie.Need-sectors-holds Inv-sectors μ-sectors
-sectors-holds c =
-    let the-pre = c .before .before .pre in
-    let a = c .before .before .args in (omega arith, refl, marks-none (λ k. ltb (a .c) (at (a .numbers .now) k)) (a .above .now) (length (a .above .now)) (the-pre .1 .1))
+listed-holds : tie.Need-listed-holds Inv-listed μ-listed
+listed-holds c =
+    let a = c .before .before .before .args in
+    (omega arith, refl, stepped-none (markedAbove (a .c)) (a .sectors .now) (a .numbers .now) (a .numbers .now) (bitAt (a .above .now)))
 
-cast-if1 : tie.Need-cast-if1 Inv-sectors μ-sectors
-cast-if1 c = omega arith
+sub-i : tie.Need-sub-i Inv-listed μ-listed
+sub-i c = omega arith
 
-mul-if1 : tie.Need-mul-if1 Inv-sectors μ-sectors
+mul-if1 : tie.Need-mul-if1 Inv-listed μ-listed
 mul-if1 c = omega arith
 
-shared-slice-read-if1 : tie.Need-shared-slice-read-if1 Inv-sectors μ-sectors
+shared-slice-read-if1 : tie.Need-shared-slice-read-if1 Inv-listed μ-listed
 shared-slice-read-if1 c = omega arith
 
-add-k : tie.Need-add-k Inv-sectors μ-sectors
-add-k c = omega arith
+listed-less : tie.Need-listed-less Inv-listed μ-listed
+listed-less c = omega arith
 
-sectors-less : tie.Need-sectors-less Inv-sectors μ-sectors
-sectors-less c = omega arith
-
-sectors-again : tie.Need-sectors-again Inv-sectors μ-sectors
-sectors-again c =
-    let a = c .before .before .before .before .before .before .args in
-    let l = c .before .before .before .sectors in (
+listed-again : tie.Need-listed-again Inv-listed μ-listed
+listed-again c =
+    let l = c .before .before .before .listed in
+    let a = c .before .before .before .before .before .before .before .args in
+    let ns = a .numbers .now in (
       omega arith,
       l .inv .1,
-      marks-miss (λ k. ltb (a .c) (at (a .numbers .now) k)) (l .k) (bitAt (l .above)) (l .inv .2)
-          (le-ltb _ _ (c .if1 .taken)),
+      stepped-more (markedAbove (a .c)) (a .sectors .now) ns ns (l .i) (bitAt (a .above .now)) (bitAt (l .above)) _ (c .before .before .listed-test .taken) (l .inv .0) (c .before .before .before .before .before .before .before .pre .0) (c .before .before .before .before .before .before .before .pre .0)
+          (l .inv .2) (marked-not (a .c) (at (a .sectors .now) (l .i - 1)) (at ns (l .i - 1)) (at ns (l .i - 1)) _ (c .if1 .taken)),
     )
 
-cast-set-bit : tie.Need-cast-set-bit Inv-sectors μ-sectors
-cast-set-bit c = omega arith
+mul-set-bit : tie.Need-mul-set-bit Inv-listed μ-listed
+mul-set-bit c = omega arith
 
-set-bit-requires : tie.Need-set-bit-requires Inv-sectors μ-sectors
-set-bit-requires c κs = omega arith
+shared-slice-read-set-bit : tie.Need-shared-slice-read-set-bit Inv-listed μ-listed
+shared-slice-read-set-bit c = omega arith
 
-add-k-2 : tie.Need-add-k-2 Inv-sectors μ-sectors
-add-k-2 c = omega arith
+cast-set-bit : tie.Need-cast-set-bit Inv-listed μ-listed
+cast-set-bit c =
+    let l = c .before .before .before .before .before .listed in
+    let b = c .shared-slice-known4 .given (l .i - 1) .fits in
+    omega arith
 
-sectors-less-2 : tie.Need-sectors-less-2 Inv-sectors μ-sectors
-sectors-less-2 c = omega arith
+set-bit-requires : tie.Need-set-bit-requires Inv-listed μ-listed
+set-bit-requires c κs =
+    let l = c .before .before .before .before .before .listed in
+    let len = l .inv .1 in
+    let most = l .inv .0 in
+    let some = c .before .before .before .before .listed-test .taken in
+    let below = c .before .before .before .before .before .before .before .before .before .pre .1 (l .i - 1) (omega arith) in
+    omega arith
 
-sectors-again-2 : tie.Need-sectors-again-2 Inv-sectors μ-sectors
-sectors-again-2 c =
-    let the-set-bit = c .before .before .set-bit in
-    let the-if1 = c .before .before .before .before .if1 in
-    let a = c .before .before .before .before .before .before .before .before .before .before .args in
-    let l = c .before .before .before .before .before .before .before .sectors in (
+listed-less-2 : tie.Need-listed-less-2 Inv-listed μ-listed
+listed-less-2 c = omega arith
+
+listed-again-2 : tie.Need-listed-again-2 Inv-listed μ-listed
+listed-again-2 c =
+    let b = c .before .before .set-bit in
+    let l = c .before .before .before .before .before .before .before .before .listed in
+    let a = c .before .before .before .before .before .before .before .before .before .before .before .before .args in
+    let ns = a .numbers .now in (
       omega arith,
-      the-set-bit .kept .0 ∙ l .inv .1,
-      marks-hit (λ k. ltb (a .c) (at (a .numbers .now) k)) (l .k) (bitAt (l .above)) _ (l .inv .2)
-          (lt-ltb _ _ (the-if1 .left)) (the-set-bit .ensures),
+      b .kept .0 ∙ l .inv .1,
+      stepped-more (markedAbove (a .c)) (a .sectors .now) ns ns (l .i) (bitAt (a .above .now)) (bitAt (l .above)) _ (c .before .before .before .before .before .before .before .listed-test .taken) (l .inv .0) (c .before .before .before .before .before .before .before .before .before .before .before .before .pre .0) (c .before .before .before .before .before .before .before .before .before .before .before .before .pre .0)
+          (l .inv .2) (marked-so (a .c) (at (a .sectors .now) (l .i - 1)) (at ns (l .i - 1)) (at ns (l .i - 1)) _ _ (c .before .before .before .before .before .if1 .left) (b .ensures)),
     )
 
-same-length : tie.Need-same-length Inv-sectors μ-sectors
-same-length c = c .before .sectors .inv .1
+same-length : tie.Need-same-length Inv-listed μ-listed
+same-length c =
+    let l = c .before .listed in
+    l .inv .1
 
-returns : tie.Need-returns Inv-sectors μ-sectors
+returns : tie.Need-returns Inv-listed μ-listed
 returns c =
-    let a = c .before .before .before .before .args in
-    let l = c .before .sectors in
-    let e : l .k ≡ a .n = (let i = l .inv .0 in let t = c .sectors-test .left in omega arith) in
-    l .inv .2 ∙ ap (below (λ k. ltb (a .c) (at (a .numbers .now) k))) e
+    let l = c .before .listed in
+    let a = c .before .before .before .before .before .args in
+    let none = c .listed-test .left in
+    stepped-whole (markedAbove (a .c)) (a .sectors .now) (a .numbers .now) (a .numbers .now) (l .i) (bitAt (a .above .now)) _ (omega arith) (l .inv .2)
 
 pub mark-above-spec : {M : Type 1} → statement M
 mark-above-spec =
     tie.close
     (tie.spec
-    Inv-sectors
-    μ-sectors
-    sectors-holds
-    cast-if1
+    Inv-listed
+    μ-listed
+    listed-holds
+    sub-i
     mul-if1
     shared-slice-read-if1
-    add-k
-    sectors-less
-    sectors-again
+    listed-less
+    listed-again
+    mul-set-bit
+    shared-slice-read-set-bit
     cast-set-bit
     set-bit-requires
-    add-k-2
-    sectors-less-2
-    sectors-again-2
+    listed-less-2
+    listed-again-2
     same-length
     returns)

@@ -1,9 +1,18 @@
 -- Three stores.
-use mathlib.Core.Path.{ap}
+use mathlib.Core.Path.{refl, ap}
 use lib.ListN.{set}
 use borrow.Author.Needs.{needs}
-use Rattle.signed.proofs.keep.Statement.{statement}
-use Rattle.signed.proofs.keep.Tie as tie
+use Rattle.signed.proofs.list.Statement.{statement}
+use Rattle.signed.proofs.list.Tie as tie
+
+cast-sectors : tie.Need-cast-sectors
+cast-sectors c = search needs
+
+mul-sectors : tie.Need-mul-sectors
+mul-sectors c = search needs
+
+slice-write-sectors : tie.Need-slice-write-sectors
+slice-write-sectors c = search needs
 
 number-of-requires : tie.Need-number-of-requires
 number-of-requires c κs = search needs
@@ -23,12 +32,6 @@ cast-pieces c = search needs
 slice-write-pieces : tie.Need-slice-write-pieces
 slice-write-pieces c = search needs
 
-closing-mark-requires : tie.Need-closing-mark-requires
-closing-mark-requires c κs = search needs
-
-slice-write-closing : tie.Need-slice-write-closing
-slice-write-closing c = search needs
-
 same-length : tie.Need-same-length
 same-length c = search needs
 
@@ -40,27 +43,24 @@ same-length-3 c = search needs
 
 returns : tie.Need-returns
 returns c =
-    let the-closing-mark = c .closing-mark in
-    let the-piece-of = c .before .piece-of in
-    let the-number-of = c .before .before .number-of in
-    let a = c .before .before .before .before .before .before .before .args in (
-      ap (set (a .numbers .now) (a .k)) (the-number-of .ensures),
-      ap (set (a .pieces .now) (a .k)) (the-piece-of .ensures),
-      ap (set (a .closing .now) (a .k)) (the-closing-mark .ensures),
-    )
+    let p = c .piece-of in
+    let n = c .before .number-of in
+    let a = c .before .before .before .before .before .before .args in
+    (refl, ap (set (a .numbers .now) (a .i)) (n .ensures), ap (set (a .pieces .now) (a .i)) (p .ensures))
 
-pub keep-spec : {M : Type 1} → statement M
-keep-spec =
+pub list-spec : {M : Type 1} → statement M
+list-spec =
     tie.close
     (tie.spec
+    cast-sectors
+    mul-sectors
+    slice-write-sectors
     number-of-requires
     mul-numbers
     slice-write-numbers
     piece-of-requires
     cast-pieces
     slice-write-pieces
-    closing-mark-requires
-    slice-write-closing
     same-length
     same-length-2
     same-length-3
