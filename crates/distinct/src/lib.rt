@@ -48,6 +48,18 @@ fn some_apart(xs: &[u32]) -> bool
     residues_apart(xs, &mut seen)
 }
 
+// The same modulo 65,528, by which numbers that agree modulo 65,536 seldom agree. Not of more than 4,096: for so many the tables of the
+// chains are cleared soon enough.
+fn again_apart(xs: &[u32]) -> bool
+    ensures { λ r. ⌜ (r ≡ true → distinct (now (xs .entry)) ≡ true) ⌝ }
+{
+    if 4096 < xs.len() {
+        return false;
+    }
+    let mut seen = [0u8; 8191];
+    residues_apart(xs, &mut seen)
+}
+
 // The same modulo 65,536, in bytes: each number takes less time, and the table is cleared later.
 fn many_apart(xs: &[u32]) -> bool
     ensures { λ r. ⌜ (r ≡ true → distinct (now (xs .entry)) ≡ true) ⌝ }
@@ -125,11 +137,16 @@ fn groups_distinct(xs: &[u32], heads: &[u32], next: &[u16], stamps: &mut [u16]) 
     true
 }
 
-// Whether the numbers are all different, by chains: never more than three steps for one.
+// Whether the numbers are all different, by other residues and then by chains: never more than four steps for one. Its tables are half
+// a megabyte. It is called from two places, and with the residues it is too long to be merged into them, so that the compiler keeps
+// the tables out of its callers' frames.
 fn words_distinct(xs: &[u32]) -> bool
     requires { ⌜ length (now xs) ≤ 65536 ⌝ }
     ensures { λ r. ⌜ r ≡ distinct (now (xs .entry)) ⌝ }
 {
+    if again_apart(xs) {
+        return true;
+    }
     let mut heads = [0u32; GROUPS as usize];
     let mut next = [0u16; 65536];
     let mut stamps = [0u16; RESTS as usize];
@@ -137,30 +154,7 @@ fn words_distinct(xs: &[u32]) -> bool
     groups_distinct(xs, &heads, &next, &mut stamps)
 }
 
-// The answer for any number of them. The tables take more than half a megabyte: the function is called from two places and large
-// enough, so that the compiler keeps them out of its callers' frames.
-fn many_distinct(xs: &[u32]) -> bool
-    requires { ⌜ length (now xs) ≤ 65536 ⌝ }
-    ensures { λ r. ⌜ r ≡ distinct (now (xs .entry)) ⌝ }
-{
-    if many_apart(xs) {
-        return true;
-    }
-    words_distinct(xs)
-}
-
-// The same for at most 4,096.
-fn some_distinct(xs: &[u32]) -> bool
-    requires { ⌜ length (now xs) ≤ 65536 ⌝ }
-    ensures { λ r. ⌜ r ≡ distinct (now (xs .entry)) ⌝ }
-{
-    if some_apart(xs) {
-        return true;
-    }
-    many_distinct(xs)
-}
-
-// The same for at most 256.
+// The answer for at most 256 numbers.
 fn few_distinct(xs: &[u32]) -> bool
     requires { ⌜ length (now xs) ≤ 65536 ⌝ }
     ensures { λ r. ⌜ r ≡ distinct (now (xs .entry)) ⌝ }
@@ -169,6 +163,28 @@ fn few_distinct(xs: &[u32]) -> bool
         return true;
     }
     some_distinct(xs)
+}
+
+// For at most 4,096.
+fn some_distinct(xs: &[u32]) -> bool
+    requires { ⌜ length (now xs) ≤ 65536 ⌝ }
+    ensures { λ r. ⌜ r ≡ distinct (now (xs .entry)) ⌝ }
+{
+    if some_apart(xs) {
+        return true;
+    }
+    words_distinct(xs)
+}
+
+// For more.
+fn many_distinct(xs: &[u32]) -> bool
+    requires { ⌜ length (now xs) ≤ 65536 ⌝ }
+    ensures { λ r. ⌜ r ≡ distinct (now (xs .entry)) ⌝ }
+{
+    if many_apart(xs) {
+        return true;
+    }
+    words_distinct(xs)
 }
 
 // Whether no two of the numbers are equal. The fewer they are, the smaller is the table that is cleared for them.

@@ -18,14 +18,6 @@ use Rattle.laws.proofs.Words.{length-wordsOf}
 use Rattle.laws.proofs.Bounded.{bool?, lt?, eq?, cond-true, cond-false}
 use Rattle.map_sector.specs.Header.{branchFits}
 
-never : (b : Bool) → false ≡ (b && false)
-never true = refl
-never false = refl
-
-keeps : (b : Bool) → b ≡ (b && true)
-keeps true = refl
-keeps false = refl
-
 -- One branch.
 module _ (n count i w : ℕ) (some : 1 ≤ n) where
   -- Used, and unused.
@@ -43,49 +35,57 @@ module _ (n count i w : ℕ) (some : 1 ≤ n) where
       used-one h ∙ ap₂ (λ (a b : Bool). a && b) (le-leb 1 w (omega arith)) (lt-leb w (n - 1) (omega arith)))
       (λ (h : count ≤ i). unused-one h ∙ ne-eqb w 0 (λ (z : w ≡ 0). omega arith)) (lt? i count)
 
-  odd : not (Bool·beq (not (eqb w 0)) (ltb i count)) ≡ true → branchFits n count i w ≡ false
+  -- Zero exactly where unused.
+  odd : Bool·beq (not (eqb w 0)) (ltb i count) ≡ false → branchFits n count i w ≡ false
   odd e =
       ⊎-elim (λ (h : i < count).
-      let z = is-zero (eqb w 0) (ap (λ (b : Bool). not (Bool·beq (not (eqb w 0)) b)) (sym (lt-ltb i count h)) ∙ e) in
+      let z = is-zero (eqb w 0) (ap (Bool·beq (not (eqb w 0))) (sym (lt-ltb i count h)) ∙ e) in
       used-one h ∙ ap (λ (b : Bool). b && leb w (n - 1)) (lt-leb 1 w (let y = eqb-true w 0 z in omega arith)))
-      (λ (h : count ≤ i).
-      unused-one h ∙ not-zero (eqb w 0) (ap (λ (b : Bool). not (Bool·beq (not (eqb w 0)) b)) (sym (le-ltb i count h)) ∙ e)) (lt? i count)
+      (λ (h : count ≤ i). unused-one h ∙ not-zero (eqb w 0) (ap (Bool·beq (not (eqb w 0))) (sym (le-ltb i count h)) ∙ e)) (lt? i count)
     where
-      is-zero : (z : Bool) → not (Bool·beq (not z) true) ≡ true → z ≡ true
-      is-zero true y = refl
-      is-zero false y = absurd (true≢false (sym y))
-
-      not-zero : (z : Bool) → not (Bool·beq (not z) false) ≡ true → z ≡ false
-      not-zero true y = absurd (true≢false (sym y))
-      not-zero false y = refl
-
-  even : w < n → not (Bool·beq (not (eqb w 0)) (ltb i count)) ≡ false → branchFits n count i w ≡ true
-  even near e =
-      ⊎-elim (λ (h : i < count).
-      let z = not-zero (eqb w 0) (ap (λ (b : Bool). not (Bool·beq (not (eqb w 0)) b)) (sym (lt-ltb i count h)) ∙ e) in
-      let low : 1 ≤ w =
-      ⊎-elim (λ (y : w < 1). absurd (true≢false (sym (eq-eqb w 0 (omega arith)) ∙ z))) (λ (y : 1 ≤ w). y) (lt? w 1) in
-      used-one h ∙ ap₂ (λ (a b : Bool). a && b) (le-leb 1 w low) (le-leb w (n - 1) (omega arith)))
-      (λ (h : count ≤ i).
-      unused-one h ∙ is-zero (eqb w 0) (ap (λ (b : Bool). not (Bool·beq (not (eqb w 0)) b)) (sym (le-ltb i count h)) ∙ e)) (lt? i count)
-    where
-      not-zero : (z : Bool) → not (Bool·beq (not z) true) ≡ false → z ≡ false
-      not-zero true y = absurd (true≢false y)
-      not-zero false y = refl
-
-      is-zero : (z : Bool) → not (Bool·beq (not z) false) ≡ false → z ≡ true
+      is-zero : (z : Bool) → Bool·beq (not z) true ≡ false → z ≡ true
       is-zero true y = refl
       is-zero false y = absurd (true≢false y)
 
-  module _ (good : Bool) where
-    pub still-past : n ≤ w → false ≡ (good && branchFits n count i w)
-    still-past far = never good ∙ ap (λ (b : Bool). good && b) (sym (past far))
+      not-zero : (z : Bool) → Bool·beq (not z) false ≡ false → z ≡ false
+      not-zero true y = absurd (true≢false y)
+      not-zero false y = refl
 
-    pub still-odd : not (Bool·beq (not (eqb w 0)) (ltb i count)) ≡ true → false ≡ (good && branchFits n count i w)
-    still-odd e = never good ∙ ap (λ (b : Bool). good && b) (sym (odd e))
+  even : w < n → Bool·beq (not (eqb w 0)) (ltb i count) ≡ true → branchFits n count i w ≡ true
+  even near e =
+      ⊎-elim (λ (h : i < count).
+      let z = not-zero (eqb w 0) (ap (Bool·beq (not (eqb w 0))) (sym (lt-ltb i count h)) ∙ e) in
+      let low : 1 ≤ w =
+      ⊎-elim (λ (y : w < 1). absurd (true≢false (sym (eq-eqb w 0 (omega arith)) ∙ z))) (λ (y : 1 ≤ w). y) (lt? w 1) in
+      used-one h ∙ ap₂ (λ (a b : Bool). a && b) (le-leb 1 w low) (le-leb w (n - 1) (omega arith)))
+      (λ (h : count ≤ i). unused-one h ∙ is-zero (eqb w 0) (ap (Bool·beq (not (eqb w 0))) (sym (le-ltb i count h)) ∙ e)) (lt? i count)
+    where
+      not-zero : (z : Bool) → Bool·beq (not z) true ≡ true → z ≡ false
+      not-zero true y = absurd (true≢false (sym y))
+      not-zero false y = refl
 
-    pub still-even : w < n → not (Bool·beq (not (eqb w 0)) (ltb i count)) ≡ false → good ≡ (good && branchFits n count i w)
-    still-even near e = keeps good ∙ ap (λ (b : Bool). good && b) (sym (even near e))
+      is-zero : (z : Bool) → Bool·beq (not z) false ≡ true → z ≡ true
+      is-zero true y = refl
+      is-zero false y = absurd (true≢false (sym y))
+
+  pub branch-is : (good : Bool) → (good && ltb w n && Bool·beq (not (eqb w 0)) (ltb i count)) ≡ (good && branchFits n count i w)
+  branch-is good =
+      ⊎-elim (λ (h : w < n).
+      ⊎-elim (λ (e : Bool·beq (not (eqb w 0)) (ltb i count) ≡ true). rw (lt-ltb w n h, e, even h e) (kept good))
+      (λ (e : Bool·beq (not (eqb w 0)) (ltb i count) ≡ false). rw (lt-ltb w n h, e, odd e) (lost good)) (bool? (Bool·beq (not (eqb w 0)) (ltb i count))))
+      (λ (h : n ≤ w). rw (le-ltb w n h, past h) (far good (Bool·beq (not (eqb w 0)) (ltb i count)))) (lt? w n)
+    where
+      kept : (b : Bool) → (b && true && true) ≡ (b && true)
+      kept true = refl
+      kept false = refl
+
+      lost : (b : Bool) → (b && true && false) ≡ (b && false)
+      lost true = refl
+      lost false = refl
+
+      far : (b c : Bool) → (b && false && c) ≡ (b && false)
+      far true c = refl
+      far false c = refl
 
 -- There is room for 24.
 pub branch-room : (bytes : List ℕ) → length bytes ≡ 512 → length (branchWords (wordsOf bytes)) ≡ 24

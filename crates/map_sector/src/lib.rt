@@ -104,22 +104,16 @@ fn header_fits(s: &[u8], l: u32) -> bool
     )
 }
 
-// Whether all fitted so far, and w fits as branch i of so many: a sector from 1 to n - 1, and past the last one zero.
+// Whether all fitted so far, and w fits as branch i of so many: a sector from 1 to n - 1, and past the last one zero. Without a jump, so
+// that the compiler compares several at a time.
 fn still_fits(good: bool, w: u32, i: u32, count: u32, n: u32) -> bool
     requires { ⌜ 1 ≤ n ⌝ }
     ensures { λ r. ⌜ r ≡ (good && branchFits n count i w) ⌝ }
 {
-    if n <= w {
-        return false;
-    }
-    if (w != 0) != (i < count) {
-        return false;
-    }
-    good
+    good & (w < n) & ((w != 0) == (i < count))
 }
 
-// Whether the branches are sectors from 1 to n - 1, and the unused ones zero. All 24 are looked at, so that the compiler compares several
-// at a time, however many are used.
+// Whether the branches are sectors from 1 to n - 1, and the unused ones zero. All 24 are looked at in one way, however many are used.
 fn branches_fit(s: &[u8], n: u32) -> bool
     requires { ⌜ length (now s) ≡ sectorBytes ⌝ }
     requires { ⌜ 1 ≤ n ⌝ }

@@ -1,4 +1,4 @@
--- Residues that are all different decide; otherwise a larger table does.
+-- Residues that are all different decide; otherwise the chains do.
 use mathlib.Core.Path.{sym}
 use borrow.Author.Needs.{needs}
 use Rattle.distinct.proofs.some_distinct.Statement.{statement}
@@ -10,11 +10,11 @@ some-apart-requires c κs = search needs
 returns : tie.Need-returns
 returns c = sym (c .before .some-apart .ensures (c .if1 .taken))
 
-many-distinct-requires : tie.Need-many-distinct-requires
-many-distinct-requires c κs = search needs
+words-distinct-requires : tie.Need-words-distinct-requires
+words-distinct-requires c κs = search needs
 
 returns-2 : tie.Need-returns-2
 returns-2 c = search needs
 
 pub some-distinct-spec : {M : Type 1} → statement M
-some-distinct-spec = tie.close (tie.spec some-apart-requires returns many-distinct-requires returns-2)
+some-distinct-spec = tie.close (tie.spec some-apart-requires returns words-distinct-requires returns-2)
