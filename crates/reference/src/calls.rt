@@ -28,7 +28,7 @@ fn keep_made(b: &mut [u32; board::SIZE]) {
 
 fn list_sectors(b: &mut [u32; board::SIZE], n: u32) {
     for k in 0..n {
-        journal::list(b, k);
+        journal::list_blank(b, k);
     }
 }
 
@@ -205,6 +205,7 @@ pub fn perform(b: &mut [u32; board::SIZE]) {
     let call = board::get(b, board::CALL, 0);
     board::fill(b, board::ANSWER, 4, 0);
     board::put(b, board::LISTED, 0, 0);
+    board::put(b, board::FILLED, 0, 0);
     let refused = refusal(b, call);
     if refused != 0 {
         board::put(b, board::ANSWER, 0, refused);

@@ -1,6 +1,15 @@
 // The board: one array of words with everything that a call is lent and hands back. The image lies on it word by word, the used map with a word
 // a sector. A word past its end reads as 0 and is not written.
 
+// The most sectors and blocks of a volume. Its pieces are 50 at most, and there is room for more.
+pub const N_MOST: u32 = 1040;
+
+pub const L_MOST: u32 = 4800;
+
+pub const P_MOST: u32 = 64;
+// The blocks that a call may be lent.
+pub const COUNT_MOST: u32 = 80;
+
 // The state.
 pub const STATE_N: u32 = 0;
 
@@ -55,48 +64,54 @@ pub const LAST_PLACE: u32 = 24;
 pub const FOUND_TAIL: u32 = 25;
 
 pub const FOUND_NUMBER: u32 = 26;
+// Within a call, the stores listed so far that are not of zeros.
+pub const FILLED: u32 = 27;
 // The blocks that a call names; a read's is the first.
 pub const BLOCKS: u32 = 64;
 // The words of a write's blocks, 128 for each.
-pub const DATA: u32 = 160;
+pub const DATA: u32 = BLOCKS + COUNT_MOST;
 // The words of a read.
-pub const OUT: u32 = 10400;
+pub const OUT: u32 = DATA + COUNT_MOST * 128;
 // The tables lent.
-pub const LENT: u32 = 10528;
+pub const LENT: u32 = OUT + 128;
 // Within tables: the map from 0 on, and these.
-pub const PLACES: u32 = 4800;
+pub const PLACES: u32 = L_MOST;
 
-pub const NUMBERS: u32 = 4864;
+pub const NUMBERS: u32 = PLACES + P_MOST;
 
-pub const USED: u32 = 4928;
+pub const USED: u32 = NUMBERS + P_MOST;
+// A word a sector, and those of two bytes more.
+pub const USED_WORDS: u32 = N_MOST + 16;
 
-pub const TABLE_WORDS: u32 = 5184;
+pub const TABLE_WORDS: u32 = USED + USED_WORDS;
 
-pub const IMAGE: u32 = 15712;
-// From here up to the next, the caller may keep words of its own.
-pub const CALLER: u32 = 32096;
+pub const IMAGE: u32 = LENT + TABLE_WORDS;
+// From here up to the next, the caller may keep words of its own: one a block, and 160.
+pub const CALLER: u32 = IMAGE + N_MOST * 128;
 // The tables that a call makes, before it keeps them.
-pub const MADE: u32 = 40000;
+pub const MADE: u32 = CALLER + 160 + L_MOST;
 // How often each sector is named.
-pub const TALLY: u32 = 45184;
+pub const TALLY: u32 = MADE + TABLE_WORDS;
 // Flags of a commit, for each piece: written, looked at, and reached or listed; and the branches that are listed.
-pub const TOUCHED: u32 = 45440;
+pub const TOUCHED: u32 = TALLY + N_MOST;
 
-pub const JUDGED: u32 = 45504;
+pub const JUDGED: u32 = TOUCHED + P_MOST;
 
-pub const REACHED: u32 = 45568;
+pub const REACHED: u32 = JUDGED + P_MOST;
 
-pub const BRANCHES: u32 = 45632;
+pub const BRANCHES: u32 = REACHED + P_MOST;
 // Of a walk, for each piece: the sector that waits, 0 where none does, and whether it is done.
-pub const WAITING: u32 = 45696;
+pub const WAITING: u32 = BRANCHES + P_MOST;
 
-pub const DONE: u32 = 45760;
-// The stores listed: their places, and their words.
-pub const LIST_PLACES: u32 = 45824;
+pub const DONE: u32 = WAITING + P_MOST;
+// The stores listed, at most those of a format: their places, and which of the sectors of words below they store.
+pub const LIST_PLACES: u32 = DONE + P_MOST;
 
-pub const LIST: u32 = 46080;
+pub const LIST_WORDS: u32 = LIST_PLACES + N_MOST + P_MOST;
+// Sectors of words: the first stays zero, then one for each store that is not of zeros, at most those of a commit.
+pub const LIST: u32 = LIST_WORDS + N_MOST + P_MOST;
 // The words of a board.
-pub const SIZE: usize = 69120;
+pub const SIZE: usize = LIST as usize + (1 + COUNT_MOST as usize + P_MOST as usize) * 128;
 
 // The sum, with wrapping.
 pub fn plus(x: u32, y: u32) -> u32 {

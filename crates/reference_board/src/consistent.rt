@@ -9,7 +9,7 @@ pub fn sector_of(entry: u32) -> u32 {
 
 // A name that no sector has is not counted.
 fn tally_sector(b: &mut [u32; board::SIZE], k: u32) {
-    if k < 256 {
+    if k < board::N_MOST {
         let seen = board::get(b, board::TALLY, k);
         board::put(b, board::TALLY, k, board::plus(seen, 1));
     }
@@ -41,7 +41,7 @@ fn tally_places(b: &mut [u32; board::SIZE], t: u32, p: u32) {
 
 // Counts how often each sector is named.
 fn tally(b: &mut [u32; board::SIZE], t: u32, l: u32) {
-    board::fill(b, board::TALLY, 256, 0);
+    board::fill(b, board::TALLY, board::N_MOST, 0);
     tally_entries(b, t, l);
     tally_places(b, t, board::pieces(l));
 }
@@ -200,7 +200,7 @@ fn mark_all_used(b: &mut [u32; board::SIZE], t: u32, n: u32) {
 
 // Makes the used map anew from the sectors that the tables name.
 pub fn put_used(b: &mut [u32; board::SIZE], t: u32, n: u32, l: u32) {
-    board::fill(b, board::plus(t, board::USED), 256, 0);
+    board::fill(b, board::plus(t, board::USED), board::USED_WORDS, 0);
     tally(b, t, l);
     mark_all_used(b, t, n);
 }

@@ -2,25 +2,34 @@
 use crate::board;
 use crate::valid;
 
-// Lists a store of zeros at k. The words of a store that is listed last may still be put.
-pub fn list(b: &mut [u32; board::SIZE], k: u32) {
+// Lists a store at k of one of the sectors of words: the first of them is zero.
+fn list_sector(b: &mut [u32; board::SIZE], k: u32, words: u32) {
     let j = board::get(b, board::LISTED, 0);
     board::put(b, board::LIST_PLACES, j, k);
-    board::fill_sector(b, board::LIST, j, 0);
+    board::put(b, board::LIST_WORDS, j, words);
     board::put(b, board::LISTED, 0, board::plus(j, 1));
 }
 
+pub fn list_blank(b: &mut [u32; board::SIZE], k: u32) {
+    list_sector(b, k, 0);
+}
+
+// Lists a store at k whose words are zero until they are put.
+fn list_words(b: &mut [u32; board::SIZE], k: u32) {
+    let words = board::plus(last(b), 1);
+    board::put(b, board::FILLED, 0, words);
+    board::fill_sector(b, board::LIST, words, 0);
+    list_sector(b, k, words);
+}
+
+// Where the words are of the store that was listed last with words of its own.
 fn last(b: &[u32; board::SIZE]) -> u32 {
-    let listed = board::get(b, board::LISTED, 0);
-    if listed == 0 {
-        return 0;
-    }
-    listed - 1
+    board::get(b, board::FILLED, 0)
 }
 
 pub fn put_last(b: &mut [u32; board::SIZE], i: u32, x: u32) {
-    let j = last(b);
-    board::put_word(b, board::LIST, j, i, x);
+    let words = last(b);
+    board::put_word(b, board::LIST, words, i, x);
 }
 
 // Word 1 balances the sum.
@@ -31,9 +40,9 @@ pub fn balance(b: &mut [u32; board::SIZE]) {
 
 // Lists a data sector: the words of the i-th block lent, the first byte complemented where they begin with the map mark.
 pub fn list_data(b: &mut [u32; board::SIZE], k: u32, i: u32) {
-    list(b, k);
-    let j = last(b);
-    board::copy_sector(b, board::LIST, j, board::DATA, i);
+    list_words(b, k);
+    let words = last(b);
+    board::copy_sector(b, board::LIST, words, board::DATA, i);
     if begins_with_mark(b, i) {
         put_last(b, 0, 827_149_481);
     }
@@ -45,7 +54,7 @@ pub fn begins_with_mark(b: &[u32; board::SIZE], i: u32) -> bool {
 
 // Lists a map sector that has no branches and no entries yet.
 pub fn list_map(b: &mut [u32; board::SIZE], k: u32, number: u32, piece: u32, kind: u32, l: u32) {
-    list(b, k);
+    list_words(b, k);
     put_last(b, 0, valid::MAP_MARK);
     put_last(b, 2, number);
     put_last(b, 4, piece);
@@ -54,8 +63,8 @@ pub fn list_map(b: &mut [u32; board::SIZE], k: u32, number: u32, piece: u32, kin
 }
 
 pub fn list_branch(b: &mut [u32; board::SIZE], x: u32) {
-    let j = last(b);
-    let count = board::word(b, board::LIST, j, 6);
+    let words = last(b);
+    let count = board::word(b, board::LIST, words, 6);
     put_last(b, 6, board::plus(count, 1));
     put_last(b, board::plus(8, count), x);
 }
@@ -77,7 +86,7 @@ pub fn list_entries(b: &mut [u32; board::SIZE], piece: u32) {
 }
 
 pub fn list_park(b: &mut [u32; board::SIZE], number: u32, tail: u32) {
-    list(b, 0);
+    list_words(b, 0);
     put_last(b, 0, valid::PARK_MARK);
     put_last(b, 2, number);
     put_last(b, 3, tail);
@@ -87,7 +96,8 @@ pub fn list_park(b: &mut [u32; board::SIZE], number: u32, tail: u32) {
 fn make(b: &mut [u32; board::SIZE], j: u32, allowed: u32) {
     if j < allowed {
         let k = board::get(b, board::LIST_PLACES, j);
-        board::copy_sector(b, board::IMAGE, k, board::LIST, j);
+        let words = board::get(b, board::LIST_WORDS, j);
+        board::copy_sector(b, board::IMAGE, k, board::LIST, words);
     }
 }
 

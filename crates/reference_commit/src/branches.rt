@@ -151,8 +151,8 @@ fn fold(b: &mut [u32; board::SIZE], p: u32) {
 
 // Lists the branches, newest to oldest.
 pub fn choose(b: &mut [u32; board::SIZE], p: u32) {
-    board::fill(b, board::JUDGED, 64, 0);
-    board::fill(b, board::REACHED, 64, 0);
+    board::fill(b, board::JUDGED, board::P_MOST, 0);
+    board::fill(b, board::REACHED, board::P_MOST, 0);
     board::put(b, board::BRANCH_COUNT, 0, 0);
     judge_all(b, p);
     if board::get(b, board::BRANCH_COUNT, 0) > 24 {

@@ -136,7 +136,7 @@ fn change_entries(b: &mut [u32; board::SIZE], n: u32, count: u32, writes: bool) 
 
 // Which pieces are written, and the first member's branches.
 fn choose_members(b: &mut [u32; board::SIZE], count: u32, p: u32) {
-    board::fill(b, board::TOUCHED, 64, 0);
+    board::fill(b, board::TOUCHED, board::P_MOST, 0);
     touch_all(b, count);
     branches::choose(b, p);
 }

@@ -130,7 +130,7 @@ fn is_uncommitted(b: &[u32; board::SIZE], k: u32, c: u32, n: u32, l: u32) -> boo
 
 fn list_uncommitted(b: &mut [u32; board::SIZE], k: u32, c: u32, n: u32, l: u32) {
     if is_uncommitted(b, k, c, n, l) {
-        journal::list(b, k);
+        journal::list_blank(b, k);
     }
 }
 
@@ -150,7 +150,7 @@ fn list_zeros(b: &mut [u32; board::SIZE], c: u32, n: u32, l: u32) {
 
 pub fn list_park_sector(b: &mut [u32; board::SIZE]) {
     if !board::is_zero_sector(b, board::IMAGE, 0) {
-        journal::list(b, 0);
+        journal::list_blank(b, 0);
     }
 }
 

@@ -129,8 +129,8 @@ fn sectors_read(b: &[u32; board::SIZE], p: u32) -> u32 {
 // Walks from the tail, and makes the tables of what it takes.
 fn walk_from(b: &mut [u32; board::SIZE], tail: u32, n: u32, l: u32) {
     board::fill(b, board::MADE, board::TABLE_WORDS, 0);
-    board::fill(b, board::WAITING, 64, 0);
-    board::fill(b, board::DONE, 64, 0);
+    board::fill(b, board::WAITING, board::P_MOST, 0);
+    board::fill(b, board::DONE, board::P_MOST, 0);
     wait(b, tail);
     steps(b, n, l);
 }

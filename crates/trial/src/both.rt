@@ -86,13 +86,13 @@ fn lend(
 
 // Performs the call that stands on the board by both implementations, and says what differs afterwards.
 pub fn both(b: &mut [u32; board::SIZE]) -> u32 {
-    let mut image = [0u8; 65536];
-    let mut map = [0u32; 4800];
-    let mut places = [0u32; 64];
-    let mut numbers = [0u32; 64];
-    let mut used = [0u8; 32];
-    let mut blocks = [0u32; 80];
-    let mut bytes = [0u8; 40960];
+    let mut image = [0u8; trial_lent::IMAGE_BYTES];
+    let mut map = [0u32; trial_lent::MAP_WORDS];
+    let mut places = [0u32; trial_lent::PIECES];
+    let mut numbers = [0u32; trial_lent::PIECES];
+    let mut used = [0u8; trial_lent::USED_BYTES];
+    let mut blocks = [0u32; trial_lent::BLOCKS];
+    let mut bytes = [0u8; trial_lent::DATA_BYTES];
     trial_lent::load_bytes(&mut image, b, board::IMAGE, cells::image_words(b));
     trial_lent::load_words(
         &mut map,
@@ -100,10 +100,10 @@ pub fn both(b: &mut [u32; board::SIZE]) -> u32 {
         board::LENT,
         board::get(b, board::MAP_LENGTH, 0),
     );
-    trial_lent::load_words(&mut places, b, board::LENT + board::PLACES, 64);
-    trial_lent::load_words(&mut numbers, b, board::LENT + board::NUMBERS, 64);
-    trial_lent::load_used(&mut used, b, 32);
-    trial_lent::load_words(&mut blocks, b, board::BLOCKS, 80);
+    trial_lent::load_words(&mut places, b, board::LENT + board::PLACES, board::P_MOST);
+    trial_lent::load_words(&mut numbers, b, board::LENT + board::NUMBERS, board::P_MOST);
+    trial_lent::load_used(&mut used, b, board::USED_WORDS / 8);
+    trial_lent::load_words(&mut blocks, b, board::BLOCKS, board::COUNT_MOST);
     trial_lent::load_data(&mut bytes, b);
     let done = lend(
         b,

@@ -26,6 +26,14 @@ fn try_history(l: u32, n: u32, spread: u32, calls: u32, often: u32) {
     trial_report::say_history(&b, l, n);
 }
 
+// Writes of many blocks, so that the volume fills and searches are long.
+fn try_filling(l: u32, n: u32, spread: u32, calls: u32, often: u32) {
+    let mut b = [0u32; board::SIZE];
+    choice::limit(&mut b, 64, 6);
+    histories::run(&mut b, l, n, spread, calls, often);
+    trial_report::say_history(&b, l, n);
+}
+
 // Drops of many pieces, so that commits fold.
 fn try_folds(l: u32, n: u32, spread: u32, calls: u32, often: u32) {
     let mut b = [0u32; board::SIZE];
@@ -38,6 +46,14 @@ fn try_folds(l: u32, n: u32, spread: u32, calls: u32, often: u32) {
 fn try_damage(image: bool, l: u32, n: u32, spread: u32, calls: u32) {
     let mut b = [0u32; board::SIZE];
     choice::limit(&mut b, 3, 4);
+    damage::run(&mut b, l, n, spread, calls, image);
+    trial_report::say_damage(&b, image, l, n);
+}
+
+// The same with drops of many pieces, so that most sectors are signed.
+fn try_damaged_folds(image: bool, l: u32, n: u32, spread: u32, calls: u32) {
+    let mut b = [0u32; board::SIZE];
+    choice::limit(&mut b, 3, 49);
     damage::run(&mut b, l, n, spread, calls, image);
     trial_report::say_damage(&b, image, l, n);
 }
@@ -59,14 +75,31 @@ fn main() {
     try_history(600, 64, 30, 200, 3);
     try_history(600, 65, 30, 200, 3);
     try_history(1500, 127, 60, 100, 4);
+    try_history(1500, 129, 60, 100, 4);
     try_history(2593, 90, 96, 80, 4);
     try_folds(4704, 128, 96, 80, 6);
+    // On both sides of the small tables, which serve 1,024 sectors. In the folds the numbers pass 1,024, so that some agree modulo that.
+    try_history(3000, 1023, 60, 60, 4);
+    try_history(3000, 1024, 60, 60, 4);
+    try_history(3000, 1025, 60, 60, 4);
+    try_filling(4000, 1023, 3, 200, 30);
+    try_filling(4000, 1024, 3, 200, 30);
+    try_filling(4000, 1025, 3, 200, 30);
+    try_folds(4704, 1023, 96, 120, 80);
+    try_folds(4704, 1024, 96, 120, 80);
+    try_folds(4704, 1025, 96, 120, 80);
     try_damage(true, 2, 4, 1, 2000);
     try_damage(true, 200, 12, 20, 3000);
     try_damage(true, 300, 63, 20, 400);
     try_damage(true, 300, 64, 20, 400);
     try_damage(true, 300, 65, 20, 400);
     try_damage(true, 1000, 48, 50, 400);
+    try_damaged_folds(true, 4704, 1023, 96, 100);
+    try_damaged_folds(true, 4704, 1024, 96, 100);
+    try_damaged_folds(true, 4704, 1025, 96, 100);
     try_damage(false, 200, 12, 20, 3000);
+    try_damaged_folds(false, 4704, 1023, 96, 60);
+    try_damaged_folds(false, 4704, 1024, 96, 60);
+    try_damaged_folds(false, 4704, 1025, 96, 60);
     try_plugs();
 }

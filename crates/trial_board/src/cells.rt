@@ -2,69 +2,69 @@
 use reference_board::board;
 
 // The generator's state.
-pub const SEED: u32 = 32096;
+pub const SEED: u32 = board::CALLER;
 
 // Of the volume's blocks every so-manieth is written.
-pub const SPREAD: u32 = 32097;
+pub const SPREAD: u32 = board::CALLER + 1;
 
 // The most blocks in a write, and in a drop.
-pub const MOST_WRITTEN: u32 = 32098;
+pub const MOST_WRITTEN: u32 = board::CALLER + 2;
 
-pub const MOST_DROPPED: u32 = 32099;
+pub const MOST_DROPPED: u32 = board::CALLER + 3;
 
 // The counts from here on are taken back from a copy of the board.
-pub const COUNTS: u32 = 32100;
+pub const COUNTS: u32 = board::CALLER + 4;
 
-pub const CALLS: u32 = 32100;
+pub const CALLS: u32 = board::CALLER + 4;
 
 // Power cuts, and those of them in recoveries.
-pub const CUTS: u32 = 32101;
+pub const CUTS: u32 = board::CALLER + 5;
 
-pub const RECOVERY_CUTS: u32 = 32102;
+pub const RECOVERY_CUTS: u32 = board::CALLER + 6;
 
-pub const WALKS: u32 = 32103;
+pub const WALKS: u32 = board::CALLER + 7;
 
-pub const FOLDS: u32 = 32104;
+pub const FOLDS: u32 = board::CALLER + 8;
 
-pub const WRAPS: u32 = 32105;
+pub const WRAPS: u32 = board::CALLER + 9;
 
 // Blocks held to the plain disk, and facts of a script.
-pub const BLOCKS_READ: u32 = 32106;
+pub const BLOCKS_READ: u32 = board::CALLER + 10;
 
-pub const FACTS: u32 = 32107;
+pub const FACTS: u32 = board::CALLER + 11;
 
-pub const DIFFERENCES: u32 = 32108;
+pub const DIFFERENCES: u32 = board::CALLER + 12;
 
 // Of the first difference: what it was, in which call, after how many calls, and in which line of a script.
-pub const FIRST: u32 = 32109;
+pub const FIRST: u32 = board::CALLER + 13;
 
-pub const FIRST_CALL: u32 = 32110;
+pub const FIRST_CALL: u32 = board::CALLER + 14;
 
-pub const FIRST_AT: u32 = 32111;
+pub const FIRST_AT: u32 = board::CALLER + 15;
 
-pub const FIRST_LINE: u32 = 32112;
+pub const FIRST_LINE: u32 = board::CALLER + 16;
 
 // Power cuts in folds.
-pub const FOLD_CUTS: u32 = 32113;
+pub const FOLD_CUTS: u32 = board::CALLER + 17;
 
 // How often each number was answered; there is room for 0 to 17.
-pub const ANSWERED: u32 = 32114;
+pub const ANSWERED: u32 = board::CALLER + 18;
 
 pub const COUNT_WORDS: u32 = 32;
 
 // The block that is named next.
-pub const CURSOR: u32 = 32132;
+pub const CURSOR: u32 = board::CALLER + 36;
 
 // Of a script: the bytes that a call is lent too many, and the line.
-pub const BYTES_MORE: u32 = 32133;
+pub const BYTES_MORE: u32 = board::CALLER + 37;
 
-pub const LINE: u32 = 32134;
+pub const LINE: u32 = board::CALLER + 38;
 
 // The seeds of the blocks of a write.
-pub const SEEDS: u32 = 32136;
+pub const SEEDS: u32 = board::CALLER + 40;
 
 // The plain disk: a seed for each block.
-pub const DISK: u32 = 32256;
+pub const DISK: u32 = board::CALLER + 160;
 
 // What may differ, beside what the comparison of both finds (1 to 11).
 pub const PLAIN_DISK: u32 = 12;

@@ -13,7 +13,7 @@ pub fn scramble(b: &mut [u32; board::SIZE]) {
     board::fill(b, board::LENT, l, 3_735_928_559);
     board::fill(b, board::LENT + board::PLACES, p, 7);
     board::fill(b, board::LENT + board::NUMBERS, p, 9);
-    board::fill(b, board::LENT + board::USED, 8, 1);
+    board::fill(b, board::LENT + board::USED, board::USED_WORDS, 1);
 }
 
 // The lengths of a volume of l blocks in n sectors.

@@ -56,10 +56,21 @@ fn choose_blocks(b: &mut [u32; board::SIZE], most: u32, step: u32) {
     choose_more(b, board::plus(more, 1), step);
 }
 
+// Of many sectors every fourth head is one of the last, so that commits wrap there too.
+fn head_for(x: u32, n: u32) -> u32 {
+    if n < 512 {
+        return x;
+    }
+    if x % 4 != 0 {
+        return x;
+    }
+    n - 1 - x / 4 % 16
+}
+
 fn choose_head(b: &mut [u32; board::SIZE]) {
     let n = cells::get(b, board::IMAGE_LENGTH) / 512;
-    let head = chance::below(b, n);
-    cells::set(b, board::HEAD, head);
+    let x = chance::below(b, n);
+    cells::set(b, board::HEAD, head_for(x, n));
 }
 
 fn choose_write(b: &mut [u32; board::SIZE]) {

@@ -3,8 +3,12 @@ use reference_board::board;
 use trial_board::cells;
 use trial_board::chance;
 
+fn sectors(b: &[u32; board::SIZE]) -> u32 {
+    cells::get(b, board::IMAGE_LENGTH) / 512
+}
+
 fn any_sector(b: &mut [u32; board::SIZE]) -> u32 {
-    chance::below(b, cells::get(b, board::IMAGE_LENGTH) / 512)
+    chance::below(b, sectors(b))
 }
 
 // A word of a sector: anything.
@@ -91,16 +95,22 @@ pub fn damage_more(b: &mut [u32; board::SIZE], times: u32) {
     }
 }
 
-// A word of the state or of a table.
+// The bits of a used map, with those after the last sector.
+fn used_bits(n: u32) -> u32 {
+    board::plus(n, 7) / 8 * 8
+}
+
+// A word of the state or of a table: small, or a sector's number, or just past those.
 pub fn damage_memory(b: &mut [u32; board::SIZE]) {
     let l = cells::get(b, board::BLOCK_COUNT);
-    let x = chance::below(b, 16);
+    let n = sectors(b);
+    let x = chance::below(b, board::plus(n, 4));
     match chance::below(b, 6) {
         0 => damage_at(b, board::LENT, l, x),
         1 => damage_at(b, board::LENT, l, board::plus(x, 2_147_483_648)),
         2 => damage_at(b, board::LENT + board::PLACES, board::pieces(l), x),
         3 => damage_at(b, board::LENT + board::NUMBERS, board::pieces(l), x),
-        4 => damage_at(b, board::LENT + board::USED, 16, x % 2),
+        4 => damage_at(b, board::LENT + board::USED, used_bits(n), x % 2),
         _ => damage_at(b, board::STATE_N, 4, x),
     }
 }

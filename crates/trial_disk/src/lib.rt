@@ -88,7 +88,7 @@ fn settle(b: &mut [u32; board::SIZE]) {
     let call = cells::get(b, board::CALL);
     if cells::get(b, board::ANSWER) == 0 {
         match call {
-            0 => board::fill(b, cells::DISK, 4800, 0),
+            0 => board::fill(b, cells::DISK, board::L_MOST, 0),
             1 => settle_blocks(b, false),
             2 => settle_blocks(b, true),
             _ => {}

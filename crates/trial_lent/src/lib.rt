@@ -8,6 +8,20 @@ use state::Phase;
 use state::State;
 use trial_board::cells;
 
+// What there is room for in the arrays that are lent: the image's bytes, the map's words, those of the other two tables, the used map's bytes, the
+// blocks of a call, and their bytes.
+pub const IMAGE_BYTES: usize = board::N_MOST as usize * 512;
+
+pub const MAP_WORDS: usize = board::L_MOST as usize;
+
+pub const PIECES: usize = board::P_MOST as usize;
+
+pub const USED_BYTES: usize = board::USED_WORDS as usize / 8;
+
+pub const BLOCKS: usize = board::COUNT_MOST as usize;
+
+pub const DATA_BYTES: usize = BLOCKS * 512;
+
 fn phase_of(number: u32) -> Phase {
     match number {
         0 => Phase::Running,

@@ -103,16 +103,16 @@ fn shows_lent(
 
 // Whether the code's reads give the plain disk's blocks: every `spread`-th, or all for 0.
 pub fn shows(b: &[u32; board::SIZE], spread: u32) -> bool {
-    let mut image = [0u8; 65536];
-    let mut map = [0u32; 4800];
-    let mut places = [0u32; 64];
-    let mut numbers = [0u32; 64];
-    let mut used = [0u8; 32];
+    let mut image = [0u8; trial_lent::IMAGE_BYTES];
+    let mut map = [0u32; trial_lent::MAP_WORDS];
+    let mut places = [0u32; trial_lent::PIECES];
+    let mut numbers = [0u32; trial_lent::PIECES];
+    let mut used = [0u8; trial_lent::USED_BYTES];
     trial_lent::load_bytes(&mut image, b, board::IMAGE, cells::image_words(b));
     trial_lent::load_words(&mut map, b, board::LENT, cells::get(b, board::MAP_LENGTH));
-    trial_lent::load_words(&mut places, b, board::LENT + board::PLACES, 64);
-    trial_lent::load_words(&mut numbers, b, board::LENT + board::NUMBERS, 64);
-    trial_lent::load_used(&mut used, b, 32);
+    trial_lent::load_words(&mut places, b, board::LENT + board::PLACES, board::P_MOST);
+    trial_lent::load_words(&mut numbers, b, board::LENT + board::NUMBERS, board::P_MOST);
+    trial_lent::load_used(&mut used, b, board::USED_WORDS / 8);
     shows_lent(b, &image, &map, &places, &numbers, &used, spread)
 }
 

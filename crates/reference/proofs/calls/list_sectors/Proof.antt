@@ -12,8 +12,8 @@ abbrev μ-loop : tie.MeasureT-loop
 loop-holds : tie.Need-loop-holds Inv-loop μ-loop
 loop-holds c = search needs
 
-list-requires : tie.Need-list-requires Inv-loop μ-loop
-list-requires c κs = search needs
+list-blank-requires : tie.Need-list-blank-requires Inv-loop μ-loop
+list-blank-requires c κs = search needs
 
 add-k : tie.Need-add-k Inv-loop μ-loop
 add-k c = search needs
@@ -34,7 +34,7 @@ list-sectors-spec =
     Inv-loop
     μ-loop
     loop-holds
-    list-requires
+    list-blank-requires
     add-k
     loop-less
     loop-again
