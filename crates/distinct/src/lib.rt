@@ -2,7 +2,7 @@
 // are; otherwise they are chained by their upper 15 bits, and the lower 17 of each chain's numbers are stamped in a table.
 ghost use mathlib.Core.Path.{_≡_};
 ghost use mathlib.Core.Bool.{true, false};
-ghost use Prim.Native.Nat.{ℕ, _+_, _≤_, _<_};
+ghost use Prim.Native.Nat.{ℕ, _+_, _*_, _≤_, _<_};
 ghost use lib.ListN.{length};
 ghost use Rattle.layout.specs.Bounded.{at, distinct};
 ghost use Rattle.distinct.specs.Chains.{groups, rests, groupOf, lastIn, Back, Linked, Apart};
@@ -13,16 +13,16 @@ const GROUPS: u16 = 32_768;
 // The values of the lower 17.
 const RESTS: u32 = 131_072;
 
-// Whether no two numbers agree modulo the bits of the map: then they are all different. If two do, they may be different all the same.
-fn residues_apart(xs: &[u32], seen: &mut [u8]) -> bool
-    requires { ⌜ 0 < length (now seen) ⌝ }
-    requires { ⌜ length (now seen) ≤ 8192 ⌝ }
+// Whether no two numbers agree modulo m, by a bit for each residue: then they are all different. If two do, they may be different all the
+// same.
+fn residues_apart(xs: &[u32], m: usize, seen: &mut [u8]) -> bool
+    requires { ⌜ 0 < m ⌝ }
+    requires { ⌜ m ≤ 8 * length (now seen) ⌝ }
     ensures { λ r. ⌜ (r ≡ true → distinct (now (xs .entry)) ≡ true) ⌝ }
 {
-    let room = 8 * seen.len();
     let mut i = 0;
     while i < xs.len() {
-        let residue = xs[i] as usize % room;
+        let residue = xs[i] as usize % m;
         if bits::is_set(seen, residue) {
             return false;
         }
@@ -37,7 +37,7 @@ fn few_apart(xs: &[u32]) -> bool
     ensures { λ r. ⌜ (r ≡ true → distinct (now (xs .entry)) ≡ true) ⌝ }
 {
     let mut seen = [0u8; 128];
-    residues_apart(xs, &mut seen)
+    residues_apart(xs, 1024, &mut seen)
 }
 
 // The same modulo 65,536.
@@ -45,19 +45,19 @@ fn some_apart(xs: &[u32]) -> bool
     ensures { λ r. ⌜ (r ≡ true → distinct (now (xs .entry)) ≡ true) ⌝ }
 {
     let mut seen = [0u8; 8192];
-    residues_apart(xs, &mut seen)
+    residues_apart(xs, 65536, &mut seen)
 }
 
-// The same modulo 65,528, by which numbers that agree modulo 65,536 seldom agree. Not of more than 4,096: for so many the tables of the
-// chains are cleared soon enough.
+// The same modulo the prime 65,521, by which numbers that agree modulo 65,536 hardly ever agree. Not of more than 16,384: for so many the
+// tables of the chains are cleared soon enough.
 fn again_apart(xs: &[u32]) -> bool
     ensures { λ r. ⌜ (r ≡ true → distinct (now (xs .entry)) ≡ true) ⌝ }
 {
-    if 4096 < xs.len() {
+    if 16384 < xs.len() {
         return false;
     }
-    let mut seen = [0u8; 8191];
-    residues_apart(xs, &mut seen)
+    let mut seen = [0u8; 8192];
+    residues_apart(xs, 65521, &mut seen)
 }
 
 // The same modulo 65,536, in bytes: each number takes less time, and the table is cleared later.

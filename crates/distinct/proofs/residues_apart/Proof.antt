@@ -1,5 +1,5 @@
 -- The residues met so far are marked, and no two agree.
-use Prim.Native.Nat.{ℕ, _*_, _-_, _%_, _<_}
+use Prim.Native.Nat.{ℕ, _*_, _-_, _%_, _≤_, _<_}
 use mathlib.Core.Path.{_≡_, refl, _∙_}
 use mathlib.Core.Bool.{true, false}
 use native.Mathlib.Nat.{mod-lt}
@@ -13,20 +13,16 @@ use Rattle.distinct.proofs.residues_apart.Statement.{statement}
 use Rattle.distinct.proofs.residues_apart.Tie as tie
 
 abbrev Inv-loop : tie.InvT-loop
-Inv-loop xs seen₀ room i₀ seen i = (length seen ≡ length seen₀) × Residues true room xs (bitAt seen) i
+Inv-loop xs m seen₀ i₀ seen i = (length seen ≡ length seen₀) × Residues true m xs (bitAt seen) i
 
 abbrev μ-loop : tie.MeasureT-loop
-μ-loop xs seen₀ room i₀ seen i = length xs - i
+μ-loop xs m seen₀ i₀ seen i = length xs - i
 
 -- A residue has its bit in the map.
-inside : (x m n : ℕ) → 0 < m → n ≡ m → x % (8 * m) < 8 * n
-inside x m n h e =
-    let pos : 0 < 8 * m = omega arith in
+inside : (x m n n₀ : ℕ) → 0 < m → m ≤ 8 * n₀ → n ≡ n₀ → x % m < 8 * n
+inside x m n n₀ pos most e =
     let below = mod-lt x pos in
     omega arith
-
-mul-room : tie.Need-mul-room Inv-loop μ-loop
-mul-room c = omega arith
 
 loop-holds : tie.Need-loop-holds Inv-loop μ-loop
 loop-holds c = (refl, residues-none true _ _ _)
@@ -46,7 +42,11 @@ rem-residue : tie.Need-rem-residue Inv-loop μ-loop
 rem-residue c = omega arith
 
 is-set-requires : tie.Need-is-set-requires Inv-loop μ-loop
-is-set-requires c κs = search (needs, inside)
+is-set-requires c κs =
+    let l = c .before .before .before .loop in
+    let a = c .before .before .before .before .before .before .args in
+    let p = c .before .before .before .before .before .before .pre in
+    inside _ (a .m) _ (length (a .seen .now)) (p .0) (p .1) (l .inv .0)
 
 same-length : tie.Need-same-length Inv-loop μ-loop
 same-length c = c .before .before .before .before .before .loop .inv .0
@@ -55,7 +55,11 @@ returns : tie.Need-returns Inv-loop μ-loop
 returns c = λ e. clash false e refl
 
 set-bit-requires : tie.Need-set-bit-requires Inv-loop μ-loop
-set-bit-requires c κs = search (needs, inside)
+set-bit-requires c κs =
+    let l = c .before .before .before .before .before .before .loop in
+    let a = c .before .before .before .before .before .before .before .before .before .args in
+    let p = c .before .before .before .before .before .before .before .before .before .pre in
+    inside _ (a .m) _ (length (a .seen .now)) (p .0) (p .1) (l .inv .0)
 
 add-i : tie.Need-add-i Inv-loop μ-loop
 add-i c = search needs
@@ -86,7 +90,6 @@ residues-apart-spec =
     (tie.spec
     Inv-loop
     μ-loop
-    mul-room
     loop-holds
     mul-residue
     shared-slice-read-residue
