@@ -26,6 +26,13 @@ fn try_history(l: u32, n: u32, spread: u32, calls: u32, often: u32) {
     trial_report::say_history(&b, l, n);
 }
 
+// Short ones on both sides of a multiple of 64, and on it.
+fn try_sides(below: u32, n: u32, above: u32) {
+    try_history(1200, below, 40, 16, 8);
+    try_history(1200, n, 40, 16, 8);
+    try_history(1200, above, 40, 16, 8);
+}
+
 // Writes of many blocks, so that the volume fills and searches are long.
 fn try_filling(l: u32, n: u32, spread: u32, calls: u32, often: u32) {
     let mut b = [0u32; board::SIZE];
@@ -78,6 +85,20 @@ fn main() {
     try_history(1500, 129, 60, 100, 4);
     try_history(2593, 90, 96, 80, 4);
     try_folds(4704, 128, 96, 80, 6);
+    // And of each further one.
+    try_sides(191, 192, 193);
+    try_sides(255, 256, 257);
+    try_sides(319, 320, 321);
+    try_sides(383, 384, 385);
+    try_sides(447, 448, 449);
+    try_sides(511, 512, 513);
+    try_sides(575, 576, 577);
+    try_sides(639, 640, 641);
+    try_sides(703, 704, 705);
+    try_sides(767, 768, 769);
+    try_sides(831, 832, 833);
+    try_sides(895, 896, 897);
+    try_sides(959, 960, 961);
     // On both sides of the small tables, which serve 1,024 sectors. In the folds the numbers pass 1,024, so that some agree modulo that.
     try_history(3000, 1023, 60, 60, 4);
     try_history(3000, 1024, 60, 60, 4);
