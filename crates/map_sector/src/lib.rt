@@ -1,15 +1,15 @@
 // Map sectors: whether a sector is one ("signed"), what one says, and how one is made. Word 0 is the mark, 1 the balance, 2 the
 // number, 3 zero, 4 the piece, 5 the kind, 6 the count of branches, 7 L, 8 to 31 the branches, 32 to 127 the entries.
 ghost use mathlib.Core.Path.{_≡_};
-ghost use mathlib.Core.Bool.{true, cond, _&&_};
-ghost use Prim.Native.Nat.{_*_, _-_, _^_, _≤_, _<_};
+ghost use mathlib.Core.Bool.{true, _&&_};
+ghost use Prim.Native.Nat.{_*_, _-_, _≤_, _<_};
 ghost use lib.ListN.{length, drop};
-ghost use lib.Dec.{eqb, ltb};
+ghost use lib.Dec.{eqb};
 ghost use Rattle.geometry.specs.Geometry.{sectorBytes, piecesFor, entriesPerPiece, branchRoom};
-ghost use Rattle.layout.specs.Bounded.{at, allBelow, all, isZero};
+ghost use Rattle.layout.specs.Bounded.{at, all, isZero};
 ghost use Rattle.layout.specs.Word.{wordsOf, startsWith};
 ghost use Rattle.layout.specs.MapSector.{mapMark, branchWords, entryWords, branchesFit, valid};
-ghost use Rattle.map_sector.specs.Header.{fieldsFit, headerFits};
+ghost use Rattle.map_sector.specs.Header.{fieldsFit, headerFits, branchFits};
 use geometry::Geometry;
 
 // The sector's number.
@@ -76,7 +76,7 @@ fn fields_fit(
     if reserved != 0 {
         return false;
     }
-    if Geometry::pieces_for(l) <= piece {
+    if l as u64 <= Geometry::ENTRIES as u64 * piece as u64 {
         return false;
     }
     if 1 < kind {
@@ -104,41 +104,16 @@ fn header_fits(s: &[u8], l: u32) -> bool
     )
 }
 
-// A bit for branch i if it is filled.
-fn filled_bit(w: u32, i: u32) -> u32
-    requires { ⌜ i < branchRoom ⌝ }
-    ensures { λ r. ⌜ r ≡ cond (isZero w) 0 (2 ^ i) ⌝ }
+// Whether all fitted so far, and w fits as branch i of so many: a sector from 1 to n - 1, and past the last one zero. Without a jump, so
+// that the compiler compares several at a time.
+fn still_fits(good: bool, w: u32, i: u32, count: u32, n: u32) -> bool
+    requires { ⌜ 1 ≤ n ⌝ }
+    ensures { λ r. ⌜ r ≡ (good && branchFits n count i w) ⌝ }
 {
-    if w == 0 {
-        return 0;
-    }
-    1 << i
+    good & (w < n) & ((w != 0) == (i < count))
 }
 
-// Whether all were below so far, and w is.
-fn still_below(good: bool, w: u32, n: u32) -> bool
-    ensures { λ r. ⌜ r ≡ (good && ltb w n) ⌝ }
-{
-    good & (w < n)
-}
-
-// Whether all 24 branches are below n.
-fn branches_below(s: &[u8], n: u32) -> bool
-    requires { ⌜ length (now s) ≡ sectorBytes ⌝ }
-    ensures { λ r. ⌜ r ≡ allBelow (λ i. ltb (at (branchWords (wordsOf (now (s .entry)))) i) n) branchRoom ⌝ }
-{
-    let mut good = true;
-    let mut i: u32 = 0;
-    while i < Geometry::BRANCHES {
-        good = still_below(good, branch_at(s, i as usize), n);
-        i += 1;
-    }
-    good
-}
-
-// Whether the branches are sectors from 1 to n - 1, and the unused ones zero: the first so many are filled and no others, and all are below
-// n. All 24 are looked at in one way, without a jump, so that the compiler takes several at a time; and where even all their bits
-// together are below n, each is.
+// Whether the branches are sectors from 1 to n - 1, and the unused ones zero. All 24 are looked at in one way, however many are used.
 fn branches_fit(s: &[u8], n: u32) -> bool
     requires { ⌜ length (now s) ≡ sectorBytes ⌝ }
     requires { ⌜ 1 ≤ n ⌝ }
@@ -146,22 +121,13 @@ fn branches_fit(s: &[u8], n: u32) -> bool
     ensures { λ r. ⌜ r ≡ branchesFit n (at (wordsOf (now (s .entry))) 6) (branchWords (wordsOf (now (s .entry)))) ⌝ }
 {
     let count = words::word_at(s, 6);
-    let mut together: u32 = 0;
-    let mut filled: u32 = 0;
+    let mut good = true;
     let mut i: u32 = 0;
     while i < Geometry::BRANCHES {
-        let w = branch_at(s, i as usize);
-        together = together | w;
-        filled += filled_bit(w, i);
+        good = still_fits(good, branch_at(s, i as usize), i, count, n);
         i += 1;
     }
-    if filled != (1 << count) - 1 {
-        return false;
-    }
-    if together < n {
-        return true;
-    }
-    branches_below(s, n)
+    good
 }
 
 // Whether the entries past block l - 1 are zero.
