@@ -22,7 +22,7 @@
  * A storing call is told how many sectors it may store (its allowance). With fewer than it needs it makes that many,
  * from the front, and answers 10, as if the power had failed there. VLOG_NO_LIMIT is always enough.
  *
- * Nothing is allocated. A recover takes up to 1.5 MB of stack, any other call up to 17 KB.
+ * Nothing is allocated. A recover takes up to 1.1 MB of stack, any other call up to 17 KB.
  */
 #ifndef VLOG_H
 #define VLOG_H
