@@ -66,6 +66,8 @@ same-length-9 c = search needs
 
 returns-3 : tie.Need-returns-3
 returns-3 c =
+    let numbered = c .before .before .before .before .before .before .before .before .before .before .before .before .before .before .before .before .before .before .if1 .left in
+    let whole = c .before .before .before .before .if2 .left in
     let m = c .before .before .mark-above in
     let t = c .before .before .before .before .before .before .before .before .before .before .before .before .before .scan-tables in
     let a = c .before .before .before .before .before .before .before .before .before .before .before .before .before .before .before .before .before .before .before .before .before .before .before .before .before .before .before .before .before .args in
@@ -73,7 +75,7 @@ returns-3 c =
     let q = p .1 .1 .1 .1 in
     let l = q .1 .1 .1 .0 in
     let zeros = q .1 .1 .1 .1 .1 .1 .1 .1 .1 in
-    scan-finds (a .g) (sectorAt (a .image .now)) (a .read .tail) (a .read .number) (p .1 .1 .0) (p .1 .1 .1 .0) (c .before .before .before .before .before .before .before .before .before .before .before .before .before .before .before .before .before .before .if1 .left) (t .result) _ (t .ensures) (c .before .before .before .before .if2 .left) _
+    scan-finds (a .g) (sectorAt (a .image .now)) (a .read .tail) (a .read .number) (p .1 .1 .0) (p .1 .1 .1 .0) numbered (t .result) _ (t .ensures) whole _
     (above-listed (imageView (a .g) (sectorAt (a .image .now))) (a .read .number) (a .g .n) _ _ _ _ (l .sector) (l .number) (marks-none (a .above .now) (length (a .above .now)) zeros) (m .ensures))
 
 pub scan-listed-spec : {M : Type 1} → statement M

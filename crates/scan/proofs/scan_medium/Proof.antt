@@ -16,8 +16,9 @@ slice-aggregate-scan-in-3 c = search needs
 
 scan-in-requires : tie.Need-scan-in-requires
 scan-in-requires c κs =
-    let p = c .before .before .before .before .before .before .before .before .before .before .before .before .before .before .pre .1 in
-    let m = c .before .before .before .before .before .before .before .before .before .before .before .before .before .before .pre .0 in
+    let all = c .before .before .before .before .before .before .before .before .before .before .before .before .before .before .pre in
+    let p = all .1 in
+    let m = all .0 in
     (p .0, (p .1 .0, (omega arith, (omega arith, (refl, (refl, p .1 .1))))))
 
 same-length : tie.Need-same-length

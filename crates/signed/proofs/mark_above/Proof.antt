@@ -40,12 +40,14 @@ listed-less c = omega arith
 
 listed-again : tie.Need-listed-again Inv-listed μ-listed
 listed-again c =
+    let same = c .before .before .before .before .before .before .before .pre .0 in
+    let some = c .before .before .listed-test .taken in
     let l = c .before .before .before .listed in
     let a = c .before .before .before .before .before .before .before .args in
     let ns = a .numbers .now in (
       omega arith,
       l .inv .1,
-      stepped-more (markedAbove (a .c)) (a .sectors .now) ns ns (l .i) (bitAt (a .above .now)) (bitAt (l .above)) _ (c .before .before .listed-test .taken) (l .inv .0) (c .before .before .before .before .before .before .before .pre .0) (c .before .before .before .before .before .before .before .pre .0)
+      stepped-more (markedAbove (a .c)) (a .sectors .now) ns ns (l .i) (bitAt (a .above .now)) (bitAt (l .above)) _ some (l .inv .0) same same
           (l .inv .2) (marked-not (a .c) (at (a .sectors .now) (l .i - 1)) (at ns (l .i - 1)) (at ns (l .i - 1)) _ (c .if1 .taken)),
     )
 
@@ -76,12 +78,14 @@ listed-less-2 c = omega arith
 listed-again-2 : tie.Need-listed-again-2 Inv-listed μ-listed
 listed-again-2 c =
     let b = c .before .before .set-bit in
+    let same = c .before .before .before .before .before .before .before .before .before .before .before .before .pre .0 in
+    let some = c .before .before .before .before .before .before .before .listed-test .taken in
     let l = c .before .before .before .before .before .before .before .before .listed in
     let a = c .before .before .before .before .before .before .before .before .before .before .before .before .args in
     let ns = a .numbers .now in (
       omega arith,
       b .kept .0 ∙ l .inv .1,
-      stepped-more (markedAbove (a .c)) (a .sectors .now) ns ns (l .i) (bitAt (a .above .now)) (bitAt (l .above)) _ (c .before .before .before .before .before .before .before .listed-test .taken) (l .inv .0) (c .before .before .before .before .before .before .before .before .before .before .before .before .pre .0) (c .before .before .before .before .before .before .before .before .before .before .before .before .pre .0)
+      stepped-more (markedAbove (a .c)) (a .sectors .now) ns ns (l .i) (bitAt (a .above .now)) (bitAt (l .above)) _ some (l .inv .0) same same
           (l .inv .2) (marked-so (a .c) (at (a .sectors .now) (l .i - 1)) (at ns (l .i - 1)) (at ns (l .i - 1)) _ _ (c .before .before .before .before .before .if1 .left) (b .ensures)),
     )
 

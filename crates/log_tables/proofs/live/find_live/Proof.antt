@@ -43,6 +43,8 @@ loop-less c = omega arith
 
 loop-again : tie.Need-loop-again Inv-loop μ-loop
 loop-again c =
+    let p = c .before .before .before .before .before .before .before .before .before .before .before .before .before .before .pre in
+    let t = c .before .before .before .before .before .before .before .loop-test .taken in
     let r = c .before .before .before .before .raise-listed in
     let l = c .before .before .before .before .before .before .before .before .loop in
     let a = c .before .before .before .before .before .before .before .before .before .before .before .before .before .before .args in (
@@ -50,7 +52,7 @@ loop-again c =
       r .kept .1 .1 .1 .1 .1 .0 ∙ l .inv .1,
       r .kept .1 .1 .1 .1 .1 .1 .0 ∙ l .inv .2,
       stepped-more (raised (a .c)) (a .sectors .now) (a .numbered .now) (a .pieces .now) (l .i) (a .places .now, a .numbers .now) (l .places, l .numbers) _
-          (c .before .before .before .before .before .before .before .loop-test .taken) (l .inv .0) (c .before .before .before .before .before .before .before .before .before .before .before .before .before .before .pre .0) (c .before .before .before .before .before .before .before .before .before .before .before .before .before .before .pre .1 .0) (l .inv .3) (r .ensures),
+          t (l .inv .0) (p .0) (p .1 .0) (l .inv .3) (r .ensures),
     )
 
 same-length : tie.Need-same-length Inv-loop μ-loop
