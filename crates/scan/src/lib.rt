@@ -230,45 +230,7 @@ pub fn scan_small(
     )
 }
 
-// The same of at most 4,096 sectors.
-fn scan_few(
-    image: &[u8],
-    g: Geometry,
-    map: &mut [u32],
-    places: &mut [u32],
-    numbers: &mut [u32],
-    used: &mut [u8],
-    above: &mut [u8],
-) -> Found
-    requires { ⌜ g .n ≤ 4096 ⌝ }
-    requires { ⌜ geometryFits g ≡ true ⌝ }
-    requires { ⌜ length (now image) ≡ sectorBytes * g .n ⌝ }
-    requires { ⌜ length (now map) ≡ g .l ⌝ }
-    requires { ⌜ length (now places) ≡ piecesFor (g .l) ⌝ }
-    requires { ⌜ length (now numbers) ≡ piecesFor (g .l) ⌝ }
-    requires { ⌜ length (now used) ≡ usedBytes (g .n) ⌝ }
-    requires { ⌜ g .n ≤ 8 * length (now above) ⌝ }
-    requires { ⌜ now above ≡ replicate (length (now above)) 0 ⌝ }
-    ensures { λ r. ⌜ (scanFound r (g .n) (imageView g (sectorAt (now (image .entry)))) (sectorAt (now (image .entry)) 0) (tablesOf (now (map .exit)) (now (places .exit)) (now (numbers .exit)) (now (used .exit))) ≡ scanFinding g (imageView g (sectorAt (now (image .entry)))) (sectorAt (now (image .entry)) 0)) × scanAbove r (imageView g (sectorAt (now (image .entry)))) (bitAt (now (above .exit))) ⌝ }
-{
-    let mut sectors = [0u16; 4096];
-    let mut numbered = [0u32; 4096];
-    let mut pieces = [0u8; 4096];
-    scan_in(
-        image,
-        g,
-        &mut sectors,
-        &mut numbered,
-        &mut pieces,
-        map,
-        places,
-        numbers,
-        used,
-        above,
-    )
-}
-
-// The same of at most 16,384.
+// The same of at most 16,384 sectors.
 fn scan_medium(
     image: &[u8],
     g: Geometry,
@@ -363,9 +325,6 @@ pub fn scan(
     requires { ⌜ now above ≡ replicate (length (now above)) 0 ⌝ }
     ensures { λ r. ⌜ (scanFound r (g .n) (imageView g (sectorAt (now (image .entry)))) (sectorAt (now (image .entry)) 0) (tablesOf (now (map .exit)) (now (places .exit)) (now (numbers .exit)) (now (used .exit))) ≡ scanFinding g (imageView g (sectorAt (now (image .entry)))) (sectorAt (now (image .entry)) 0)) × scanAbove r (imageView g (sectorAt (now (image .entry)))) (bitAt (now (above .exit))) ⌝ }
 {
-    if g.n <= 4096 {
-        return scan_few(image, g, map, places, numbers, used, above);
-    }
     if g.n <= 16384 {
         return scan_medium(image, g, map, places, numbers, used, above);
     }

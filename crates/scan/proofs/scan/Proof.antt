@@ -1,11 +1,13 @@
--- By the number of sectors.
-use native.Mathlib.Omega.{arith}
+-- The class that is chosen holds the volume.
 use borrow.Author.Needs.{needs}
 use Rattle.scan.proofs.scan.Statement.{statement}
 use Rattle.scan.proofs.scan.Tie as tie
 
-scan-few-requires : tie.Need-scan-few-requires
-scan-few-requires c κs = (omega arith, c .before .before .before .before .before .before .before .before .before .before .before .before .before .pre)
+scan-medium-requires : tie.Need-scan-medium-requires
+scan-medium-requires c κs =
+    let the-pre = c .before .before .before .before .before .before .before .before .before .before .before .before .before .pre in
+    let few = c .before .before .before .before .before .if1 .taken in
+    (few, the-pre)
 
 same-length : tie.Need-same-length
 same-length c = search needs
@@ -25,8 +27,8 @@ same-length-5 c = search needs
 returns : tie.Need-returns
 returns c = search needs
 
-scan-medium-requires : tie.Need-scan-medium-requires
-scan-medium-requires c κs = (omega arith, c .before .before .before .before .before .before .before .before .before .before .before .before .before .before .before .pre)
+scan-large-requires : tie.Need-scan-large-requires
+scan-large-requires c κs = search needs
 
 same-length-6 : tie.Need-same-length-6
 same-length-6 c = search needs
@@ -46,49 +48,5 @@ same-length-10 c = search needs
 returns-2 : tie.Need-returns-2
 returns-2 c = search needs
 
-scan-large-requires : tie.Need-scan-large-requires
-scan-large-requires c κs = search needs
-
-same-length-11 : tie.Need-same-length-11
-same-length-11 c = search needs
-
-same-length-12 : tie.Need-same-length-12
-same-length-12 c = search needs
-
-same-length-13 : tie.Need-same-length-13
-same-length-13 c = search needs
-
-same-length-14 : tie.Need-same-length-14
-same-length-14 c = search needs
-
-same-length-15 : tie.Need-same-length-15
-same-length-15 c = search needs
-
-returns-3 : tie.Need-returns-3
-returns-3 c = search needs
-
 pub scan-spec : {M : Type 1} → statement M
-scan-spec =
-    tie.close
-    (tie.spec
-    scan-few-requires
-    same-length
-    same-length-2
-    same-length-3
-    same-length-4
-    same-length-5
-    returns
-    scan-medium-requires
-    same-length-6
-    same-length-7
-    same-length-8
-    same-length-9
-    same-length-10
-    returns-2
-    scan-large-requires
-    same-length-11
-    same-length-12
-    same-length-13
-    same-length-14
-    same-length-15
-    returns-3)
+scan-spec = tie.close (tie.spec scan-medium-requires same-length same-length-2 same-length-3 same-length-4 same-length-5 returns scan-large-requires same-length-6 same-length-7 same-length-8 same-length-9 same-length-10 returns-2)
