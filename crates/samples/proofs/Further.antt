@@ -31,14 +31,16 @@ flipped =
     record {
       calls = writeForged 6 (5 ∷ []) ∷ recover 200 enough ∷ [];
       block = 5;
+      sector = 6;
       says = record {
-        result = record { answer = 0; stores = 0; way = 2; reads = 12; tail = 7; number = 4 };
+        result = record { answer = 0; stores = 0; way = 2; reads = 12; tail = 7; number = 4; phase = 0 };
         free = 1 ∷ 4 ∷ 5 ∷ 8 ∷ 9 ∷ 10 ∷ 11 ∷ [];
-        live = (7 ∷ 4 ∷ 1 ∷ 3 ∷ []) ∷ (2 ∷ 2 ∷ 0 ∷ 1 ∷ []) ∷ (3 ∷ 3 ∷ 1 ∷ 2 ∷ []) ∷ [];
+        live = (7 ∷ 4 ∷ 0 ∷ 1 ∷ 3 ∷ []) ∷ (2 ∷ 2 ∷ 1 ∷ 0 ∷ 1 ∷ []) ∷ (3 ∷ 3 ∷ 2 ∷ 1 ∷ 2 ∷ []) ∷ [];
         entries = (5 ∷ 2147483654 ∷ []) ∷ [];
         sectors = 0 ∷ 1 ∷ 2 ∷ 3 ∷ 0 ∷ 0 ∷ 0 ∷ 4 ∷ 0 ∷ 0 ∷ 0 ∷ 0 ∷ [];
         balance = 0x4EB2B2D3;
         block = forged;
+        bytes = set forged 0 0xA9;
       };
     }
 
@@ -48,14 +50,16 @@ noRoom =
     record {
       calls = write 4 (0 ∷ 1 ∷ 2 ∷ 3 ∷ 4 ∷ 5 ∷ []) 9 enough ∷ [];
       block = 4;
+      sector = 4;
       says = record {
-        result = record { answer = 6; stores = 0; way = 0; reads = 0; tail = 3; number = 3 };
+        result = record { answer = 6; stores = 0; way = 0; reads = 0; tail = 3; number = 3; phase = 0 };
         free = 4 ∷ 5 ∷ 6 ∷ 7 ∷ 8 ∷ 9 ∷ 10 ∷ 11 ∷ [];
-        live = (1 ∷ 1 ∷ 0 ∷ []) ∷ (2 ∷ 2 ∷ 0 ∷ 1 ∷ []) ∷ (3 ∷ 3 ∷ 1 ∷ 2 ∷ []) ∷ [];
+        live = (1 ∷ 1 ∷ 0 ∷ 0 ∷ []) ∷ (2 ∷ 2 ∷ 1 ∷ 0 ∷ 1 ∷ []) ∷ (3 ∷ 3 ∷ 2 ∷ 1 ∷ 2 ∷ []) ∷ [];
         entries = [];
         sectors = 0 ∷ 1 ∷ 2 ∷ 3 ∷ 0 ∷ 0 ∷ 0 ∷ 0 ∷ 0 ∷ 0 ∷ 0 ∷ 0 ∷ [];
         balance = 0xCEB2B2D9;
         block = blank;
+        bytes = blank;
       };
     }
 
@@ -65,14 +69,16 @@ lastNumbers =
     record {
       calls = numbered 4294967039 ∷ write 2 (0 ∷ []) 9 enough ∷ [];
       block = 0;
+      sector = 2;
       says = record {
-        result = record { answer = 0; stores = 2; way = 0; reads = 0; tail = 3; number = 4294967040 };
+        result = record { answer = 0; stores = 2; way = 0; reads = 0; tail = 3; number = 4294967040; phase = 0 };
         free = 1 ∷ [];
-        live = (3 ∷ 4294967040 ∷ 1 ∷ []) ∷ [];
+        live = (3 ∷ 4294967040 ∷ 0 ∷ 1 ∷ []) ∷ [];
         entries = (0 ∷ 2 ∷ []) ∷ [];
         sectors = 0 ∷ 4294967039 ∷ 0 ∷ 4294967040 ∷ [];
         balance = 0xCEB2B4A5;
         block = full 9;
+        bytes = full 9;
       };
     }
 
@@ -82,14 +88,16 @@ pieceMissing =
     record {
       calls = blankAt 1 ∷ recover 200 enough ∷ [];
       block = 0;
+      sector = 1;
       says = record {
-        result = record { answer = 9; stores = 0; way = 0; reads = 0; tail = 0; number = 0 };
+        result = record { answer = 9; stores = 0; way = 0; reads = 0; tail = 0; number = 0; phase = 2 };
         free = 0 ∷ 1 ∷ 2 ∷ 3 ∷ 4 ∷ 5 ∷ 6 ∷ 7 ∷ 8 ∷ 9 ∷ 10 ∷ 11 ∷ [];
         live = (0 ∷ []) ∷ (0 ∷ []) ∷ (0 ∷ []) ∷ [];
         entries = [];
         sectors = 0 ∷ 0 ∷ 2 ∷ 3 ∷ 0 ∷ 0 ∷ 0 ∷ 0 ∷ 0 ∷ 0 ∷ 0 ∷ 0 ∷ [];
         balance = 0x00000000;
         block = full 238;
+        bytes = blank;
       };
     }
 
@@ -99,14 +107,16 @@ parkLonger =
     record {
       calls = write 6 (5 ∷ 100 ∷ []) 33 enough ∷ park enough ∷ parkLengthened ∷ recover 200 enough ∷ [];
       block = 5;
+      sector = 0;
       says = record {
-        result = record { answer = 0; stores = 1; way = 2; reads = 12; tail = 9; number = 5 };
+        result = record { answer = 0; stores = 1; way = 2; reads = 12; tail = 9; number = 5; phase = 0 };
         free = 1 ∷ 2 ∷ 4 ∷ 5 ∷ 10 ∷ 11 ∷ [];
-        live = (8 ∷ 4 ∷ 0 ∷ 3 ∷ []) ∷ (9 ∷ 5 ∷ 1 ∷ 8 ∷ []) ∷ (3 ∷ 3 ∷ 1 ∷ 2 ∷ []) ∷ [];
+        live = (8 ∷ 4 ∷ 0 ∷ 0 ∷ 3 ∷ []) ∷ (9 ∷ 5 ∷ 1 ∷ 1 ∷ 8 ∷ []) ∷ (3 ∷ 3 ∷ 2 ∷ 1 ∷ 2 ∷ []) ∷ [];
         entries = (5 ∷ 6 ∷ []) ∷ (100 ∷ 7 ∷ []) ∷ [];
         sectors = 0 ∷ 1 ∷ 2 ∷ 3 ∷ 0 ∷ 0 ∷ 0 ∷ 0 ∷ 4 ∷ 5 ∷ 0 ∷ 0 ∷ [];
         balance = 0xCEB2B2CB;
         block = full 33;
+        bytes = blank;
       };
     }
 
@@ -116,14 +126,16 @@ parkUnbalanced =
     record {
       calls = write 6 (5 ∷ 100 ∷ []) 33 enough ∷ park enough ∷ parkTilted ∷ recover 200 enough ∷ [];
       block = 5;
+      sector = 0;
       says = record {
-        result = record { answer = 0; stores = 1; way = 2; reads = 12; tail = 9; number = 5 };
+        result = record { answer = 0; stores = 1; way = 2; reads = 12; tail = 9; number = 5; phase = 0 };
         free = 1 ∷ 2 ∷ 4 ∷ 5 ∷ 10 ∷ 11 ∷ [];
-        live = (8 ∷ 4 ∷ 0 ∷ 3 ∷ []) ∷ (9 ∷ 5 ∷ 1 ∷ 8 ∷ []) ∷ (3 ∷ 3 ∷ 1 ∷ 2 ∷ []) ∷ [];
+        live = (8 ∷ 4 ∷ 0 ∷ 0 ∷ 3 ∷ []) ∷ (9 ∷ 5 ∷ 1 ∷ 1 ∷ 8 ∷ []) ∷ (3 ∷ 3 ∷ 2 ∷ 1 ∷ 2 ∷ []) ∷ [];
         entries = (5 ∷ 6 ∷ []) ∷ (100 ∷ 7 ∷ []) ∷ [];
         sectors = 0 ∷ 1 ∷ 2 ∷ 3 ∷ 0 ∷ 0 ∷ 0 ∷ 0 ∷ 4 ∷ 5 ∷ 0 ∷ 0 ∷ [];
         balance = 0xCEB2B2CB;
         block = full 33;
+        bytes = blank;
       };
     }
 

@@ -10,14 +10,16 @@ case1 =
     record {
       calls = [];
       block = 0;
+      sector = 2;
       says = record {
-        result = record { answer = 0; stores = 5; way = 0; reads = 0; tail = 1; number = 1 };
+        result = record { answer = 0; stores = 5; way = 0; reads = 0; tail = 1; number = 1; phase = 0 };
         free = 2 ∷ 3 ∷ [];
-        live = (1 ∷ 1 ∷ 1 ∷ []) ∷ [];
+        live = (1 ∷ 1 ∷ 0 ∷ 1 ∷ []) ∷ [];
         entries = [];
         sectors = 0 ∷ 1 ∷ 0 ∷ 0 ∷ [];
         balance = 0xCEB2B3A6;
         block = blank;
+        bytes = blank;
       };
     }
 
@@ -27,14 +29,16 @@ case2 =
     record {
       calls = write 2 (0 ∷ []) 17 enough ∷ [];
       block = 0;
+      sector = 2;
       says = record {
-        result = record { answer = 0; stores = 2; way = 0; reads = 0; tail = 3; number = 2 };
+        result = record { answer = 0; stores = 2; way = 0; reads = 0; tail = 3; number = 2; phase = 0 };
         free = 1 ∷ [];
-        live = (3 ∷ 2 ∷ 1 ∷ []) ∷ [];
+        live = (3 ∷ 2 ∷ 0 ∷ 1 ∷ []) ∷ [];
         entries = (0 ∷ 2 ∷ []) ∷ [];
         sectors = 0 ∷ 1 ∷ 0 ∷ 2 ∷ [];
         balance = 0xCEB2B3A3;
         block = full 17;
+        bytes = full 17;
       };
     }
 
@@ -44,14 +48,16 @@ case3 =
     record {
       calls = write 2 (0 ∷ []) 17 enough ∷ write 2 (1 ∷ []) 18 enough ∷ [];
       block = 1;
+      sector = 2;
       says = record {
-        result = record { answer = 6; stores = 0; way = 0; reads = 0; tail = 3; number = 2 };
+        result = record { answer = 6; stores = 0; way = 0; reads = 0; tail = 3; number = 2; phase = 0 };
         free = 1 ∷ [];
-        live = (3 ∷ 2 ∷ 1 ∷ []) ∷ [];
+        live = (3 ∷ 2 ∷ 0 ∷ 1 ∷ []) ∷ [];
         entries = (0 ∷ 2 ∷ []) ∷ [];
         sectors = 0 ∷ 1 ∷ 0 ∷ 2 ∷ [];
         balance = 0xCEB2B3A3;
         block = blank;
+        bytes = full 17;
       };
     }
 
@@ -61,14 +67,16 @@ case4 =
     record {
       calls = write 2 (0 ∷ []) 17 enough ∷ drop 0 (0 ∷ []) enough ∷ [];
       block = 0;
+      sector = 2;
       says = record {
-        result = record { answer = 0; stores = 1; way = 0; reads = 0; tail = 1; number = 3 };
+        result = record { answer = 0; stores = 1; way = 0; reads = 0; tail = 1; number = 3; phase = 0 };
         free = 2 ∷ 3 ∷ [];
-        live = (1 ∷ 3 ∷ 1 ∷ []) ∷ [];
+        live = (1 ∷ 3 ∷ 0 ∷ 1 ∷ []) ∷ [];
         entries = [];
         sectors = 0 ∷ 3 ∷ 0 ∷ 2 ∷ [];
         balance = 0xCEB2B3A4;
         block = blank;
+        bytes = full 17;
       };
     }
 
@@ -78,14 +86,16 @@ case5 =
     record {
       calls = write 2 (0 ∷ []) 17 1 ∷ recover 2 enough ∷ [];
       block = 0;
+      sector = 2;
       says = record {
-        result = record { answer = 0; stores = 0; way = 2; reads = 4; tail = 1; number = 1 };
+        result = record { answer = 0; stores = 0; way = 2; reads = 4; tail = 1; number = 1; phase = 0 };
         free = 2 ∷ 3 ∷ [];
-        live = (1 ∷ 1 ∷ 1 ∷ []) ∷ [];
+        live = (1 ∷ 1 ∷ 0 ∷ 1 ∷ []) ∷ [];
         entries = [];
         sectors = 0 ∷ 1 ∷ 0 ∷ 0 ∷ [];
         balance = 0xCEB2B3A6;
         block = blank;
+        bytes = full 17;
       };
     }
 
@@ -96,14 +106,16 @@ case6 =
     record {
       calls = write 6 (5 ∷ 100 ∷ []) 33 enough ∷ [];
       block = 5;
+      sector = 6;
       says = record {
-        result = record { answer = 0; stores = 4; way = 0; reads = 0; tail = 9; number = 5 };
+        result = record { answer = 0; stores = 4; way = 0; reads = 0; tail = 9; number = 5; phase = 0 };
         free = 1 ∷ 2 ∷ 4 ∷ 5 ∷ 10 ∷ 11 ∷ [];
-        live = (8 ∷ 4 ∷ 0 ∷ 3 ∷ []) ∷ (9 ∷ 5 ∷ 1 ∷ 8 ∷ []) ∷ (3 ∷ 3 ∷ 1 ∷ 2 ∷ []) ∷ [];
+        live = (8 ∷ 4 ∷ 0 ∷ 0 ∷ 3 ∷ []) ∷ (9 ∷ 5 ∷ 1 ∷ 1 ∷ 8 ∷ []) ∷ (3 ∷ 3 ∷ 2 ∷ 1 ∷ 2 ∷ []) ∷ [];
         entries = (5 ∷ 6 ∷ []) ∷ (100 ∷ 7 ∷ []) ∷ [];
         sectors = 0 ∷ 1 ∷ 2 ∷ 3 ∷ 0 ∷ 0 ∷ 0 ∷ 0 ∷ 4 ∷ 5 ∷ 0 ∷ 0 ∷ [];
         balance = 0xCEB2B2CB;
         block = full 33;
+        bytes = full 33;
       };
     }
 
@@ -113,14 +125,16 @@ case7 =
     record {
       calls = write 6 (5 ∷ 100 ∷ []) 33 enough ∷ park enough ∷ recover 200 enough ∷ [];
       block = 100;
+      sector = 0;
       says = record {
-        result = record { answer = 0; stores = 1; way = 1; reads = 5; tail = 9; number = 5 };
+        result = record { answer = 0; stores = 1; way = 1; reads = 5; tail = 9; number = 5; phase = 0 };
         free = 1 ∷ 2 ∷ 4 ∷ 5 ∷ 10 ∷ 11 ∷ [];
-        live = (8 ∷ 4 ∷ 0 ∷ 3 ∷ []) ∷ (9 ∷ 5 ∷ 1 ∷ 8 ∷ []) ∷ (3 ∷ 3 ∷ 1 ∷ 2 ∷ []) ∷ [];
+        live = (8 ∷ 4 ∷ 0 ∷ 0 ∷ 3 ∷ []) ∷ (9 ∷ 5 ∷ 1 ∷ 1 ∷ 8 ∷ []) ∷ (3 ∷ 3 ∷ 2 ∷ 1 ∷ 2 ∷ []) ∷ [];
         entries = (5 ∷ 6 ∷ []) ∷ (100 ∷ 7 ∷ []) ∷ [];
         sectors = 0 ∷ 1 ∷ 2 ∷ 3 ∷ 0 ∷ 0 ∷ 0 ∷ 0 ∷ 4 ∷ 5 ∷ 0 ∷ 0 ∷ [];
         balance = 0xCEB2B2CB;
         block = full 33;
+        bytes = blank;
       };
     }
 
@@ -130,14 +144,16 @@ case8 =
     record {
       calls = write 6 (5 ∷ 100 ∷ []) 33 3 ∷ recover 200 enough ∷ [];
       block = 5;
+      sector = 8;
       says = record {
-        result = record { answer = 0; stores = 1; way = 2; reads = 12; tail = 3; number = 3 };
+        result = record { answer = 0; stores = 1; way = 2; reads = 12; tail = 3; number = 3; phase = 0 };
         free = 4 ∷ 5 ∷ 6 ∷ 7 ∷ 8 ∷ 9 ∷ 10 ∷ 11 ∷ [];
-        live = (1 ∷ 1 ∷ 0 ∷ []) ∷ (2 ∷ 2 ∷ 0 ∷ 1 ∷ []) ∷ (3 ∷ 3 ∷ 1 ∷ 2 ∷ []) ∷ [];
+        live = (1 ∷ 1 ∷ 0 ∷ 0 ∷ []) ∷ (2 ∷ 2 ∷ 1 ∷ 0 ∷ 1 ∷ []) ∷ (3 ∷ 3 ∷ 2 ∷ 1 ∷ 2 ∷ []) ∷ [];
         entries = [];
         sectors = 0 ∷ 1 ∷ 2 ∷ 3 ∷ 0 ∷ 0 ∷ 0 ∷ 0 ∷ 0 ∷ 0 ∷ 0 ∷ 0 ∷ [];
         balance = 0xCEB2B2D9;
         block = blank;
+        bytes = blank;
       };
     }
 
@@ -147,14 +163,16 @@ case9 =
     record {
       calls = write 6 (5 ∷ 100 ∷ []) 33 enough ∷ write 0 (5 ∷ []) 34 enough ∷ [];
       block = 5;
+      sector = 1;
       says = record {
-        result = record { answer = 0; stores = 2; way = 0; reads = 0; tail = 2; number = 6 };
+        result = record { answer = 0; stores = 2; way = 0; reads = 0; tail = 2; number = 6; phase = 0 };
         free = 4 ∷ 5 ∷ 6 ∷ 8 ∷ 10 ∷ 11 ∷ [];
-        live = (2 ∷ 6 ∷ 1 ∷ 9 ∷ 3 ∷ []) ∷ (9 ∷ 5 ∷ 1 ∷ 8 ∷ []) ∷ (3 ∷ 3 ∷ 1 ∷ 2 ∷ []) ∷ [];
+        live = (2 ∷ 6 ∷ 0 ∷ 1 ∷ 9 ∷ 3 ∷ []) ∷ (9 ∷ 5 ∷ 1 ∷ 1 ∷ 8 ∷ []) ∷ (3 ∷ 3 ∷ 2 ∷ 1 ∷ 2 ∷ []) ∷ [];
         entries = (5 ∷ 1 ∷ []) ∷ (100 ∷ 7 ∷ []) ∷ [];
         sectors = 0 ∷ 0 ∷ 6 ∷ 3 ∷ 0 ∷ 0 ∷ 0 ∷ 0 ∷ 4 ∷ 5 ∷ 0 ∷ 0 ∷ [];
         balance = 0xCEB2B2CC;
         block = full 34;
+        bytes = full 34;
       };
     }
 
@@ -164,14 +182,16 @@ case10 =
     record {
       calls = write 6 (5 ∷ 100 ∷ []) 33 enough ∷ write 0 (5 ∷ []) 34 enough ∷ write 0 (5 ∷ []) 35 enough ∷ [];
       block = 5;
+      sector = 4;
       says = record {
-        result = record { answer = 0; stores = 2; way = 0; reads = 0; tail = 5; number = 7 };
+        result = record { answer = 0; stores = 2; way = 0; reads = 0; tail = 5; number = 7; phase = 0 };
         free = 1 ∷ 2 ∷ 6 ∷ 8 ∷ 10 ∷ 11 ∷ [];
-        live = (5 ∷ 7 ∷ 1 ∷ 9 ∷ 3 ∷ []) ∷ (9 ∷ 5 ∷ 1 ∷ 8 ∷ []) ∷ (3 ∷ 3 ∷ 1 ∷ 2 ∷ []) ∷ [];
+        live = (5 ∷ 7 ∷ 0 ∷ 1 ∷ 9 ∷ 3 ∷ []) ∷ (9 ∷ 5 ∷ 1 ∷ 1 ∷ 8 ∷ []) ∷ (3 ∷ 3 ∷ 2 ∷ 1 ∷ 2 ∷ []) ∷ [];
         entries = (5 ∷ 4 ∷ []) ∷ (100 ∷ 7 ∷ []) ∷ [];
         sectors = 0 ∷ 0 ∷ 6 ∷ 3 ∷ 0 ∷ 7 ∷ 0 ∷ 0 ∷ 4 ∷ 5 ∷ 0 ∷ 0 ∷ [];
         balance = 0xCEB2B2C8;
         block = full 35;
+        bytes = full 35;
       };
     }
 

@@ -2,7 +2,8 @@
 -- recovery, and images that no history leaves. The samples, and the rows that no edit of a definition needs, stand in crate `samples`.
 use mathlib.Core.Path.{_≡_, refl}
 use mathlib.Core.Bool.{true, false}
-use mathlib.Core.List.{List, [], _∷_, map}
+use mathlib.Core.List.{List, [], _∷_, map, _++_}
+use lib.ListN.{replicate}
 use Rattle.layout.specs.Entry.{blank}
 use Rattle.layout.proofs.Conditions.{signed}
 use Rattle.volume.proofs.Rows.{Row, Table, gives, says, volumeA, volumeB, full, enough, writeBytes, write, drop, park, recover}
@@ -14,14 +15,16 @@ wraps =
     record {
       calls = write 11 (5 ∷ []) 7 2 ∷ [];
       block = 5;
+      sector = 11;
       says = record {
-        result = record { answer = 0; stores = 2; way = 0; reads = 0; tail = 4; number = 4 };
+        result = record { answer = 0; stores = 2; way = 0; reads = 0; tail = 4; number = 4; phase = 0 };
         free = 1 ∷ 5 ∷ 6 ∷ 7 ∷ 8 ∷ 9 ∷ 10 ∷ [];
-        live = (4 ∷ 4 ∷ 1 ∷ 3 ∷ []) ∷ (2 ∷ 2 ∷ 0 ∷ 1 ∷ []) ∷ (3 ∷ 3 ∷ 1 ∷ 2 ∷ []) ∷ [];
+        live = (4 ∷ 4 ∷ 0 ∷ 1 ∷ 3 ∷ []) ∷ (2 ∷ 2 ∷ 1 ∷ 0 ∷ 1 ∷ []) ∷ (3 ∷ 3 ∷ 2 ∷ 1 ∷ 2 ∷ []) ∷ [];
         entries = (5 ∷ 11 ∷ []) ∷ [];
         sectors = 0 ∷ 1 ∷ 2 ∷ 3 ∷ 4 ∷ 0 ∷ 0 ∷ 0 ∷ 0 ∷ 0 ∷ 0 ∷ 0 ∷ [];
         balance = 0xCEB2B2CE;
         block = full 7;
+        bytes = full 7;
       };
     }
 
@@ -31,14 +34,16 @@ reachedAlready =
     record {
       calls = write 4 (192 ∷ []) 7 enough ∷ [];
       block = 192;
+      sector = 4;
       says = record {
-        result = record { answer = 0; stores = 2; way = 0; reads = 0; tail = 5; number = 4 };
+        result = record { answer = 0; stores = 2; way = 0; reads = 0; tail = 5; number = 4; phase = 0 };
         free = 3 ∷ 6 ∷ 7 ∷ 8 ∷ 9 ∷ 10 ∷ 11 ∷ [];
-        live = (1 ∷ 1 ∷ 0 ∷ []) ∷ (2 ∷ 2 ∷ 0 ∷ 1 ∷ []) ∷ (5 ∷ 4 ∷ 1 ∷ 2 ∷ []) ∷ [];
+        live = (1 ∷ 1 ∷ 0 ∷ 0 ∷ []) ∷ (2 ∷ 2 ∷ 1 ∷ 0 ∷ 1 ∷ []) ∷ (5 ∷ 4 ∷ 2 ∷ 1 ∷ 2 ∷ []) ∷ [];
         entries = (192 ∷ 4 ∷ []) ∷ [];
         sectors = 0 ∷ 1 ∷ 2 ∷ 3 ∷ 0 ∷ 4 ∷ 0 ∷ 0 ∷ 0 ∷ 0 ∷ 0 ∷ 0 ∷ [];
         balance = 0xCEB2B2D4;
         block = full 7;
+        bytes = full 7;
       };
     }
 
@@ -48,14 +53,16 @@ supersededLater =
     record {
       calls = write 6 (5 ∷ 100 ∷ []) 33 enough ∷ write 6 (5 ∷ []) 8 enough ∷ [];
       block = 5;
+      sector = 10;
       says = record {
-        result = record { answer = 0; stores = 2; way = 0; reads = 0; tail = 11; number = 6 };
+        result = record { answer = 0; stores = 2; way = 0; reads = 0; tail = 11; number = 6; phase = 0 };
         free = 1 ∷ 2 ∷ 4 ∷ 5 ∷ 6 ∷ 8 ∷ [];
-        live = (11 ∷ 6 ∷ 1 ∷ 9 ∷ 3 ∷ []) ∷ (9 ∷ 5 ∷ 1 ∷ 8 ∷ []) ∷ (3 ∷ 3 ∷ 1 ∷ 2 ∷ []) ∷ [];
+        live = (11 ∷ 6 ∷ 0 ∷ 1 ∷ 9 ∷ 3 ∷ []) ∷ (9 ∷ 5 ∷ 1 ∷ 1 ∷ 8 ∷ []) ∷ (3 ∷ 3 ∷ 2 ∷ 1 ∷ 2 ∷ []) ∷ [];
         entries = (5 ∷ 10 ∷ []) ∷ (100 ∷ 7 ∷ []) ∷ [];
         sectors = 0 ∷ 1 ∷ 2 ∷ 3 ∷ 0 ∷ 0 ∷ 0 ∷ 0 ∷ 4 ∷ 5 ∷ 0 ∷ 6 ∷ [];
         balance = 0xCEB2B2C3;
         block = full 8;
+        bytes = full 8;
       };
     }
 
@@ -65,14 +72,16 @@ higherBranch =
     record {
       calls = blankAt 1 ∷ blankAt 2 ∷ signedAt 5 7 2 false [] ∷ signedAt 6 5 1 false (5 ∷ []) ∷ signedAt 7 10 0 true (6 ∷ []) ∷ parkedAt 10 7 ∷ recover 200 enough ∷ [];
       block = 5;
+      sector = 0;
       says = record {
-        result = record { answer = 0; stores = 1; way = 2; reads = 12; tail = 7; number = 10 };
+        result = record { answer = 0; stores = 1; way = 2; reads = 12; tail = 7; number = 10; phase = 0 };
         free = 1 ∷ 2 ∷ 3 ∷ 4 ∷ 8 ∷ 9 ∷ 10 ∷ 11 ∷ [];
-        live = (7 ∷ 10 ∷ 1 ∷ 6 ∷ []) ∷ (6 ∷ 5 ∷ 0 ∷ 5 ∷ []) ∷ (5 ∷ 7 ∷ 0 ∷ []) ∷ [];
+        live = (7 ∷ 10 ∷ 0 ∷ 1 ∷ 6 ∷ []) ∷ (6 ∷ 5 ∷ 1 ∷ 0 ∷ 5 ∷ []) ∷ (5 ∷ 7 ∷ 2 ∷ 0 ∷ []) ∷ [];
         entries = [];
         sectors = 0 ∷ 0 ∷ 0 ∷ 3 ∷ 0 ∷ 7 ∷ 5 ∷ 10 ∷ 0 ∷ 0 ∷ 0 ∷ 0 ∷ [];
         balance = 0xCEB2B2D0;
         block = blank;
+        bytes = blank;
       };
     }
 
@@ -82,14 +91,35 @@ roomExactly =
     record {
       calls = write 4 (0 ∷ 1 ∷ 2 ∷ 3 ∷ 4 ∷ []) 9 enough ∷ [];
       block = 4;
+      sector = 8;
       says = record {
-        result = record { answer = 0; stores = 6; way = 0; reads = 0; tail = 9; number = 4 };
+        result = record { answer = 0; stores = 6; way = 0; reads = 0; tail = 9; number = 4; phase = 0 };
         free = 1 ∷ 10 ∷ 11 ∷ [];
-        live = (9 ∷ 4 ∷ 1 ∷ 3 ∷ []) ∷ (2 ∷ 2 ∷ 0 ∷ 1 ∷ []) ∷ (3 ∷ 3 ∷ 1 ∷ 2 ∷ []) ∷ [];
+        live = (9 ∷ 4 ∷ 0 ∷ 1 ∷ 3 ∷ []) ∷ (2 ∷ 2 ∷ 1 ∷ 0 ∷ 1 ∷ []) ∷ (3 ∷ 3 ∷ 2 ∷ 1 ∷ 2 ∷ []) ∷ [];
         entries = (0 ∷ 4 ∷ []) ∷ (1 ∷ 5 ∷ []) ∷ (2 ∷ 6 ∷ []) ∷ (3 ∷ 7 ∷ []) ∷ (4 ∷ 8 ∷ []) ∷ [];
         sectors = 0 ∷ 1 ∷ 2 ∷ 3 ∷ 0 ∷ 0 ∷ 0 ∷ 0 ∷ 0 ∷ 4 ∷ 0 ∷ 0 ∷ [];
         balance = 0xCEB2B2BB;
         block = full 9;
+        bytes = full 9;
+      };
+    }
+
+-- Each block has its own bytes: those of 5 go to sector 6, those of 100 to sector 7.
+bytesInOrder : Row
+bytesInOrder =
+    record {
+      calls = writeBytes 6 (5 ∷ 100 ∷ []) (full 33 ++ full 44) enough ∷ [];
+      block = 5;
+      sector = 7;
+      says = record {
+        result = record { answer = 0; stores = 4; way = 0; reads = 0; tail = 9; number = 5; phase = 0 };
+        free = 1 ∷ 2 ∷ 4 ∷ 5 ∷ 10 ∷ 11 ∷ [];
+        live = (8 ∷ 4 ∷ 0 ∷ 0 ∷ 3 ∷ []) ∷ (9 ∷ 5 ∷ 1 ∷ 1 ∷ 8 ∷ []) ∷ (3 ∷ 3 ∷ 2 ∷ 1 ∷ 2 ∷ []) ∷ [];
+        entries = (5 ∷ 6 ∷ []) ∷ (100 ∷ 7 ∷ []) ∷ [];
+        sectors = 0 ∷ 1 ∷ 2 ∷ 3 ∷ 0 ∷ 0 ∷ 0 ∷ 0 ∷ 4 ∷ 5 ∷ 0 ∷ 0 ∷ [];
+        balance = 0xCEB2B2CB;
+        block = full 33;
+        bytes = full 44;
       };
     }
 
@@ -99,14 +129,16 @@ refusal1 =
     record {
       calls = recover 24577 enough ∷ [];
       block = 0;
+      sector = 4;
       says = record {
-        result = record { answer = 1; stores = 0; way = 0; reads = 0; tail = 3; number = 3 };
+        result = record { answer = 1; stores = 0; way = 0; reads = 0; tail = 3; number = 3; phase = 0 };
         free = 4 ∷ 5 ∷ 6 ∷ 7 ∷ 8 ∷ 9 ∷ 10 ∷ 11 ∷ [];
-        live = (1 ∷ 1 ∷ 0 ∷ []) ∷ (2 ∷ 2 ∷ 0 ∷ 1 ∷ []) ∷ (3 ∷ 3 ∷ 1 ∷ 2 ∷ []) ∷ [];
+        live = (1 ∷ 1 ∷ 0 ∷ 0 ∷ []) ∷ (2 ∷ 2 ∷ 1 ∷ 0 ∷ 1 ∷ []) ∷ (3 ∷ 3 ∷ 2 ∷ 1 ∷ 2 ∷ []) ∷ [];
         entries = [];
         sectors = 0 ∷ 1 ∷ 2 ∷ 3 ∷ 0 ∷ 0 ∷ 0 ∷ 0 ∷ 0 ∷ 0 ∷ 0 ∷ 0 ∷ [];
         balance = 0xCEB2B2D9;
         block = blank;
+        bytes = blank;
       };
     }
 
@@ -116,14 +148,16 @@ refusal2 =
     record {
       calls = writeBytes 4 (0 ∷ 1 ∷ []) (full 9) enough ∷ [];
       block = 0;
+      sector = 4;
       says = record {
-        result = record { answer = 2; stores = 0; way = 0; reads = 0; tail = 3; number = 3 };
+        result = record { answer = 2; stores = 0; way = 0; reads = 0; tail = 3; number = 3; phase = 0 };
         free = 4 ∷ 5 ∷ 6 ∷ 7 ∷ 8 ∷ 9 ∷ 10 ∷ 11 ∷ [];
-        live = (1 ∷ 1 ∷ 0 ∷ []) ∷ (2 ∷ 2 ∷ 0 ∷ 1 ∷ []) ∷ (3 ∷ 3 ∷ 1 ∷ 2 ∷ []) ∷ [];
+        live = (1 ∷ 1 ∷ 0 ∷ 0 ∷ []) ∷ (2 ∷ 2 ∷ 1 ∷ 0 ∷ 1 ∷ []) ∷ (3 ∷ 3 ∷ 2 ∷ 1 ∷ 2 ∷ []) ∷ [];
         entries = [];
         sectors = 0 ∷ 1 ∷ 2 ∷ 3 ∷ 0 ∷ 0 ∷ 0 ∷ 0 ∷ 0 ∷ 0 ∷ 0 ∷ 0 ∷ [];
         balance = 0xCEB2B2D9;
         block = blank;
+        bytes = blank;
       };
     }
 
@@ -133,14 +167,16 @@ refusal3 =
     record {
       calls = write 4 (5 ∷ 3 ∷ []) 9 enough ∷ [];
       block = 0;
+      sector = 4;
       says = record {
-        result = record { answer = 3; stores = 0; way = 0; reads = 0; tail = 3; number = 3 };
+        result = record { answer = 3; stores = 0; way = 0; reads = 0; tail = 3; number = 3; phase = 0 };
         free = 4 ∷ 5 ∷ 6 ∷ 7 ∷ 8 ∷ 9 ∷ 10 ∷ 11 ∷ [];
-        live = (1 ∷ 1 ∷ 0 ∷ []) ∷ (2 ∷ 2 ∷ 0 ∷ 1 ∷ []) ∷ (3 ∷ 3 ∷ 1 ∷ 2 ∷ []) ∷ [];
+        live = (1 ∷ 1 ∷ 0 ∷ 0 ∷ []) ∷ (2 ∷ 2 ∷ 1 ∷ 0 ∷ 1 ∷ []) ∷ (3 ∷ 3 ∷ 2 ∷ 1 ∷ 2 ∷ []) ∷ [];
         entries = [];
         sectors = 0 ∷ 1 ∷ 2 ∷ 3 ∷ 0 ∷ 0 ∷ 0 ∷ 0 ∷ 0 ∷ 0 ∷ 0 ∷ 0 ∷ [];
         balance = 0xCEB2B2D9;
         block = blank;
+        bytes = blank;
       };
     }
 
@@ -150,14 +186,16 @@ refusal4 =
     record {
       calls = park enough ∷ write 4 (5 ∷ []) 9 enough ∷ [];
       block = 0;
+      sector = 0;
       says = record {
-        result = record { answer = 4; stores = 0; way = 0; reads = 0; tail = 3; number = 3 };
+        result = record { answer = 4; stores = 0; way = 0; reads = 0; tail = 3; number = 3; phase = 1 };
         free = 4 ∷ 5 ∷ 6 ∷ 7 ∷ 8 ∷ 9 ∷ 10 ∷ 11 ∷ [];
-        live = (1 ∷ 1 ∷ 0 ∷ []) ∷ (2 ∷ 2 ∷ 0 ∷ 1 ∷ []) ∷ (3 ∷ 3 ∷ 1 ∷ 2 ∷ []) ∷ [];
+        live = (1 ∷ 1 ∷ 0 ∷ 0 ∷ []) ∷ (2 ∷ 2 ∷ 1 ∷ 0 ∷ 1 ∷ []) ∷ (3 ∷ 3 ∷ 2 ∷ 1 ∷ 2 ∷ []) ∷ [];
         entries = [];
         sectors = 0 ∷ 1 ∷ 2 ∷ 3 ∷ 0 ∷ 0 ∷ 0 ∷ 0 ∷ 0 ∷ 0 ∷ 0 ∷ 0 ∷ [];
         balance = 0xCEB2B2D9;
         block = blank;
+        bytes = 0x56 ∷ 0x4C ∷ 0x50 ∷ 0x31 ∷ 0xA4 ∷ 0xB3 ∷ 0xAF ∷ 0xCE ∷ 3 ∷ 0 ∷ 0 ∷ 0 ∷ 3 ∷ 0 ∷ 0 ∷ 0 ∷ replicate 496 0;
       };
     }
 
@@ -167,14 +205,16 @@ refusal5 =
     record {
       calls = blankAt 2 ∷ write 4 (5 ∷ []) 9 enough ∷ [];
       block = 0;
+      sector = 2;
       says = record {
-        result = record { answer = 5; stores = 0; way = 0; reads = 0; tail = 3; number = 3 };
+        result = record { answer = 5; stores = 0; way = 0; reads = 0; tail = 3; number = 3; phase = 0 };
         free = 4 ∷ 5 ∷ 6 ∷ 7 ∷ 8 ∷ 9 ∷ 10 ∷ 11 ∷ [];
-        live = (1 ∷ 1 ∷ 0 ∷ []) ∷ (2 ∷ []) ∷ (3 ∷ 3 ∷ 1 ∷ 2 ∷ []) ∷ [];
+        live = (1 ∷ 1 ∷ 0 ∷ 0 ∷ []) ∷ (2 ∷ []) ∷ (3 ∷ 3 ∷ 2 ∷ 1 ∷ 2 ∷ []) ∷ [];
         entries = [];
         sectors = 0 ∷ 1 ∷ 0 ∷ 3 ∷ 0 ∷ 0 ∷ 0 ∷ 0 ∷ 0 ∷ 0 ∷ 0 ∷ 0 ∷ [];
         balance = 0xCEB2B2D9;
         block = blank;
+        bytes = blank;
       };
     }
 
@@ -184,14 +224,16 @@ refusal7 =
     record {
       calls = numbered 4294967040 ∷ write 2 (0 ∷ []) 9 enough ∷ [];
       block = 0;
+      sector = 2;
       says = record {
-        result = record { answer = 7; stores = 0; way = 0; reads = 0; tail = 1; number = 4294967040 };
+        result = record { answer = 7; stores = 0; way = 0; reads = 0; tail = 1; number = 4294967040; phase = 0 };
         free = 2 ∷ 3 ∷ [];
-        live = (1 ∷ 4294967040 ∷ 1 ∷ []) ∷ [];
+        live = (1 ∷ 4294967040 ∷ 0 ∷ 1 ∷ []) ∷ [];
         entries = [];
         sectors = 0 ∷ 4294967040 ∷ 0 ∷ 0 ∷ [];
         balance = 0xCEB2B4A7;
         block = blank;
+        bytes = blank;
       };
     }
 
@@ -201,14 +243,16 @@ refusal8 =
     record {
       calls = blankAt 3 ∷ recover 200 enough ∷ [];
       block = 0;
+      sector = 3;
       says = record {
-        result = record { answer = 8; stores = 0; way = 0; reads = 0; tail = 0; number = 0 };
+        result = record { answer = 8; stores = 0; way = 0; reads = 0; tail = 0; number = 0; phase = 2 };
         free = 0 ∷ 1 ∷ 2 ∷ 3 ∷ 4 ∷ 5 ∷ 6 ∷ 7 ∷ 8 ∷ 9 ∷ 10 ∷ 11 ∷ [];
         live = (0 ∷ []) ∷ (0 ∷ []) ∷ (0 ∷ []) ∷ [];
         entries = [];
         sectors = 0 ∷ 1 ∷ 2 ∷ 0 ∷ 0 ∷ 0 ∷ 0 ∷ 0 ∷ 0 ∷ 0 ∷ 0 ∷ 0 ∷ [];
         balance = 0x00000000;
         block = full 238;
+        bytes = blank;
       };
     }
 
@@ -218,14 +262,16 @@ refusal9 =
     record {
       calls = copied 3 7 ∷ recover 200 enough ∷ [];
       block = 0;
+      sector = 0;
       says = record {
-        result = record { answer = 9; stores = 0; way = 0; reads = 0; tail = 0; number = 0 };
+        result = record { answer = 9; stores = 0; way = 0; reads = 0; tail = 0; number = 0; phase = 2 };
         free = 0 ∷ 1 ∷ 2 ∷ 3 ∷ 4 ∷ 5 ∷ 6 ∷ 7 ∷ 8 ∷ 9 ∷ 10 ∷ 11 ∷ [];
         live = (0 ∷ []) ∷ (0 ∷ []) ∷ (0 ∷ []) ∷ [];
         entries = [];
         sectors = 0 ∷ 1 ∷ 2 ∷ 3 ∷ 0 ∷ 0 ∷ 0 ∷ 3 ∷ 0 ∷ 0 ∷ 0 ∷ 0 ∷ [];
         balance = 0x00000000;
         block = full 238;
+        bytes = blank;
       };
     }
 
@@ -235,14 +281,16 @@ dataFirst =
     record {
       calls = write 4 (5 ∷ []) 9 1 ∷ [];
       block = 5;
+      sector = 4;
       says = record {
-        result = record { answer = 10; stores = 1; way = 0; reads = 0; tail = 3; number = 3 };
+        result = record { answer = 10; stores = 1; way = 0; reads = 0; tail = 3; number = 3; phase = 2 };
         free = 4 ∷ 5 ∷ 6 ∷ 7 ∷ 8 ∷ 9 ∷ 10 ∷ 11 ∷ [];
-        live = (1 ∷ 1 ∷ 0 ∷ []) ∷ (2 ∷ 2 ∷ 0 ∷ 1 ∷ []) ∷ (3 ∷ 3 ∷ 1 ∷ 2 ∷ []) ∷ [];
+        live = (1 ∷ 1 ∷ 0 ∷ 0 ∷ []) ∷ (2 ∷ 2 ∷ 1 ∷ 0 ∷ 1 ∷ []) ∷ (3 ∷ 3 ∷ 2 ∷ 1 ∷ 2 ∷ []) ∷ [];
         entries = [];
         sectors = 0 ∷ 1 ∷ 2 ∷ 3 ∷ 0 ∷ 0 ∷ 0 ∷ 0 ∷ 0 ∷ 0 ∷ 0 ∷ 0 ∷ [];
         balance = 0xCEB2B2D9;
         block = full 238;
+        bytes = full 9;
       };
     }
 
@@ -252,14 +300,16 @@ refusal10 =
     record {
       calls = drop 11 (0 ∷ 100 ∷ 192 ∷ []) 2 ∷ [];
       block = 0;
+      sector = 0;
       says = record {
-        result = record { answer = 10; stores = 2; way = 0; reads = 0; tail = 3; number = 3 };
+        result = record { answer = 10; stores = 2; way = 0; reads = 0; tail = 3; number = 3; phase = 2 };
         free = 4 ∷ 5 ∷ 6 ∷ 7 ∷ 8 ∷ 9 ∷ 10 ∷ 11 ∷ [];
-        live = (1 ∷ 1 ∷ 0 ∷ []) ∷ (2 ∷ 2 ∷ 0 ∷ 1 ∷ []) ∷ (3 ∷ 3 ∷ 1 ∷ 2 ∷ []) ∷ [];
+        live = (1 ∷ 1 ∷ 0 ∷ 0 ∷ []) ∷ (2 ∷ 2 ∷ 1 ∷ 0 ∷ 1 ∷ []) ∷ (3 ∷ 3 ∷ 2 ∷ 1 ∷ 2 ∷ []) ∷ [];
         entries = [];
         sectors = 0 ∷ 1 ∷ 2 ∷ 3 ∷ 5 ∷ 0 ∷ 0 ∷ 0 ∷ 0 ∷ 0 ∷ 0 ∷ 4 ∷ [];
         balance = 0xCEB2B2D9;
         block = full 238;
+        bytes = blank;
       };
     }
 
@@ -269,14 +319,16 @@ recoveryCut =
     record {
       calls = drop 11 (0 ∷ 100 ∷ 192 ∷ []) 2 ∷ recover 200 1 ∷ [];
       block = 0;
+      sector = 4;
       says = record {
-        result = record { answer = 10; stores = 1; way = 0; reads = 0; tail = 0; number = 0 };
+        result = record { answer = 10; stores = 1; way = 0; reads = 0; tail = 0; number = 0; phase = 2 };
         free = 0 ∷ 1 ∷ 2 ∷ 3 ∷ 4 ∷ 5 ∷ 6 ∷ 7 ∷ 8 ∷ 9 ∷ 10 ∷ 11 ∷ [];
         live = (0 ∷ []) ∷ (0 ∷ []) ∷ (0 ∷ []) ∷ [];
         entries = [];
         sectors = 0 ∷ 1 ∷ 2 ∷ 3 ∷ 0 ∷ 0 ∷ 0 ∷ 0 ∷ 0 ∷ 0 ∷ 0 ∷ 4 ∷ [];
         balance = 0x00000000;
         block = full 238;
+        bytes = blank;
       };
     }
 
@@ -286,14 +338,16 @@ recoveredAgain =
     record {
       calls = drop 11 (0 ∷ 100 ∷ 192 ∷ []) 2 ∷ recover 200 1 ∷ recover 200 enough ∷ [];
       block = 0;
+      sector = 11;
       says = record {
-        result = record { answer = 0; stores = 1; way = 2; reads = 12; tail = 3; number = 3 };
+        result = record { answer = 0; stores = 1; way = 2; reads = 12; tail = 3; number = 3; phase = 0 };
         free = 4 ∷ 5 ∷ 6 ∷ 7 ∷ 8 ∷ 9 ∷ 10 ∷ 11 ∷ [];
-        live = (1 ∷ 1 ∷ 0 ∷ []) ∷ (2 ∷ 2 ∷ 0 ∷ 1 ∷ []) ∷ (3 ∷ 3 ∷ 1 ∷ 2 ∷ []) ∷ [];
+        live = (1 ∷ 1 ∷ 0 ∷ 0 ∷ []) ∷ (2 ∷ 2 ∷ 1 ∷ 0 ∷ 1 ∷ []) ∷ (3 ∷ 3 ∷ 2 ∷ 1 ∷ 2 ∷ []) ∷ [];
         entries = [];
         sectors = 0 ∷ 1 ∷ 2 ∷ 3 ∷ 0 ∷ 0 ∷ 0 ∷ 0 ∷ 0 ∷ 0 ∷ 0 ∷ 0 ∷ [];
         balance = 0xCEB2B2D9;
         block = blank;
+        bytes = blank;
       };
     }
 
@@ -303,14 +357,16 @@ newestFirst =
     record {
       calls = blankAt 1 ∷ blankAt 2 ∷ blankAt 3 ∷ signedAt 7 10 2 true (6 ∷ 5 ∷ []) ∷ signedAt 6 8 0 false (4 ∷ []) ∷ signedAt 5 6 1 false [] ∷ signedAt 4 7 1 false [] ∷ parkedAt 10 7 ∷ recover 200 enough ∷ [];
       block = 5;
+      sector = 0;
       says = record {
-        result = record { answer = 0; stores = 1; way = 1; reads = 5; tail = 7; number = 10 };
+        result = record { answer = 0; stores = 1; way = 1; reads = 5; tail = 7; number = 10; phase = 0 };
         free = 1 ∷ 2 ∷ 3 ∷ 5 ∷ 8 ∷ 9 ∷ 10 ∷ 11 ∷ [];
-        live = (6 ∷ 8 ∷ 0 ∷ 4 ∷ []) ∷ (4 ∷ 7 ∷ 0 ∷ []) ∷ (7 ∷ 10 ∷ 1 ∷ 6 ∷ 5 ∷ []) ∷ [];
+        live = (6 ∷ 8 ∷ 0 ∷ 0 ∷ 4 ∷ []) ∷ (4 ∷ 7 ∷ 1 ∷ 0 ∷ []) ∷ (7 ∷ 10 ∷ 2 ∷ 1 ∷ 6 ∷ 5 ∷ []) ∷ [];
         entries = [];
         sectors = 0 ∷ 0 ∷ 0 ∷ 0 ∷ 7 ∷ 6 ∷ 8 ∷ 10 ∷ 0 ∷ 0 ∷ 0 ∷ 0 ∷ [];
         balance = 0xCEB2B2C8;
         block = blank;
+        bytes = blank;
       };
     }
 
@@ -320,14 +376,16 @@ firstRead =
     record {
       calls = blankAt 1 ∷ blankAt 2 ∷ blankAt 3 ∷ signedAt 7 10 2 true (6 ∷ 5 ∷ 4 ∷ []) ∷ signedAt 6 8 0 false [] ∷ signedAt 5 6 1 false [] ∷ signedAt 4 6 1 false [] ∷ parkedAt 10 7 ∷ recover 200 enough ∷ [];
       block = 5;
+      sector = 0;
       says = record {
-        result = record { answer = 0; stores = 1; way = 1; reads = 5; tail = 7; number = 10 };
+        result = record { answer = 0; stores = 1; way = 1; reads = 5; tail = 7; number = 10; phase = 0 };
         free = 1 ∷ 2 ∷ 3 ∷ 4 ∷ 8 ∷ 9 ∷ 10 ∷ 11 ∷ [];
-        live = (6 ∷ 8 ∷ 0 ∷ []) ∷ (5 ∷ 6 ∷ 0 ∷ []) ∷ (7 ∷ 10 ∷ 1 ∷ 6 ∷ 5 ∷ 4 ∷ []) ∷ [];
+        live = (6 ∷ 8 ∷ 0 ∷ 0 ∷ []) ∷ (5 ∷ 6 ∷ 1 ∷ 0 ∷ []) ∷ (7 ∷ 10 ∷ 2 ∷ 1 ∷ 6 ∷ 5 ∷ 4 ∷ []) ∷ [];
         entries = [];
         sectors = 0 ∷ 0 ∷ 0 ∷ 0 ∷ 6 ∷ 6 ∷ 8 ∷ 10 ∷ 0 ∷ 0 ∷ 0 ∷ 0 ∷ [];
         balance = 0xCEB2B2C3;
         block = blank;
+        bytes = blank;
       };
     }
 
@@ -337,14 +395,16 @@ doneAlready =
     record {
       calls = blankAt 1 ∷ blankAt 2 ∷ blankAt 3 ∷ signedAt 7 10 2 true (6 ∷ 5 ∷ []) ∷ signedAt 6 8 0 false (4 ∷ []) ∷ signedAt 5 6 1 false [] ∷ signedAt 4 7 0 false [] ∷ parkedAt 10 7 ∷ recover 200 enough ∷ [];
       block = 5;
+      sector = 0;
       says = record {
-        result = record { answer = 0; stores = 1; way = 1; reads = 5; tail = 7; number = 10 };
+        result = record { answer = 0; stores = 1; way = 1; reads = 5; tail = 7; number = 10; phase = 0 };
         free = 1 ∷ 2 ∷ 3 ∷ 4 ∷ 8 ∷ 9 ∷ 10 ∷ 11 ∷ [];
-        live = (6 ∷ 8 ∷ 0 ∷ 4 ∷ []) ∷ (5 ∷ 6 ∷ 0 ∷ []) ∷ (7 ∷ 10 ∷ 1 ∷ 6 ∷ 5 ∷ []) ∷ [];
+        live = (6 ∷ 8 ∷ 0 ∷ 0 ∷ 4 ∷ []) ∷ (5 ∷ 6 ∷ 1 ∷ 0 ∷ []) ∷ (7 ∷ 10 ∷ 2 ∷ 1 ∷ 6 ∷ 5 ∷ []) ∷ [];
         entries = [];
         sectors = 0 ∷ 0 ∷ 0 ∷ 0 ∷ 7 ∷ 6 ∷ 8 ∷ 10 ∷ 0 ∷ 0 ∷ 0 ∷ 0 ∷ [];
         balance = 0xCEB2B2C8;
         block = blank;
+        bytes = blank;
       };
     }
 
@@ -354,14 +414,16 @@ closingRecycled =
     record {
       calls = write 6 (5 ∷ 100 ∷ []) 33 enough ∷ write 0 (100 ∷ []) 40 enough ∷ write 9 (100 ∷ []) 41 enough ∷ recover 200 enough ∷ [];
       block = 5;
+      sector = 9;
       says = record {
-        result = record { answer = 0; stores = 0; way = 2; reads = 12; tail = 10; number = 7 };
+        result = record { answer = 0; stores = 0; way = 2; reads = 12; tail = 10; number = 7; phase = 0 };
         free = 1 ∷ 2 ∷ 4 ∷ 5 ∷ 7 ∷ 11 ∷ [];
-        live = (8 ∷ 4 ∷ 0 ∷ 3 ∷ []) ∷ (10 ∷ 7 ∷ 1 ∷ 8 ∷ []) ∷ (3 ∷ 3 ∷ 1 ∷ 2 ∷ []) ∷ [];
+        live = (8 ∷ 4 ∷ 0 ∷ 0 ∷ 3 ∷ []) ∷ (10 ∷ 7 ∷ 1 ∷ 1 ∷ 8 ∷ []) ∷ (3 ∷ 3 ∷ 2 ∷ 1 ∷ 2 ∷ []) ∷ [];
         entries = (5 ∷ 6 ∷ []) ∷ (100 ∷ 9 ∷ []) ∷ [];
         sectors = 0 ∷ 0 ∷ 6 ∷ 3 ∷ 0 ∷ 0 ∷ 0 ∷ 0 ∷ 4 ∷ 0 ∷ 7 ∷ 0 ∷ [];
         balance = 0xCEB2B2C7;
         block = full 33;
+        bytes = full 41;
       };
     }
 
@@ -371,14 +433,16 @@ signedParkSector =
     record {
       calls = signedAt 0 50 0 false [] ∷ recover 200 enough ∷ [];
       block = 0;
+      sector = 0;
       says = record {
-        result = record { answer = 0; stores = 1; way = 2; reads = 12; tail = 3; number = 3 };
+        result = record { answer = 0; stores = 1; way = 2; reads = 12; tail = 3; number = 3; phase = 0 };
         free = 4 ∷ 5 ∷ 6 ∷ 7 ∷ 8 ∷ 9 ∷ 10 ∷ 11 ∷ [];
-        live = (1 ∷ 1 ∷ 0 ∷ []) ∷ (2 ∷ 2 ∷ 0 ∷ 1 ∷ []) ∷ (3 ∷ 3 ∷ 1 ∷ 2 ∷ []) ∷ [];
+        live = (1 ∷ 1 ∷ 0 ∷ 0 ∷ []) ∷ (2 ∷ 2 ∷ 1 ∷ 0 ∷ 1 ∷ []) ∷ (3 ∷ 3 ∷ 2 ∷ 1 ∷ 2 ∷ []) ∷ [];
         entries = [];
         sectors = 0 ∷ 1 ∷ 2 ∷ 3 ∷ 0 ∷ 0 ∷ 0 ∷ 0 ∷ 0 ∷ 0 ∷ 0 ∷ 0 ∷ [];
         balance = 0xCEB2B2D9;
         block = blank;
+        bytes = blank;
       };
     }
 
@@ -388,23 +452,25 @@ formatCut =
     record {
       calls = [];
       block = 0;
+      sector = 3;
       says = record {
-        result = record { answer = 10; stores = 4; way = 0; reads = 0; tail = 0; number = 0 };
+        result = record { answer = 10; stores = 4; way = 0; reads = 0; tail = 0; number = 0; phase = 2 };
         free = 0 ∷ 1 ∷ 2 ∷ 3 ∷ [];
         live = (0 ∷ []) ∷ [];
         entries = [];
         sectors = 0 ∷ 0 ∷ 0 ∷ 0 ∷ [];
         balance = 0x00000000;
         block = full 238;
+        bytes = blank;
       };
     }
 
 unfoldable pub corners : List Table
-unfolding wraps reachedAlready supersededLater higherBranch roomExactly refusal1 refusal2 refusal3 refusal4 refusal5 refusal8 refusal9 dataFirst
+unfolding wraps reachedAlready supersededLater higherBranch roomExactly bytesInOrder refusal1 refusal2 refusal3 refusal4 refusal5 refusal8 refusal9 dataFirst
     refusal10 recoveryCut recoveredAgain newestFirst firstRead doneAlready closingRecycled signedParkSector refusal7 formatCut overwritten blankAt
     copied signedAt parkedAt numbered signed
 corners =
-    volumeB (wraps ∷ reachedAlready ∷ supersededLater ∷ higherBranch ∷ roomExactly ∷ refusal1 ∷ refusal2 ∷ refusal3 ∷ refusal4 ∷ refusal5 ∷ refusal8 ∷ refusal9 ∷ dataFirst ∷ refusal10 ∷ recoveryCut ∷ recoveredAgain ∷ newestFirst ∷ firstRead ∷ doneAlready ∷ closingRecycled ∷ signedParkSector ∷ [])
+    volumeB (wraps ∷ reachedAlready ∷ supersededLater ∷ higherBranch ∷ roomExactly ∷ bytesInOrder ∷ refusal1 ∷ refusal2 ∷ refusal3 ∷ refusal4 ∷ refusal5 ∷ refusal8 ∷ refusal9 ∷ dataFirst ∷ refusal10 ∷ recoveryCut ∷ recoveredAgain ∷ newestFirst ∷ firstRead ∷ doneAlready ∷ closingRecycled ∷ signedParkSector ∷ [])
     ∷ volumeA (refusal7 ∷ [])
     ∷ record { format = record { n = 4; l = 2; stores = 4 }; rows = formatCut ∷ [] }
     ∷ []

@@ -3,4 +3,6 @@ pub mod Rows
 pub mod ByHand
 pub mod Corners
 pub mod Readings
+pub mod Lent
+pub mod Sound
 pub mod Limits

@@ -7,7 +7,8 @@ use mathlib.Core.List.{List, [], _∷_, map}
 use mathlib.Core.Option.{Option, none, some}
 use lib.ListN.{length, replicate}
 use Rattle.state.specs.declared.State.{State}
-use Rattle.state.specs.declared.Phase.the-variants.{Cut}
+use Rattle.state.specs.declared.Phase.{Phase}
+use Rattle.state.specs.declared.Phase.the-variants.{Running, Parked, Cut}
 use Rattle.layout.specs.Bounded.{at, allBelow, anyBelow, countBelow, best, all, elem, distinct, same, listFrom, tabled, gathered, updates}
 use Rattle.geometry.specs.Geometry.{piecesFor, usedBytes}
 use Rattle.geometry.proofs.Sized.{sized, asked}
@@ -91,6 +92,12 @@ unfoldable pub outcomeOf : Formatted → List Call → After
 unfolding held run formatted
 outcomeOf f calls = run calls (formatted f)
 
+-- A phase as a number.
+abbrev pub phaseNumber : Phase → ℕ
+phaseNumber Running = 0
+phaseNumber Parked = 1
+phaseNumber Cut = 2
+
 -- The numbers of the last answer, and of the state.
 pub record Result : Type 0 where
   pub answer : ℕ
@@ -99,6 +106,7 @@ pub record Result : Type 0 where
   pub reads : ℕ
   pub tail : ℕ
   pub number : ℕ
+  pub phase : ℕ
 
 abbrev pub resultOf : After → Result
 resultOf a =
@@ -110,11 +118,13 @@ resultOf a =
       reads = readsOf answer;
       tail = a .outcome .state .tail;
       number = a .outcome .state .number;
+      phase = phaseNumber (a .outcome .state .phase);
     }
 
--- All that is to be seen: the result; the free sectors; for each piece the place, number, kind and branches of its live map
--- sector; each block that has an entry, with it; for each sector its number where it is signed; word 1 of the tail's
--- sector; and the 512 bytes of a read of the row's block, 238 each where it is refused.
+-- All that is to be seen: the result; the free sectors; for each piece the place of its live map sector and the number, piece,
+-- kind and branches that stand there; each block that has an entry, with it; for each sector its number where it is signed;
+-- word 1 of the tail's sector; the 512 bytes of a read of the row's block, 238 each where it is refused; and the 512 bytes of
+-- the row's sector as they stand in the image.
 pub record Report : Type 0 where
   pub result : Result
   pub free : List ℕ
@@ -123,10 +133,12 @@ pub record Report : Type 0 where
   pub sectors : List ℕ
   pub balance : ℕ
   pub block : List ℕ
+  pub bytes : List ℕ
 
 pub record Row : Type 0 where
   pub calls : List Call
   pub block : ℕ
+  pub sector : ℕ
   pub says : Report
 
 freeIn : Memory → ℕ → ℕ → List ℕ
@@ -141,7 +153,7 @@ entriesIn m b (suc n) =
 
 seen : ℕ → Option MapSector → List ℕ
 seen k none = k ∷ []
-seen k (some m) = k ∷ m .number ∷ kindOf (m .closing) ∷ m .branches
+seen k (some m) = k ∷ m .number ∷ m .piece ∷ kindOf (m .closing) ∷ m .branches
 
 -- What stands at the live place of a piece.
 unfoldable pub liveSector : Formatted → Memory → ℕ → List ℕ
@@ -178,6 +190,7 @@ givesOn f fresh row =
       sectors = listFrom (λ k. let number = numberIn (decoded (sized n l) (m .image k)) in cond (startsWith mapMark (m .image k)) number 0) 0 n;
       balance = at (wordsOf (m .image (s .tail))) 1;
       block = readOf s m (row .block) (full 238) .out;
+      bytes = m .image (row .sector);
     }
 
 -- Rows of one volume, which is formatted once for all of them.
