@@ -5,6 +5,7 @@ pub mod Words
 pub mod Sums
 pub mod Lists
 pub mod Sectors
+pub mod Views
 pub mod Balanced
 pub mod Filling
 pub mod Bounded
