@@ -218,7 +218,9 @@ module _ (g : Geometry) (fit : Fits g) (before : ℕ → List ℕ) where
   -- Each piece is reached from the one after it.
   reached : (k p : ℕ) → p + suc k ≡ piecesFor (g .l) → Reaches (imageView g image′) (formatTables (g .l) .place) (piecesFor (g .l)) (piecesFor (g .l)) p
   unfolding elem
-  reached zero p e = itself {p = p} (omega arith) (place-at p (omega arith) ∙ (let z : suc p ≡ piecesFor (g .l) = omega arith in z))
+  reached zero p e =
+      let last : suc p ≡ piecesFor (g .l) = omega arith in
+      itself {p = p} (omega arith) (place-at p (omega arith) ∙ last) (ap (imageView g image′) (sym last) ∙ view-piece p (omega arith))
   reached (suc k) p e =
       let here = place-at p (omega arith) in
       let next = place-at (suc p) (omega arith) in

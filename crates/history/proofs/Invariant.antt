@@ -53,12 +53,12 @@ pub record Settled (g : Geometry) (image : ℕ → List ℕ) (t : Tables) (tail 
   pub none-above : (k : ℕ) (a : MapSector) → imageView g image k ≡ some a → a .number ≤ number
 
 pub reaches-below : {view : View} {live : ℕ → ℕ} {pieces tail p : ℕ} → Reaches view live pieces tail p → p < pieces
-reaches-below (itself h e) = h
+reaches-below (itself h e v) = h
 reaches-below (through r e h f g lt) = h
 
 pub reaches-moves : {view : View} {live : ℕ → ℕ} {pieces tail p : ℕ} (other : View)
     → ((q : ℕ) → q < pieces → other (live q) ≡ view (live q)) → Reaches view live pieces tail p → Reaches other live pieces tail p
-reaches-moves other f (itself h e) = itself h e
+reaches-moves {view} other f (itself {p = p} h e v) = itself h e (ap other (sym e) ∙ f p h ∙ ap view e ∙ v)
 reaches-moves other f (through {q = q} {p = p} r e h g v lt) =
     through (reaches-moves other f r) (f q (reaches-below r) ∙ e) h g (f p h ∙ v) lt
 

@@ -1,4 +1,4 @@
--- Whole histories, from the invariant to the theorem in History.
+-- Whole histories, from the invariant to the theorem in History; the stores that a cut leaves; and the theorem of what a program sees.
 pub mod Invariant
 pub mod Scan
 pub mod Clearing
@@ -14,3 +14,5 @@ pub mod Recovery
 pub mod Steps
 pub mod Calls
 pub mod History
+pub mod Cut
+pub mod Seen

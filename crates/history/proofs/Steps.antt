@@ -69,7 +69,9 @@ module _ (g : Geometry) (image : ℕ → List ℕ) (t : Tables) (tail number : �
 
   pub live-reached : (p : ℕ) → Reaches (imageView g image) (t .place) (piecesFor (g .l)) tail p
       → Reaches (imageView g image) (livePlace (g .n) (imageView g image)) (piecesFor (g .l)) (newestClosing (g .n) (imageView g image)) p
-  live-reached p (itself h e) = itself h (place-same p h ∙ e ∙ sym (finds-tail g image t tail number disk fit c))
+  live-reached p (itself h e v) =
+      let newest = finds-tail g image t tail number disk fit c in
+      itself h (place-same p h ∙ e ∙ sym newest) (ap (imageView g image) newest ∙ v)
   live-reached p (through {q = q} r e h f v lt) =
       through (live-reached q r) (ap (imageView g image) (place-same q (reaches-below r)) ∙ e) h
       (rw (place-same p h) f) (ap (imageView g image) (place-same p h) ∙ v) lt

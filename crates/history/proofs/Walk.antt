@@ -257,7 +257,7 @@ module _ (g : Geometry) (image : ℕ → List ℕ) (t : Tables) (tail number : �
   newest-ready : (w : Walk) → Between w → (top : ℕ) → ((p : ℕ) → p < piecesFor (g .l) → w .taken p ≡ 0 → t .number p ≤ t .number top)
       → Reaches view (t .place) (piecesFor (g .l)) tail top → Ready w top
   unfolding branchesIn
-  newest-ready w b top most (itself h e) = b .starts top h e
+  newest-ready w b top most (itself h e v) = b .starts top h e
   newest-ready w b top most (through {q = q} {a = a} {b = m} r e h f v lt) =
       let hq = reaches-below r in
       let lq = c .ground .live q hq in

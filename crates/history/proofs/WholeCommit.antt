@@ -301,7 +301,9 @@ module _ (g : Start) where
 
   member-reached : (k p : ℕ) → plan g .written p ≡ true → rank (plan g) p + suc k ≡ plan g .members → Reached p
   unfolding rank elem
-  member-reached zero p e m = itself (written-below g p e) (tail-place p e (let x : plan g .members ≡ suc (rank (plan g) p) = omega arith in x))
+  member-reached zero p e m =
+      let last = tail-place p e (let x : plan g .members ≡ suc (rank (plan g) p) = omega arith in x) in
+      itself (written-below g p e) last (ap (imageView (s .geometry) image′) (sym last) ∙ view-written p e)
   member-reached (suc k) p e m =
       let w = count-nth (plan g .written) (piecesFor (s .geometry .l)) (suc (rank (plan g) p)) (let i = members-is g in omega arith) in
       let q = w .0 in

@@ -77,9 +77,10 @@ liveSectors g view =
     let log = scannedLog g view (closedUpTo (g .n) view) in
     namedBy (g .l) (log .tables .entry) (log .tables .place)
 
--- The live map sector of a piece is reached from the tail, branch by branch to lower numbers, through live map sectors alone.
+-- The live map sector of a piece is reached from the tail, a signed sector, branch by branch to lower numbers, through live map
+-- sectors alone.
 pub data Reaches (view : View) (live : ℕ → ℕ) (pieces tail : ℕ) : ℕ → Type 0 where
-  itself : {p : ℕ} → p < pieces → live p ≡ tail → Reaches view live pieces tail p
+  itself : {p : ℕ} {m : MapSector} → p < pieces → live p ≡ tail → view tail ≡ some m → Reaches view live pieces tail p
   through : {q p : ℕ} {a b : MapSector} → Reaches view live pieces tail q → view (live q) ≡ some a → p < pieces
       → elem (live p) (a .branches) ≡ true → view (live p) ≡ some b → b .number < a .number → Reaches view live pieces tail p
 

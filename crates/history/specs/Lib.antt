@@ -1,2 +1,4 @@
--- What a reader must believe of demand 3: lists of calls, the plain disk, and the claim.
+-- What a reader must believe of demand 3: lists of calls, the plain disk, and the claim; the stores of a call; what a program sees.
 pub mod History
+pub mod Cut
+pub mod Seen
