@@ -11,7 +11,8 @@ use Rattle.answer.specs.declared.Cost.{Cost}
 use Rattle.answer.specs.declared.Answer.{Answer}
 use Rattle.answer.specs.Answer.{isRefusal, numberOf, costOf, wayOf, readsOf}
 use Rattle.plain.specs.declared.CState.{CState}
-use Rattle.plain.specs.Plain.{phaseOf, phaseNumber, stateIn, stateOf, plainIn, plainOf, stateLeft, joined, resultOf}
+use Rattle.state.specs.State.{phaseNumber}
+use Rattle.plain.specs.Plain.{phaseOf, stateIn, stateOf, plainIn, plainOf, stateLeft, joined, resultOf}
 
 pub phase-running : (n : ℕ) → n ≡ 0 → Running ≡ phaseOf n
 unfolding phaseOf

@@ -5,6 +5,7 @@ use lib.Dec.{eqb}
 use Rattle.state.specs.declared.State.{State}
 use Rattle.state.specs.declared.Phase.{Phase}
 use Rattle.state.specs.declared.Phase.the-variants.{Running, Parked, Cut}
+use Rattle.state.specs.State.{phaseNumber}
 use Rattle.state.specs.declared.Outcome.{Outcome}
 use Rattle.answer.specs.declared.Cost.{Cost}
 use Rattle.answer.specs.declared.Answer.{Answer}
@@ -12,12 +13,7 @@ use Rattle.answer.specs.Answer.{isRefusal, numberOf, costOf, wayOf, readsOf}
 use Rattle.plain.specs.declared.CState.{CState}
 use Rattle.plain.specs.declared.CResult.{CResult}
 
--- 0 running, 1 parked, 2 cut. Any other number is neither running nor readable, as cut is.
-abbrev pub phaseNumber : Phase → ℕ
-phaseNumber Running = 0
-phaseNumber Parked = 1
-phaseNumber Cut = 2
-
+-- A number that is no phase is neither running nor readable, as cut is.
 unfoldable pub phaseOf : ℕ → Phase
 phaseOf number = cond (eqb number 0) Running (cond (eqb number 1) Parked Cut)
 

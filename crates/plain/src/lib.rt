@@ -1,6 +1,7 @@
 // A state and a result in plain numbers, as they cross to C.
 ghost use mathlib.Core.Path.{_≡_};
-ghost use Rattle.plain.specs.Plain.{phaseOf, phaseNumber, stateOf, plainOf, stateLeft, resultOf};
+ghost use Rattle.state.specs.State.{phaseNumber};
+ghost use Rattle.plain.specs.Plain.{phaseOf, stateOf, plainOf, stateLeft, resultOf};
 use answer::Answer;
 use geometry::Geometry;
 use state::Outcome;

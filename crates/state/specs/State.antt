@@ -6,6 +6,12 @@ use Rattle.state.specs.declared.State.{State}
 use Rattle.state.specs.declared.Phase.{Phase}
 use Rattle.state.specs.declared.Phase.the-variants.{Running, Parked, Cut}
 
+-- The phases as numbers, where numbers are all that a caller knows.
+abbrev pub phaseNumber : Phase → ℕ
+phaseNumber Running = 0
+phaseNumber Parked = 1
+phaseNumber Cut = 2
+
 -- The state with another phase.
 abbrev pub inPhase : State → Phase → State
 inPhase s phase = record { geometry = s .geometry; tail = s .tail; number = s .number; phase = phase }

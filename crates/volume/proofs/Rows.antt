@@ -7,8 +7,8 @@ use mathlib.Core.List.{List, [], _∷_, map}
 use mathlib.Core.Option.{Option, none, some}
 use lib.ListN.{length, replicate}
 use Rattle.state.specs.declared.State.{State}
-use Rattle.state.specs.declared.Phase.{Phase}
-use Rattle.state.specs.declared.Phase.the-variants.{Running, Parked, Cut}
+use Rattle.state.specs.declared.Phase.the-variants.{Cut}
+use Rattle.state.specs.State.{phaseNumber}
 use Rattle.layout.specs.Bounded.{at, allBelow, anyBelow, countBelow, best, all, elem, distinct, same, listFrom, tabled, gathered, updates}
 use Rattle.geometry.specs.Geometry.{piecesFor, usedBytes}
 use Rattle.geometry.proofs.Sized.{sized, asked}
@@ -91,12 +91,6 @@ formatted f =
 unfoldable pub outcomeOf : Formatted → List Call → After
 unfolding held run formatted
 outcomeOf f calls = run calls (formatted f)
-
--- A phase as a number.
-abbrev pub phaseNumber : Phase → ℕ
-phaseNumber Running = 0
-phaseNumber Parked = 1
-phaseNumber Cut = 2
 
 -- The numbers of the last answer, and of the state.
 pub record Result : Type 0 where
