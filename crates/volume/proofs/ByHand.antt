@@ -1,7 +1,7 @@
 -- What no call does: the image changed by hand, and a volume whose numbers are nearly used up.
 use Prim.Native.Nat.{ℕ}
 use mathlib.Core.Bool.{Bool, true}
-use mathlib.Core.List.{List, []}
+use mathlib.Core.List.{List, [], _∷_}
 use lib.ListN.{replicate}
 use Rattle.answer.specs.declared.Answer.the-variants.{Accepted}
 use Rattle.answer.specs.Answer.{storesAlone}
@@ -25,6 +25,13 @@ copied from to s m = overwritten to (m .image from) s m
 
 unfoldable pub signedAt : ℕ → ℕ → ℕ → Bool → List ℕ → Call
 signedAt k number piece closing branches = overwritten k (signed number piece closing branches)
+
+-- The same with one entry, the piece's first.
+unfoldable pub namingAt : ℕ → ℕ → ℕ → Bool → List ℕ → ℕ → Call
+namingAt k number piece closing branches entry =
+    overwritten k
+    (encoded 200
+    (record { number = number; piece = piece; closing = closing; branches = branches; entries = entry ∷ replicate 95 0 }))
 
 unfoldable pub parkedAt : ℕ → ℕ → Call
 parkedAt number tail = overwritten 0 (parkRecord (record { number = number; tail = tail }))

@@ -7,7 +7,7 @@ use lib.ListN.{replicate}
 use Rattle.layout.specs.Entry.{blank}
 use Rattle.layout.proofs.Conditions.{signed}
 use Rattle.volume.proofs.Rows.{Row, Table, gives, says, volumeA, volumeB, full, enough, writeBytes, write, drop, park, recover}
-use Rattle.volume.proofs.ByHand.{overwritten, blankAt, copied, signedAt, parkedAt, numbered}
+use Rattle.volume.proofs.ByHand.{overwritten, blankAt, copied, signedAt, namingAt, parkedAt, numbered}
 
 -- A search from the last sector goes on at 1, where 1 to 3 are used. Two stores are just enough.
 wraps : Row
@@ -408,6 +408,64 @@ doneAlready =
       };
     }
 
+-- The park record names a member, not a closing sector: it does not walk, though every piece could be reached from there.
+memberParked : Row
+memberParked =
+    record {
+      calls = signedAt 7 10 2 false (2 ∷ []) ∷ parkedAt 10 7 ∷ recover 200 enough ∷ [];
+      block = 5;
+      sector = 7;
+      says = record {
+        result = record { answer = 0; stores = 2; way = 2; reads = 12; tail = 3; number = 3; phase = 0 };
+        free = 4 ∷ 5 ∷ 6 ∷ 7 ∷ 8 ∷ 9 ∷ 10 ∷ 11 ∷ [];
+        live = (1 ∷ 1 ∷ 0 ∷ 0 ∷ []) ∷ (2 ∷ 2 ∷ 1 ∷ 0 ∷ 1 ∷ []) ∷ (3 ∷ 3 ∷ 2 ∷ 1 ∷ 2 ∷ []) ∷ [];
+        entries = [];
+        sectors = 0 ∷ 1 ∷ 2 ∷ 3 ∷ 0 ∷ 0 ∷ 0 ∷ 0 ∷ 0 ∷ 0 ∷ 0 ∷ 0 ∷ [];
+        balance = 0xCEB2B2D9;
+        block = blank;
+        bytes = blank;
+      };
+    }
+
+-- The walk takes sector 6, whose entry names sector 4, a live place: its tables are not sound, and the scan answers, which takes the newer
+-- sector 5 in its place.
+unsoundWalk : Row
+unsoundWalk =
+    record {
+      calls = blankAt 1 ∷ blankAt 2 ∷ blankAt 3 ∷ signedAt 7 10 2 true (6 ∷ 4 ∷ []) ∷ namingAt 6 8 0 false [] 4 ∷ signedAt 5 9 0 false [] ∷ signedAt 4 7 1 false [] ∷ parkedAt 10 7 ∷ recover 200 enough ∷ [];
+      block = 5;
+      sector = 0;
+      says = record {
+        result = record { answer = 0; stores = 1; way = 2; reads = 12; tail = 7; number = 10; phase = 0 };
+        free = 1 ∷ 2 ∷ 3 ∷ 6 ∷ 8 ∷ 9 ∷ 10 ∷ 11 ∷ [];
+        live = (5 ∷ 9 ∷ 0 ∷ 0 ∷ []) ∷ (4 ∷ 7 ∷ 1 ∷ 0 ∷ []) ∷ (7 ∷ 10 ∷ 2 ∷ 1 ∷ 6 ∷ 4 ∷ []) ∷ [];
+        entries = [];
+        sectors = 0 ∷ 0 ∷ 0 ∷ 0 ∷ 7 ∷ 9 ∷ 8 ∷ 10 ∷ 0 ∷ 0 ∷ 0 ∷ 0 ∷ [];
+        balance = 0xCEB2B2C9;
+        block = blank;
+        bytes = blank;
+      };
+    }
+
+-- 9: no number is there twice and no piece is missing, but an entry names a live place.
+unsoundScan : Row
+unsoundScan =
+    record {
+      calls = namingAt 3 3 2 true (2 ∷ []) 1 ∷ recover 200 enough ∷ [];
+      block = 0;
+      sector = 0;
+      says = record {
+        result = record { answer = 9; stores = 0; way = 0; reads = 0; tail = 0; number = 0; phase = 2 };
+        free = 0 ∷ 1 ∷ 2 ∷ 3 ∷ 4 ∷ 5 ∷ 6 ∷ 7 ∷ 8 ∷ 9 ∷ 10 ∷ 11 ∷ [];
+        live = (0 ∷ []) ∷ (0 ∷ []) ∷ (0 ∷ []) ∷ [];
+        entries = [];
+        sectors = 0 ∷ 1 ∷ 2 ∷ 3 ∷ 0 ∷ 0 ∷ 0 ∷ 0 ∷ 0 ∷ 0 ∷ 0 ∷ 0 ∷ [];
+        balance = 0x00000000;
+        block = full 238;
+        bytes = blank;
+      };
+    }
+
 -- Sector 9 closed the commit of sector 8, and holds data now: sector 8 is live all the same.
 closingRecycled : Row
 closingRecycled =
@@ -467,10 +525,10 @@ formatCut =
 
 unfoldable pub corners : List Table
 unfolding wraps reachedAlready supersededLater higherBranch roomExactly bytesInOrder refusal1 refusal2 refusal3 refusal4 refusal5 refusal8 refusal9 dataFirst
-    refusal10 recoveryCut recoveredAgain newestFirst firstRead doneAlready closingRecycled signedParkSector refusal7 formatCut overwritten blankAt
-    copied signedAt parkedAt numbered signed
+    refusal10 recoveryCut recoveredAgain newestFirst firstRead doneAlready memberParked unsoundWalk unsoundScan closingRecycled signedParkSector refusal7 formatCut overwritten blankAt
+    copied signedAt namingAt parkedAt numbered signed
 corners =
-    volumeB (wraps ∷ reachedAlready ∷ supersededLater ∷ higherBranch ∷ roomExactly ∷ bytesInOrder ∷ refusal1 ∷ refusal2 ∷ refusal3 ∷ refusal4 ∷ refusal5 ∷ refusal8 ∷ refusal9 ∷ dataFirst ∷ refusal10 ∷ recoveryCut ∷ recoveredAgain ∷ newestFirst ∷ firstRead ∷ doneAlready ∷ closingRecycled ∷ signedParkSector ∷ [])
+    volumeB (wraps ∷ reachedAlready ∷ supersededLater ∷ higherBranch ∷ roomExactly ∷ bytesInOrder ∷ refusal1 ∷ refusal2 ∷ refusal3 ∷ refusal4 ∷ refusal5 ∷ refusal8 ∷ refusal9 ∷ dataFirst ∷ refusal10 ∷ recoveryCut ∷ recoveredAgain ∷ newestFirst ∷ firstRead ∷ doneAlready ∷ memberParked ∷ unsoundWalk ∷ unsoundScan ∷ closingRecycled ∷ signedParkSector ∷ [])
     ∷ volumeA (refusal7 ∷ [])
     ∷ record { format = record { n = 4; l = 2; stores = 4 }; rows = formatCut ∷ [] }
     ∷ []
