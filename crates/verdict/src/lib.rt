@@ -5,7 +5,7 @@ ghost use mathlib.Core.List.{[]};
 ghost use Prim.Native.Nat.{_+_, _≤_};
 ghost use lib.ListN.{length};
 ghost use lib.Dec.{ltb};
-ghost use Rattle.geometry.specs.Geometry.{piecesFor};
+ghost use Rattle.geometry.specs.Geometry.{piecesFor, commitBlocks};
 ghost use Rattle.volume.specs.Tables.{bitAt, memory, freeSectors};
 ghost use Rattle.answer.specs.Answer.{standing};
 ghost use Rattle.volume.specs.Refusals.{firstOf, judged};
@@ -32,7 +32,7 @@ fn standing_verdict(
 ) -> Verdict
     requires { ⌜ stateFits s (memory (now image) (now map) (now places) (now numbers) (now used)) ≡ true ⌝ }
     requires { ⌜ tablesFit (memory (now image) (now map) (now places) (now numbers) (now used)) (s .geometry) ≡ true ⌝ }
-    requires { ⌜ count ≤ 64 ⌝ }
+    requires { ⌜ count ≤ commitBlocks ⌝ }
     ensures { λ r. ⌜ r ≡ firstOf standing (commitChecks base s (memory (now (image .entry)) (now (map .entry)) (now (places .entry)) (now (numbers .entry)) (now (used .entry))) 0 [] true (not (ltb (freeSectors (s .geometry .n) (bitAt (now (used .entry)))) (count + piecesFor (s .geometry .l))))) ⌝ }
 {
     if !s.is_running() {
