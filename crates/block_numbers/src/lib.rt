@@ -55,7 +55,7 @@ pub fn blocks_fit(g: Geometry, head: u32, blocks: &[u32]) -> bool
     if blocks.len() < 1 {
         return false;
     }
-    if 64 < blocks.len() {
+    if Geometry::COMMIT_BLOCKS < blocks.len() {
         return false;
     }
     if !ascending(blocks) {

@@ -7,6 +7,7 @@ ghost use lib.ListN.{length};
 ghost use Rattle.geometry.specs.Geometry.{sectorBytes};
 ghost use Rattle.layout.specs.Bounded.{at, all, isZero};
 ghost use Rattle.layout.specs.Entry.{sectorOf, isFlipped, complemented, needsFlip, stored, entryFor, restored};
+use geometry::Geometry;
 
 // Bit 31 of an entry.
 const FLIPPED: u32 = 2_147_483_648;
@@ -79,7 +80,7 @@ pub fn restore_block(out: &mut [u8], entry: u32, bytes: &[u8])
     ensures { λ _. ⌜ now (out .exit) ≡ restored entry (now (bytes .entry)) ⌝ }
 {
     if entry == 0 {
-        let zeros = [0u8; 512];
+        let zeros = [0u8; Geometry::SECTOR];
         marks::copy_over(out, &zeros);
         return;
     }

@@ -21,6 +21,7 @@ ghost use Rattle.volume.specs.Calls.{viewOf, commitChecks};
 ghost use Rattle.pieces.specs.Arrays.{flagged, planOf, changeOf, Settling};
 ghost use Rattle.commit.specs.Commit.{changeWith, changeBy};
 use answer::Answer;
+use geometry::Geometry;
 use power::allowance::Power;
 use state::Outcome;
 use state::State;
@@ -166,10 +167,10 @@ pub fn commit(
     requires { ⌜ length (now bytes) ≡ sectorBytes * count ⌝ }
     ensures { λ r. ⌜ after r (memory (now (image .exit)) (now (map .exit)) (now (places .exit)) (now (numbers .exit)) (now (used .exit))) ≡ performed allowance (commitAction base s (tablesOf (now (map .entry)) (now (places .entry)) (now (numbers .entry)) (now (used .entry))) (viewOf (s .geometry) (sectorAt (now (image .entry)))) head (changeBy (now (blocks .entry)) (now (bytes .entry)) count)) (memory (now (image .entry)) (now (map .entry)) (now (places .entry)) (now (numbers .entry)) (now (used .entry))) ⌝ }
 {
-    let mut written = [0u8; 256];
-    let mut branches = [0u32; 25];
-    let mut taken = [0u32; 320];
-    let mut news = [0u32; 64];
+    let mut written = [0u8; Geometry::MOST_PIECES];
+    let mut branches = [0u32; Geometry::FOLDING_BRANCHES];
+    let mut taken = [0u32; Geometry::COMMIT_SECTORS];
+    let mut news = [0u32; Geometry::COMMIT_BLOCKS];
     let sizes = plan::plan(
         s,
         image,

@@ -4,14 +4,34 @@ ghost use mathlib.Core.Path.{_≡_};
 ghost use mathlib.Core.Bool.{true, false};
 ghost use Prim.Native.Nat.{ℕ, _+_, _*_, _≤_, _<_};
 ghost use lib.ListN.{length};
+ghost use Rattle.geometry.specs.Geometry.{mostSectors};
 ghost use Rattle.layout.specs.Bounded.{at, distinct};
 ghost use Rattle.distinct.specs.Chains.{groups, rests, groupOf, lastIn, Back, Linked, Apart};
+use geometry::Geometry;
 
 // A group for each value of the upper 15 bits.
 const GROUPS: u16 = 32_768;
 
 // The values of the lower 17.
 const RESTS: u32 = 131_072;
+
+// Up to so many numbers are few, and are told apart by so many residues.
+const FEW: usize = 256;
+
+const FEW_RESIDUES: usize = 1_024;
+
+// Up to so many are some. These, and more, are told apart by the lower 16 bits.
+const SOME: usize = 4_096;
+
+const LOWER: u32 = 65_536;
+
+const RESIDUES: usize = LOWER as usize;
+
+// The greatest prime below, by which numbers that agree in these bits hardly ever agree. It is tried of no more numbers than so many: for
+// others the tables of the chains are cleared soon enough.
+const PRIME: usize = 65_521;
+
+const TRIED_AGAIN: usize = 16_384;
 
 // Whether no two numbers agree modulo m, by a bit for each residue: then they are all different. If two do, they may be different all the
 // same.
@@ -32,42 +52,41 @@ fn residues_apart(xs: &[u32], m: usize, seen: &mut [u8]) -> bool
     true
 }
 
-// The same modulo 1,024, for a few numbers: the map is cleared soon.
+// The same for a few numbers: the map is cleared soon.
 fn few_apart(xs: &[u32]) -> bool
     ensures { λ r. ⌜ (r ≡ true → distinct (now (xs .entry)) ≡ true) ⌝ }
 {
-    let mut seen = [0u8; 128];
-    residues_apart(xs, 1024, &mut seen)
+    let mut seen = [0u8; FEW_RESIDUES / 8];
+    residues_apart(xs, FEW_RESIDUES, &mut seen)
 }
 
-// The same modulo 65,536.
+// The same for some.
 fn some_apart(xs: &[u32]) -> bool
     ensures { λ r. ⌜ (r ≡ true → distinct (now (xs .entry)) ≡ true) ⌝ }
 {
-    let mut seen = [0u8; 8192];
-    residues_apart(xs, 65536, &mut seen)
+    let mut seen = [0u8; RESIDUES / 8];
+    residues_apart(xs, RESIDUES, &mut seen)
 }
 
-// The same modulo the prime 65,521, by which numbers that agree modulo 65,536 hardly ever agree. Not of more than 16,384: for so many the
-// tables of the chains are cleared soon enough.
+// The same modulo the prime.
 fn again_apart(xs: &[u32]) -> bool
     ensures { λ r. ⌜ (r ≡ true → distinct (now (xs .entry)) ≡ true) ⌝ }
 {
-    if 16384 < xs.len() {
+    if TRIED_AGAIN < xs.len() {
         return false;
     }
-    let mut seen = [0u8; 8192];
-    residues_apart(xs, 65521, &mut seen)
+    let mut seen = [0u8; RESIDUES / 8];
+    residues_apart(xs, PRIME, &mut seen)
 }
 
-// The same modulo 65,536, in bytes: each number takes less time, and the table is cleared later.
+// The same as for some, in bytes: each number takes less time, and the table is cleared later.
 fn many_apart(xs: &[u32]) -> bool
     ensures { λ r. ⌜ (r ≡ true → distinct (now (xs .entry)) ≡ true) ⌝ }
 {
-    let mut seen = [0u8; 65536];
+    let mut seen = [0u8; RESIDUES];
     let mut i = 0;
     while i < xs.len() {
-        let residue = (xs[i] % 65536) as usize;
+        let residue = (xs[i] % LOWER) as usize;
         if seen[residue] == 1 {
             return false;
         }
@@ -80,7 +99,7 @@ fn many_apart(xs: &[u32]) -> bool
 // Chains the numbers by group: a group's head is one more than the index of its last number, and next leads from each number to the
 // one before it in its group; 0 stands for none.
 fn link(xs: &[u32], heads: &mut [u32], next: &mut [u16])
-    requires { ⌜ length (now xs) ≤ 65536 ⌝ }
+    requires { ⌜ length (now xs) ≤ mostSectors ⌝ }
     requires { ⌜ length (now heads) ≡ groups ⌝ }
     requires { ⌜ ((g : ℕ) → at (now heads) g ≡ 0) ⌝ }
     requires { ⌜ length (now xs) ≤ length (now next) ⌝ }
@@ -141,22 +160,22 @@ fn groups_distinct(xs: &[u32], heads: &[u32], next: &[u16], stamps: &mut [u16]) 
 // a megabyte. It is called from two places, and with the residues it is too long to be merged into them, so that the compiler keeps
 // the tables out of its callers' frames.
 fn words_distinct(xs: &[u32]) -> bool
-    requires { ⌜ length (now xs) ≤ 65536 ⌝ }
+    requires { ⌜ length (now xs) ≤ mostSectors ⌝ }
     ensures { λ r. ⌜ r ≡ distinct (now (xs .entry)) ⌝ }
 {
     if again_apart(xs) {
         return true;
     }
     let mut heads = [0u32; GROUPS as usize];
-    let mut next = [0u16; 65536];
+    let mut next = [0u16; Geometry::MOST_SECTORS as usize];
     let mut stamps = [0u16; RESTS as usize];
     link(xs, &mut heads, &mut next);
     groups_distinct(xs, &heads, &next, &mut stamps)
 }
 
-// The answer for at most 256 numbers.
+// The answer for a few numbers.
 fn few_distinct(xs: &[u32]) -> bool
-    requires { ⌜ length (now xs) ≤ 65536 ⌝ }
+    requires { ⌜ length (now xs) ≤ mostSectors ⌝ }
     ensures { λ r. ⌜ r ≡ distinct (now (xs .entry)) ⌝ }
 {
     if few_apart(xs) {
@@ -165,9 +184,9 @@ fn few_distinct(xs: &[u32]) -> bool
     some_distinct(xs)
 }
 
-// For at most 4,096.
+// For some.
 fn some_distinct(xs: &[u32]) -> bool
-    requires { ⌜ length (now xs) ≤ 65536 ⌝ }
+    requires { ⌜ length (now xs) ≤ mostSectors ⌝ }
     ensures { λ r. ⌜ r ≡ distinct (now (xs .entry)) ⌝ }
 {
     if some_apart(xs) {
@@ -178,7 +197,7 @@ fn some_distinct(xs: &[u32]) -> bool
 
 // For more.
 fn many_distinct(xs: &[u32]) -> bool
-    requires { ⌜ length (now xs) ≤ 65536 ⌝ }
+    requires { ⌜ length (now xs) ≤ mostSectors ⌝ }
     ensures { λ r. ⌜ r ≡ distinct (now (xs .entry)) ⌝ }
 {
     if many_apart(xs) {
@@ -189,13 +208,13 @@ fn many_distinct(xs: &[u32]) -> bool
 
 // Whether no two of the numbers are equal. The fewer they are, the smaller is the table that is cleared for them.
 pub fn numbers_distinct(xs: &[u32]) -> bool
-    requires { ⌜ length (now xs) ≤ 65536 ⌝ }
+    requires { ⌜ length (now xs) ≤ mostSectors ⌝ }
     ensures { λ r. ⌜ r ≡ distinct (now (xs .entry)) ⌝ }
 {
-    if xs.len() <= 256 {
+    if xs.len() <= FEW {
         return few_distinct(xs);
     }
-    if xs.len() <= 4096 {
+    if xs.len() <= SOME {
         return some_distinct(xs);
     }
     many_distinct(xs)

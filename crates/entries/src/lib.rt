@@ -3,7 +3,7 @@ ghost use mathlib.Core.Path.{_≡_};
 ghost use mathlib.Core.List.{_++_};
 ghost use Prim.Native.Nat.{ℕ, _+_, _*_, _≤_, _<_, _^_};
 ghost use lib.ListN.{length, drop};
-ghost use Rattle.geometry.specs.Geometry.{sectorBytes, entriesPerPiece};
+ghost use Rattle.geometry.specs.Geometry.{sectorBytes, entriesPerPiece, mostPieces};
 ghost use Rattle.layout.specs.Bounded.{at, listFrom, updates};
 ghost use Rattle.layout.specs.Entry.{entryFor};
 ghost use Rattle.volume.specs.Tables.{sectorAt, pieceEntries};
@@ -28,14 +28,14 @@ pub fn entries_for(bytes: &[u8], places: &[u32], count: usize, entries: &mut [u3
 
 // The entries of a piece that the map has whole, copied several at a time.
 fn copy_whole(map: &[u32], p: u32, entries: &mut [u32])
-    requires { ⌜ p < 256 ⌝ }
+    requires { ⌜ p < mostPieces ⌝ }
     requires { ⌜ entriesPerPiece * p + entriesPerPiece ≤ length (now map) ⌝ }
     requires { ⌜ length (now entries) ≡ entriesPerPiece ⌝ }
     ensures { λ _. ⌜ now (entries .exit) ≡ pieceEntries (length (now (map .entry))) (at (now (map .entry))) p ⌝ }
 {
     let first = (Geometry::ENTRIES * p) as usize;
     let mut i = 0;
-    while i < 96 {
+    while i < Geometry::PIECE_ENTRIES {
         entries[i] = map[first + i];
         i += 1;
     }
@@ -43,13 +43,13 @@ fn copy_whole(map: &[u32], p: u32, entries: &mut [u32])
 
 // The entries of any piece: past the map's end they are zero.
 fn copy_last(map: &[u32], p: u32, entries: &mut [u32])
-    requires { ⌜ p < 256 ⌝ }
+    requires { ⌜ p < mostPieces ⌝ }
     requires { ⌜ length (now entries) ≡ entriesPerPiece ⌝ }
     ensures { λ _. ⌜ now (entries .exit) ≡ pieceEntries (length (now (map .entry))) (at (now (map .entry))) p ⌝ }
 {
     let first = (Geometry::ENTRIES * p) as usize;
     let mut i = 0;
-    while i < 96 {
+    while i < Geometry::PIECE_ENTRIES {
         let entry = blocks::entry_of(map, first + i);
         entries[i] = entry;
         i += 1;
@@ -58,7 +58,7 @@ fn copy_last(map: &[u32], p: u32, entries: &mut [u32])
 
 // The entries of piece p, as the map has them.
 fn copy_piece(map: &[u32], p: u32, entries: &mut [u32])
-    requires { ⌜ p < 256 ⌝ }
+    requires { ⌜ p < mostPieces ⌝ }
     requires { ⌜ length (now entries) ≡ entriesPerPiece ⌝ }
     ensures { λ _. ⌜ now (entries .exit) ≡ pieceEntries (length (now (map .entry))) (at (now (map .entry))) p ⌝ }
 {
@@ -81,7 +81,7 @@ pub fn changed_piece(
     from: usize,
 ) -> usize
     requires { ⌜ length (now map) ≡ l ⌝ }
-    requires { ⌜ p < 256 ⌝ }
+    requires { ⌜ p < mostPieces ⌝ }
     requires { ⌜ length (now blocks) ≤ length (now news) ⌝ }
     requires { ⌜ length (now entries) ≡ entriesPerPiece ⌝ }
     requires { ⌜ ((i : ℕ) → i < length (now blocks) → at (now blocks) i < l) ⌝ }

@@ -2,6 +2,7 @@
 ghost use mathlib.Core.Path.{_≡_};
 ghost use Prim.Native.Nat.{suc, _+_, _≤_};
 ghost use lib.ListN.{length, replicate};
+ghost use Rattle.geometry.specs.Geometry.{mostPieces};
 ghost use Rattle.layout.specs.Bounded.{listFrom};
 
 // Zeros.
@@ -27,7 +28,7 @@ pub fn zero_bytes(bytes: &mut [u8])
 
 // 1, 2, 3 and so on.
 pub fn count_up(words: &mut [u32])
-    requires { ⌜ length (now words) ≤ 256 ⌝ }
+    requires { ⌜ length (now words) ≤ mostPieces ⌝ }
     ensures { λ _. ⌜ now (words .exit) ≡ listFrom suc 0 (length (now (words .entry))) ⌝ }
 {
     let mut i = 0;

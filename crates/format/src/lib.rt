@@ -2,7 +2,7 @@
 ghost use mathlib.Core.Path.{_≡_};
 ghost use Prim.Native.Nat.{_*_, _/_, _≤_, _<_};
 ghost use lib.ListN.{length, take};
-ghost use Rattle.geometry.specs.Geometry.{sectorBytes, piecesFor, geometryOf};
+ghost use Rattle.geometry.specs.Geometry.{sectorBytes, piecesFor, geometryOf, mostPieces};
 ghost use Rattle.volume.specs.Tables.{sectorAt, memory};
 ghost use Rattle.volume.specs.Refusals.{judged};
 ghost use Rattle.volume.specs.Store.{applied, after, performed};
@@ -20,7 +20,7 @@ use state::State;
 // All stores of a format, in order, under the allowance.
 fn store_all(image: &mut [u8], g: Geometry, pieces: u32, allowance: u32) -> Power
     requires { ⌜ pieces ≡ piecesFor (g .l) ⌝ }
-    requires { ⌜ pieces ≤ 256 ⌝ }
+    requires { ⌜ pieces ≤ mostPieces ⌝ }
     requires { ⌜ pieces < g .n ⌝ }
     requires { ⌜ length (now image) ≡ sectorBytes * g .n ⌝ }
     ensures { λ r. ⌜ (r ≡ powered (length (formatStores g)) allowance) × (sectorAt (now (image .exit)) ≡ applied (take allowance (formatStores g)) (sectorAt (now (image .entry)))) ⌝ }

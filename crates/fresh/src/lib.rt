@@ -4,7 +4,7 @@ ghost use mathlib.Core.Bool.{cond};
 ghost use Prim.Native.Nat.{_+_, _*_, _≤_, _<_};
 ghost use lib.ListN.{length, take};
 ghost use lib.Dec.{ltb};
-ghost use Rattle.geometry.specs.Geometry.{sectorBytes, piecesFor};
+ghost use Rattle.geometry.specs.Geometry.{sectorBytes, piecesFor, mostPieces};
 ghost use Rattle.layout.specs.Bounded.{always, countBelow, updated};
 ghost use Rattle.layout.specs.Entry.{blank};
 ghost use Rattle.volume.specs.Tables.{sectorAt};
@@ -39,11 +39,11 @@ pub fn blank_sectors(image: &mut [u8], n: u32, allowance: u32) -> Power
 // Piece p of a fresh map goes into sector p + 1 with number p + 1. Each after the first has one branch, to the one before.
 fn store_piece(image: &mut [u8], l: u32, pieces: u32, p: u32)
     requires { ⌜ pieces ≡ piecesFor l ⌝ }
-    requires { ⌜ p < 256 ⌝ }
-    requires { ⌜ sectorBytes * p + 1024 ≤ length (now image) ⌝ }
+    requires { ⌜ p < mostPieces ⌝ }
+    requires { ⌜ sectorBytes * p + 2 * sectorBytes ≤ length (now image) ⌝ }
     ensures { λ _. ⌜ sectorAt (now (image .exit)) ≡ updated (sectorAt (now (image .entry))) (p + 1) (pieceStore l p .bytes) ⌝ }
 {
-    let entries = [0u32; 96];
+    let entries = [0u32; Geometry::PIECE_ENTRIES];
     let branches = [p];
     let number = p + 1;
     if p == 0 {
@@ -74,7 +74,7 @@ fn store_piece(image: &mut [u8], l: u32, pieces: u32, p: u32)
 // The pieces of a fresh map, ascending; only the last one closes.
 pub fn store_pieces(image: &mut [u8], l: u32, pieces: u32, allowance: u32) -> Power
     requires { ⌜ pieces ≡ piecesFor l ⌝ }
-    requires { ⌜ pieces ≤ 256 ⌝ }
+    requires { ⌜ pieces ≤ mostPieces ⌝ }
     requires { ⌜ sectorBytes * pieces + sectorBytes ≤ length (now image) ⌝ }
     ensures { λ r. ⌜ (r ≡ powered (countBelow always pieces) allowance) × (sectorAt (now (image .exit)) ≡ applied (take allowance (storesBelow always (pieceStore l) pieces)) (sectorAt (now (image .entry)))) ⌝ }
 {

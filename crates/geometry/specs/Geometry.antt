@@ -1,5 +1,5 @@
 -- Document 01, "The volume": the sizes of a volume of N sectors that shows L blocks.
-use Prim.Native.Nat.{ℕ, _+_, _*_, _/_, _%_}
+use Prim.Native.Nat.{ℕ, _+_, _*_, _-_, _/_, _%_}
 use mathlib.Core.Bool.{Bool, _&&_}
 use lib.Dec.{leb}
 use Rattle.geometry.specs.declared.Geometry.{Geometry}
@@ -21,15 +21,33 @@ entriesPerPiece = 96
 abbrev pub branchRoom : ℕ
 branchRoom = 24
 
+-- Branches that decide for a fold: one more than there is room for.
+abbrev pub foldingBranches : ℕ
+foldingBranches = branchRoom + 1
+
+-- The greatest L.
 abbrev pub mostBlocks : ℕ
 mostBlocks = 24576
 
+-- The greatest N.
 abbrev pub mostSectors : ℕ
 mostSectors = 65536
 
+-- The greatest P: that of the greatest L.
+abbrev pub mostPieces : ℕ
+mostPieces = mostBlocks / entriesPerPiece
+
+-- Blocks that a commit names at most.
+abbrev pub commitBlocks : ℕ
+commitBlocks = 64
+
+-- Sectors that a commit takes at most: one a block and one a piece.
+abbrev pub commitSectors : ℕ
+commitSectors = commitBlocks + mostPieces
+
 -- P: L / 96 rounded up.
 abbrev pub piecesFor : ℕ → ℕ
-piecesFor l = (l + 95) / entriesPerPiece
+piecesFor l = (l + (entriesPerPiece - 1)) / entriesPerPiece
 
 -- The piece that holds a block's entry, and where in it.
 abbrev pub pieceOf : ℕ → ℕ
@@ -41,6 +59,10 @@ indexOf block = block % entriesPerPiece
 -- Bytes of a used map: one bit a sector.
 abbrev pub usedBytes : ℕ → ℕ
 usedBytes n = (n + 7) / 8
+
+-- Bytes of the largest used map.
+abbrev pub mostUsedBytes : ℕ
+mostUsedBytes = usedBytes mostSectors
 
 -- The volume of N sectors that these settings ask for.
 abbrev pub geometryOf : ℕ → Settings → Geometry

@@ -1,2 +1,3 @@
--- Document 01: the sizes of a volume.
+-- Document 01: the sizes of a volume; and the size classes that the code goes by.
 pub mod Geometry
+pub mod SizeClasses

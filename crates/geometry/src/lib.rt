@@ -25,16 +25,37 @@ impl Settings {
 impl Geometry {
     // Bytes of a sector, and of a block.
     pub const SECTOR: usize = 512;
+    // The same in words of four bytes.
+    pub const WORDS: usize = Geometry::SECTOR / 4;
     // Map entries a piece.
     pub const ENTRIES: u32 = 96;
-    // Branches that a map sector has room for.
+    // The same as a length.
+    pub const PIECE_ENTRIES: usize = Geometry::ENTRIES as usize;
+    // Branches that a map sector has room for: the branch limit.
     pub const BRANCHES: u32 = 24;
-    // The greatest L and N, and the most pieces that follow from L.
+    // The same as a length.
+    pub const BRANCH_ROOM: usize = Geometry::BRANCHES as usize;
+    // Branches that decide for a fold, one more than there is room for. No more are listed.
+    pub const FOLDING_BRANCHES: usize = Geometry::BRANCH_ROOM + 1;
+    // The greatest L and N.
     pub const MOST_BLOCKS: u32 = 24_576;
 
     pub const MOST_SECTORS: u32 = 65_536;
+    // The most pieces: those of the greatest L.
+    pub const MOST_PIECES: usize = (Geometry::MOST_BLOCKS / Geometry::ENTRIES) as usize;
+    // Bytes of the largest used map.
+    pub const MOST_USED_BYTES: usize = Geometry::MOST_SECTORS as usize / 8;
+    // Blocks that a commit names at most, and the sectors that it then takes: one a block and one a piece.
+    pub const COMMIT_BLOCKS: usize = 64;
 
-    pub const MOST_PIECES: u32 = 256;
+    pub const COMMIT_SECTORS: usize = Geometry::COMMIT_BLOCKS + Geometry::MOST_PIECES;
+    // Tables that the code makes for itself are cleared first, so volumes of few sectors have shorter ones. The sectors of a small and of
+    // a medium volume, at most.
+    pub const SMALL: u32 = 1_024;
+
+    pub const MEDIUM: u32 = 16_384;
+    // Bytes of a small volume's largest used map.
+    pub const SMALL_USED_BYTES: usize = Geometry::SMALL as usize / 8;
 
     // The pieces that a map of l entries is cut into: P, l / 96 rounded up.
     pub fn pieces_for(l: u32) -> u32

@@ -35,7 +35,7 @@ pub fn blank_sector(image: &mut [u8], k: usize)
     requires { ⌜ sectorBytes * k + sectorBytes ≤ length (now image) ⌝ }
     ensures { λ _. ⌜ sectorAt (now (image .exit)) ≡ updated (sectorAt (now (image .entry))) k blank ⌝ }
 {
-    let zeros = [0u8; 512];
+    let zeros = [0u8; Geometry::SECTOR];
     store_sector(image, k, &zeros);
 }
 

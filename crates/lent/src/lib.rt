@@ -3,7 +3,7 @@ ghost use mathlib.Core.Path.{_≡_};
 ghost use Prim.Native.Nat.{_*_, _≤_, _<_};
 ghost use lib.ListN.{length, replicate};
 ghost use lib.Dec.{ltb};
-ghost use Rattle.geometry.specs.Geometry.{piecesFor};
+ghost use Rattle.geometry.specs.Geometry.{piecesFor, mostPieces};
 ghost use Rattle.volume.specs.Tables.{bitAt, tablesOf, zeroTables};
 ghost use Rattle.volume.specs.Format.{formatTables};
 
@@ -30,7 +30,7 @@ pub fn fresh_tables(
     pieces: u32,
 )
     requires { ⌜ pieces ≡ piecesFor l ⌝ }
-    requires { ⌜ pieces ≤ 256 ⌝ }
+    requires { ⌜ pieces ≤ mostPieces ⌝ }
     requires { ⌜ length (now places) ≡ pieces ⌝ }
     requires { ⌜ length (now numbers) ≡ pieces ⌝ }
     requires { ⌜ pieces < 8 * length (now used) ⌝ }

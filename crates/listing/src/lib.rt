@@ -6,7 +6,7 @@ ghost use mathlib.Core.List.{[], _∷_, _++_};
 ghost use Prim.Native.Nat.{ℕ, suc, _+_, _*_, _≤_, _<_};
 ghost use lib.ListN.{length, take};
 ghost use lib.Dec.{eqb, ltb};
-ghost use Rattle.geometry.specs.Geometry.{sectorBytes};
+ghost use Rattle.geometry.specs.Geometry.{sectorBytes, foldingBranches, mostPieces};
 ghost use Rattle.layout.specs.Bounded.{at};
 ghost use Rattle.layout.specs.Word.{wordsOf};
 ghost use Rattle.layout.specs.MapSector.{valid, branchWords};
@@ -14,7 +14,7 @@ ghost use Rattle.volume.specs.Tables.{sectorAt, tablesOf};
 ghost use Rattle.volume.specs.Commit.{olderKey, listing};
 ghost use Rattle.volume.specs.Calls.{viewOf};
 ghost use Rattle.pieces.specs.Arrays.{flagged, unflagged, Live};
-ghost use Rattle.tournament.specs.Tournament.{Keyed};
+ghost use Rattle.tournament.specs.Tournament.{treeLength, Keyed};
 ghost use Rattle.listing.specs.Listing.{Taken};
 use geometry::Geometry;
 
@@ -36,8 +36,8 @@ fn older_key(numbers: &[u32], touched: &[u8], bound: u32, q: usize) -> u32
 
 // Enters every piece with its key, so that the newest candidate is the first of the tournament.
 fn enter_all(tree: &mut [u64], numbers: &[u32], touched: &[u8], bound: u32)
-    requires { ⌜ length (now tree) ≡ 512 ⌝ }
-    requires { ⌜ length (now numbers) ≤ 256 ⌝ }
+    requires { ⌜ length (now tree) ≡ treeLength ⌝ }
+    requires { ⌜ length (now numbers) ≤ mostPieces ⌝ }
     requires { ⌜ length (now numbers) ≤ length (now touched) ⌝ }
     ensures { λ _. ⌜ Keyed (length (now (numbers .entry))) (olderKey (tablesOf [] [] (now (numbers .entry)) []) (unflagged (length (now (numbers .entry))) (now (touched .entry))) bound) (now (tree .exit)) ⌝ }
 {
@@ -94,8 +94,8 @@ struct Newest {
 
 // Takes the newest candidate. The older ones stay in the tournament.
 fn take_newest(tree: &mut [u64], numbers: &[u32], touched: &[u8], bound: u32) -> Newest
-    requires { ⌜ length (now tree) ≡ 512 ⌝ }
-    requires { ⌜ length (now numbers) ≤ 256 ⌝ }
+    requires { ⌜ length (now tree) ≡ treeLength ⌝ }
+    requires { ⌜ length (now numbers) ≤ mostPieces ⌝ }
     requires { ⌜ length (now numbers) ≤ length (now touched) ⌝ }
     requires { ⌜ 0 < length (now numbers) ⌝ }
     requires { ⌜ Keyed (length (now numbers)) (olderKey (tablesOf [] [] (now numbers) []) (unflagged (length (now numbers)) (now touched)) bound) (now tree) ⌝ }
@@ -176,21 +176,21 @@ fn list_newest(
 ) -> usize
     requires { ⌜ length (now image) ≡ sectorBytes * g .n ⌝ }
     requires { ⌜ length (now places) ≡ length (now numbers) ⌝ }
-    requires { ⌜ length (now numbers) ≤ 256 ⌝ }
+    requires { ⌜ length (now numbers) ≤ mostPieces ⌝ }
     requires { ⌜ length (now numbers) ≤ length (now touched) ⌝ }
     requires { ⌜ number + 1 < 4294967296 ⌝ }
-    requires { ⌜ length (now branches) ≡ 25 ⌝ }
+    requires { ⌜ length (now branches) ≡ foldingBranches ⌝ }
     requires { ⌜ Live g (sectorAt (now image)) (at (now places)) (length (now numbers)) ⌝ }
-    requires { ⌜ length (now tree) ≡ 512 ⌝ }
+    requires { ⌜ length (now tree) ≡ treeLength ⌝ }
     requires { ⌜ Keyed (length (now numbers)) (olderKey (tablesOf [] [] (now numbers) []) (unflagged (length (now numbers)) (now touched)) (number + 1)) (now tree) ⌝ }
-    ensures { λ r. ⌜ take r (now (branches .exit)) ≡ take 25 (listing (length (now (numbers .entry))) (tablesOf [] (now (places .entry)) (now (numbers .entry)) []) (viewOf g (sectorAt (now (image .entry)))) (unflagged (length (now (numbers .entry))) (now (touched .entry))) (length (now (numbers .entry))) (suc number) (λ _. false)) × (r ≤ 25) ⌝ }
+    ensures { λ r. ⌜ take r (now (branches .exit)) ≡ take foldingBranches (listing (length (now (numbers .entry))) (tablesOf [] (now (places .entry)) (now (numbers .entry)) []) (viewOf g (sectorAt (now (image .entry)))) (unflagged (length (now (numbers .entry))) (now (touched .entry))) (length (now (numbers .entry))) (suc number) (λ _. false)) × (r ≤ foldingBranches) ⌝ }
 {
-    let mut reached = [0u8; 256];
+    let mut reached = [0u8; Geometry::MOST_PIECES];
     let mut count = 0;
     let mut bound = number + 1;
     let mut steps = numbers.len();
     'newest: while 0 < steps {
-        if count == 25 {
+        if count == Geometry::FOLDING_BRANCHES {
             break 'newest;
         }
         let next = take_newest(tree, numbers, touched, bound);
@@ -215,7 +215,7 @@ fn list_newest(
     count
 }
 
-// The first of the listed branches, at most 25 of them: with more than 24 the commit folds. How many they are.
+// The first of the listed branches, no more of them than decide for a fold. How many they are.
 pub fn list_branches(
     image: &[u8],
     g: Geometry,
@@ -227,14 +227,14 @@ pub fn list_branches(
 ) -> usize
     requires { ⌜ length (now image) ≡ sectorBytes * g .n ⌝ }
     requires { ⌜ length (now places) ≡ length (now numbers) ⌝ }
-    requires { ⌜ length (now numbers) ≤ 256 ⌝ }
+    requires { ⌜ length (now numbers) ≤ mostPieces ⌝ }
     requires { ⌜ length (now numbers) ≤ length (now touched) ⌝ }
     requires { ⌜ number + 1 < 4294967296 ⌝ }
-    requires { ⌜ length (now branches) ≡ 25 ⌝ }
+    requires { ⌜ length (now branches) ≡ foldingBranches ⌝ }
     requires { ⌜ Live g (sectorAt (now image)) (at (now places)) (length (now numbers)) ⌝ }
-    ensures { λ r. ⌜ take r (now (branches .exit)) ≡ take 25 (listing (length (now (numbers .entry))) (tablesOf [] (now (places .entry)) (now (numbers .entry)) []) (viewOf g (sectorAt (now (image .entry)))) (unflagged (length (now (numbers .entry))) (now (touched .entry))) (length (now (numbers .entry))) (suc number) (λ _. false)) × (r ≤ 25) ⌝ }
+    ensures { λ r. ⌜ take r (now (branches .exit)) ≡ take foldingBranches (listing (length (now (numbers .entry))) (tablesOf [] (now (places .entry)) (now (numbers .entry)) []) (viewOf g (sectorAt (now (image .entry)))) (unflagged (length (now (numbers .entry))) (now (touched .entry))) (length (now (numbers .entry))) (suc number) (λ _. false)) × (r ≤ foldingBranches) ⌝ }
 {
-    let mut tree = [0u64; 512];
+    let mut tree = [0u64; tournament::TREE];
     enter_all(&mut tree, numbers, touched, number + 1);
     list_newest(
         image,

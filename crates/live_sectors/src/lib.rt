@@ -5,7 +5,7 @@ ghost use mathlib.Core.List.{[]};
 ghost use Prim.Native.Nat.{ℕ, _+_, _*_, _≤_, _<_};
 ghost use lib.ListN.{length};
 ghost use lib.Dec.{eqb};
-ghost use Rattle.geometry.specs.Geometry.{sectorBytes, piecesFor};
+ghost use Rattle.geometry.specs.Geometry.{sectorBytes, piecesFor, entriesPerPiece, mostBlocks, mostPieces};
 ghost use Rattle.layout.specs.Bounded.{at, allBelow, same};
 ghost use Rattle.layout.specs.Word.{wordsOf};
 ghost use Rattle.layout.specs.MapSector.{entryWords, decoded};
@@ -25,16 +25,16 @@ fn still_same(good: bool, a: u32, b: u32) -> bool
     good
 }
 
-// Whether the sector's 96 entries are those of the map from `first` on. All are looked at, so that the compiler compares several at
+// Whether the sector's entries are those of the map from `first` on. All are looked at, so that the compiler compares several at
 // a time.
 fn whole_matches(s: &[u8], map: &[u32], first: usize) -> bool
     requires { ⌜ length (now s) ≡ sectorBytes ⌝ }
-    requires { ⌜ first + 96 ≤ length (now map) ⌝ }
-    ensures { λ r. ⌜ r ≡ allBelow (λ i. eqb (at (entryWords (wordsOf (now (s .entry)))) i) (at (now (map .entry)) (first + i))) 96 ⌝ }
+    requires { ⌜ first + entriesPerPiece ≤ length (now map) ⌝ }
+    ensures { λ r. ⌜ r ≡ allBelow (λ i. eqb (at (entryWords (wordsOf (now (s .entry)))) i) (at (now (map .entry)) (first + i))) entriesPerPiece ⌝ }
 {
     let mut good = true;
     let mut i = 0;
-    while i < 96 {
+    while i < Geometry::PIECE_ENTRIES {
         good = still_same(good, map_sector::entry_at(s, i), map[first + i]);
         i += 1;
     }
@@ -44,12 +44,12 @@ fn whole_matches(s: &[u8], map: &[u32], first: usize) -> bool
 // The same of the last piece, where the map may end before it: past its end the entries are zero.
 fn last_matches(s: &[u8], map: &[u32], first: usize) -> bool
     requires { ⌜ length (now s) ≡ sectorBytes ⌝ }
-    requires { ⌜ first < 24576 ⌝ }
-    ensures { λ r. ⌜ r ≡ allBelow (λ i. eqb (at (entryWords (wordsOf (now (s .entry)))) i) (at (now (map .entry)) (first + i))) 96 ⌝ }
+    requires { ⌜ first < mostBlocks ⌝ }
+    ensures { λ r. ⌜ r ≡ allBelow (λ i. eqb (at (entryWords (wordsOf (now (s .entry)))) i) (at (now (map .entry)) (first + i))) entriesPerPiece ⌝ }
 {
     let mut good = true;
     let mut i = 0;
-    while i < 96 {
+    while i < Geometry::PIECE_ENTRIES {
         good = still_same(
             good,
             map_sector::entry_at(s, i),
@@ -63,11 +63,11 @@ fn last_matches(s: &[u8], map: &[u32], first: usize) -> bool
 // Whether the sector's entries are those of piece p in the map.
 fn entries_match(s: &[u8], map: &[u32], p: u32) -> bool
     requires { ⌜ length (now s) ≡ sectorBytes ⌝ }
-    requires { ⌜ p < 256 ⌝ }
+    requires { ⌜ p < mostPieces ⌝ }
     ensures { λ r. ⌜ r ≡ same (entryWords (wordsOf (now (s .entry)))) (pieceEntries (length (now (map .entry))) (at (now (map .entry))) p) ⌝ }
 {
     let first = (Geometry::ENTRIES * p) as usize;
-    if first + 96 <= map.len() {
+    if first + Geometry::PIECE_ENTRIES <= map.len() {
         return whole_matches(s, map, first);
     }
     last_matches(s, map, first)
@@ -78,7 +78,7 @@ fn says_piece(s: &[u8], g: Geometry, map: &[u32], p: u32, number: u32) -> bool
     requires { ⌜ length (now s) ≡ sectorBytes ⌝ }
     requires { ⌜ 1 ≤ g .n ⌝ }
     requires { ⌜ length (now map) ≡ g .l ⌝ }
-    requires { ⌜ p < 256 ⌝ }
+    requires { ⌜ p < mostPieces ⌝ }
     ensures { λ r. ⌜ r ≡ saysPiece (decoded g (now (s .entry))) p number (pieceEntries (g .l) (at (now (map .entry))) p) ⌝ }
 {
     if !map_sector::is_valid(s, g) {
@@ -96,7 +96,7 @@ fn says_piece(s: &[u8], g: Geometry, map: &[u32], p: u32, number: u32) -> bool
 // Each live place is signed with its piece, number and entries.
 pub fn live_valid(g: Geometry, image: &[u8], map: &[u32], places: &[u32], numbers: &[u32]) -> bool
     requires { ⌜ 1 ≤ g .n ⌝ }
-    requires { ⌜ piecesFor (g .l) ≤ 256 ⌝ }
+    requires { ⌜ piecesFor (g .l) ≤ mostPieces ⌝ }
     requires { ⌜ length (now image) ≡ sectorBytes * g .n ⌝ }
     requires { ⌜ length (now map) ≡ g .l ⌝ }
     requires { ⌜ length (now places) ≡ piecesFor (g .l) ⌝ }

@@ -4,6 +4,7 @@ ghost use mathlib.Core.Bool.{true};
 ghost use Prim.Native.Nat.{_-_, _≤_};
 ghost use lib.ListN.{length};
 ghost use Rattle.geometry.specs.Geometry.{within, piecesFor, usedBytes, geometryFits};
+ghost use Rattle.geometry.specs.SizeClasses.{smallSectors};
 ghost use Rattle.layout.specs.Bounded.{at, all, listFrom};
 ghost use Rattle.volume.specs.Tables.{bitAt, namedBy, usedBy, consistent};
 ghost use Rattle.soundness.specs.Parts.{namesSound};
@@ -22,9 +23,9 @@ fn take_marks(used: &mut [u8], marks: &[u8])
     }
 }
 
-// Makes the used map of the names, which lie inside, of a volume of at most 1,024 sectors.
+// Makes the used map of the names, which lie inside, of a small volume.
 fn make_few_used(g: Geometry, map: &[u32], places: &[u32], used: &mut [u8])
-    requires { ⌜ g .n ≤ 1024 ⌝ }
+    requires { ⌜ g .n ≤ smallSectors ⌝ }
     requires { ⌜ geometryFits g ≡ true ⌝ }
     requires { ⌜ length (now map) ≡ g .l ⌝ }
     requires { ⌜ length (now places) ≡ piecesFor (g .l) ⌝ }
@@ -32,7 +33,7 @@ fn make_few_used(g: Geometry, map: &[u32], places: &[u32], used: &mut [u8])
     requires { ⌜ all (within 1 (g .n - 1)) (namedBy (g .l) (at (now map)) (at (now places))) ≡ true ⌝ }
     ensures { λ _. ⌜ bitAt (now (used .exit)) ≡ usedBy (namedBy (g .l) (at (now (map .entry))) (at (now (places .entry)))) ⌝ }
 {
-    let mut marks = [0u8; 128];
+    let mut marks = [0u8; Geometry::SMALL_USED_BYTES];
     names::mark_few(&mut marks, map, places);
     take_marks(used, &marks);
 }
@@ -59,7 +60,7 @@ fn make_used(g: Geometry, map: &[u32], places: &[u32], count: u32, used: &mut [u
     requires { ⌜ all (within 1 (g .n - 1)) (namedBy (g .l) (at (now map)) (at (now places))) ≡ true ⌝ }
     ensures { λ _. ⌜ bitAt (now (used .exit)) ≡ usedBy (namedBy (g .l) (at (now (map .entry))) (at (now (places .entry)))) ⌝ }
 {
-    if g.n <= 1024 {
+    if g.n <= Geometry::SMALL {
         make_few_used(g, map, places, used);
         return;
     }

@@ -4,6 +4,7 @@ ghost use Prim.Native.Nat.{_-_, _≤_};
 ghost use lib.ListN.{length};
 ghost use Rattle.geometry.specs.Geometry.{sectorBytes, entriesPerPiece, branchRoom};
 ghost use Rattle.layout.specs.MapSector.{kindOf, encoded};
+use geometry::Geometry;
 
 // 1 for a closing sector, 0 for a member.
 fn kind_of(closing: bool) -> u32
@@ -33,7 +34,7 @@ pub fn put_map(
     marks::put_mark(s, &marks::MAP_MARK);
     words::put_words(s, 1, &head);
     words::put_words(s, 8, branches);
-    words::put_zeros(s, 8 + count, 24 - count);
+    words::put_zeros(s, 8 + count, Geometry::BRANCH_ROOM - count);
     words::put_words(s, 32, entries);
     sums::put_balance(s);
 }

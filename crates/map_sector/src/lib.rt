@@ -113,7 +113,7 @@ fn still_fits(good: bool, w: u32, i: u32, count: u32, n: u32) -> bool
     good & (w < n) & ((w != 0) == (i < count))
 }
 
-// Whether the branches are sectors from 1 to n - 1, and the unused ones zero. All 24 are looked at in one way, however many are used.
+// Whether the branches are sectors from 1 to n - 1, and the unused ones zero. All are looked at in one way, however many are used.
 fn branches_fit(s: &[u8], n: u32) -> bool
     requires { ⌜ length (now s) ≡ sectorBytes ⌝ }
     requires { ⌜ 1 ≤ n ⌝ }
@@ -140,7 +140,7 @@ fn entries_fit(s: &[u8], l: u32) -> bool
     if Geometry::ENTRIES <= held {
         return true;
     }
-    words::words_zero(s, 32 + held as usize, 128)
+    words::words_zero(s, 32 + held as usize, Geometry::WORDS)
 }
 
 // Whether s begins with the map mark.

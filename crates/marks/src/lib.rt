@@ -7,6 +7,7 @@ ghost use lib.Seq.{sets};
 ghost use lib.Dec.{eqb};
 ghost use Rattle.geometry.specs.Geometry.{sectorBytes};
 ghost use Rattle.layout.specs.Word.{startsWith};
+use geometry::Geometry;
 
 pub const MAP_MARK: [u8; 4] = *b"VLM1";
 
@@ -41,14 +42,14 @@ pub fn copy_over(dst: &mut [u8], src: &[u8])
     }
 }
 
-// Stores the sector src over the sector dst. By way of a local one, so that the compiler makes it one move of 512 bytes: of the two that
+// Stores the sector src over the sector dst. By way of a local one, so that the compiler makes it one move of a known length: of the two that
 // are lent it does not know that they are apart.
 pub fn copy_sector(dst: &mut [u8], src: &[u8])
     requires { ⌜ length (now dst) ≡ sectorBytes ⌝ }
     requires { ⌜ length (now src) ≡ sectorBytes ⌝ }
     ensures { λ _. ⌜ now (dst .exit) ≡ now (src .entry) ⌝ }
 {
-    let mut held = [0u8; 512];
+    let mut held = [0u8; Geometry::SECTOR];
     copy_over(&mut held, src);
     copy_over(dst, &held);
 }

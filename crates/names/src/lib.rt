@@ -5,7 +5,8 @@ ghost use mathlib.Core.List.{List, []};
 ghost use Prim.Native.Nat.{ℕ, suc, _+_, _*_, _-_, _/_, _%_, _^_, _≤_, _<_};
 ghost use lib.ListN.{length, replicate};
 ghost use lib.Dec.{eqb};
-ghost use Rattle.geometry.specs.Geometry.{within, mostBlocks, piecesFor};
+ghost use Rattle.geometry.specs.Geometry.{within, mostBlocks, piecesFor, mostPieces};
+ghost use Rattle.geometry.specs.SizeClasses.{smallSectors, smallUsedBytes};
 ghost use Rattle.layout.specs.Bounded.{at, countBelow, all, always, gathered, updated};
 ghost use Rattle.layout.specs.Entry.{isEmpty, sectorOf};
 ghost use Rattle.volume.specs.Tables.{bitAt, namedBy, usedBy};
@@ -216,11 +217,11 @@ fn with_bit(word: u64, k: u32) -> u64
     word | (1u64 << (k % 64))
 }
 
-// Marks the sectors of the entries in a map of 1,024. The word of 64 bits at hand is kept apart while one name after the other falls
+// Marks the sectors of the entries in the map of a small volume. The word of 64 bits at hand is kept apart while one name after the other falls
 // into it: in so small a map many do, and each would wait for the one before to be stored.
 fn mark_few_entries(marks: &mut [u8], map: &[u32])
-    requires { ⌜ length (now marks) ≡ 128 ⌝ }
-    requires { ⌜ ((b : ℕ) → b < length (now map) → sectorOf (at (now map) b) < 1024) ⌝ }
+    requires { ⌜ length (now marks) ≡ smallUsedBytes ⌝ }
+    requires { ⌜ ((b : ℕ) → b < length (now map) → sectorOf (at (now map) b) < smallSectors) ⌝ }
     ensures { λ _. ⌜ ((others : List ℕ) → bitAt (now (marks .entry)) ≡ usedBy others → bitAt (now (marks .exit)) ≡ usedBy (withEntries (at (now (map .entry))) (length (now (map .entry))) others)) ⌝ }
 {
     let mut hand = 0;
@@ -241,12 +242,12 @@ fn mark_few_entries(marks: &mut [u8], map: &[u32])
     bits::put_word(marks, hand, held);
 }
 
-// Marks sector 0, the live places, and the sectors of the entries in a map of 1,024.
+// Marks sector 0, the live places, and the sectors of the entries in the map of a small volume.
 pub fn mark_few(marks: &mut [u8], map: &[u32], places: &[u32])
-    requires { ⌜ length (now marks) ≡ 128 ⌝ }
+    requires { ⌜ length (now marks) ≡ smallUsedBytes ⌝ }
     requires { ⌜ now marks ≡ replicate (length (now marks)) 0 ⌝ }
-    requires { ⌜ ((q : ℕ) → q < length (now places) → at (now places) q < 1024) ⌝ }
-    requires { ⌜ ((b : ℕ) → b < length (now map) → sectorOf (at (now map) b) < 1024) ⌝ }
+    requires { ⌜ ((q : ℕ) → q < length (now places) → at (now places) q < smallSectors) ⌝ }
+    requires { ⌜ ((b : ℕ) → b < length (now map) → sectorOf (at (now map) b) < smallSectors) ⌝ }
     ensures { λ _. ⌜ bitAt (now (marks .exit)) ≡ usedBy (withEntries (at (now (map .entry))) (length (now (map .entry))) (gathered always (at (now (places .entry))) [] (length (now (places .entry))))) ⌝ }
 {
     bits::set_bit(marks, 0);
@@ -260,7 +261,7 @@ pub fn judge_names(g: Geometry, map: &[u32], places: &[u32]) -> Names
     requires { ⌜ g .l ≤ mostBlocks ⌝ }
     requires { ⌜ length (now map) ≡ g .l ⌝ }
     requires { ⌜ length (now places) ≡ piecesFor (g .l) ⌝ }
-    ensures { λ r. ⌜ (r .inside ≡ all (within 1 (g .n - 1)) (namedBy (g .l) (at (now (map .entry))) (at (now (places .entry))))) × (r .inside ≡ true → (r .count ≡ length (namedBy (g .l) (at (now (map .entry))) (at (now (places .entry))))) × ((q : ℕ) → q < length (now (places .entry)) → at (now (places .entry)) q < g .n) × ((b : ℕ) → b < length (now (map .entry)) → sectorOf (at (now (map .entry)) b) < g .n)) × (r .count ≤ 24832) ⌝ }
+    ensures { λ r. ⌜ (r .inside ≡ all (within 1 (g .n - 1)) (namedBy (g .l) (at (now (map .entry))) (at (now (places .entry))))) × (r .inside ≡ true → (r .count ≡ length (namedBy (g .l) (at (now (map .entry))) (at (now (places .entry))))) × ((q : ℕ) → q < length (now (places .entry)) → at (now (places .entry)) q < g .n) × ((b : ℕ) → b < length (now (map .entry)) → sectorOf (at (now (map .entry)) b) < g .n)) × (r .count ≤ mostBlocks + mostPieces) ⌝ }
 {
     let entries = entries_inside(g.n, map);
     let inside = all_inside(g, map, places, entries);

@@ -7,6 +7,12 @@ ghost use lib.ListN.{length};
 ghost use lib.Dec.{eqb, leb};
 ghost use Rattle.layout.specs.Bounded.{at, allBelow, best, elem, distinct, always, gathered};
 
+// Fewer numbers than so many are compared in pairs sooner than the map of the residues is cleared.
+const FEW: usize = 64;
+
+// The residues, by which most numbers of a log differ.
+const RESIDUES: u32 = 65_536;
+
 // Whether one was found already, or a and b are the same.
 fn or_same(found: bool, a: u32, b: u32) -> bool
     ensures { λ r. ⌜ r ≡ (eqb a b || found) ⌝ }
@@ -46,14 +52,14 @@ fn pairs_distinct(numbers: &[u32]) -> bool
     true
 }
 
-// Whether no two numbers are the same modulo 65,536: then they are distinct.
+// Whether no two numbers have the same residue: then they are distinct.
 fn residues_distinct(numbers: &[u32]) -> bool
     ensures { λ r. ⌜ (r ≡ true → distinct (gathered always (at (now (numbers .entry))) [] (length (now (numbers .entry)))) ≡ true) ⌝ }
 {
-    let mut seen = [0u8; 8192];
+    let mut seen = [0u8; RESIDUES as usize / 8];
     let mut i = 0;
     while i < numbers.len() {
-        let residue = (numbers[i] % 65_536) as usize;
+        let residue = (numbers[i] % RESIDUES) as usize;
         if bits::is_set(&seen, residue) {
             return false;
         }
@@ -63,11 +69,11 @@ fn residues_distinct(numbers: &[u32]) -> bool
     true
 }
 
-// By residues first: most numbers of a log differ in them. A few are compared in pairs sooner than the residues' map is cleared.
+// By residues first, unless they are few.
 fn all_distinct(numbers: &[u32]) -> bool
     ensures { λ r. ⌜ r ≡ distinct (gathered always (at (now (numbers .entry))) [] (length (now (numbers .entry)))) ⌝ }
 {
-    if numbers.len() < 64 {
+    if numbers.len() < FEW {
         return pairs_distinct(numbers);
     }
     if residues_distinct(numbers) {

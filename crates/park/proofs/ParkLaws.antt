@@ -1,11 +1,13 @@
 -- Which refusal a park meets, by the tests that led there; and what it leaves.
-use Prim.Native.Nat.{ℕ, _*_, _≤_}
+use Prim.Native.Nat.{ℕ, zero, suc, _*_, _-_, _≤_}
 use mathlib.Core.Path.{_≡_, refl, sym, _∙_, ap}
-use mathlib.Core.Bool.{Bool, true, false, not}
-use mathlib.Core.List.{List, []}
+use mathlib.Core.Logic.{⊎-elim}
+use mathlib.Core.Bool.{Bool, true, false, not, cond}
+use mathlib.Core.List.{List, [], _∷_}
 use native.Mathlib.Omega.{arith}
 use lib.ListN.{length, take}
-use borrow.Author.Tests.{not-true, not-false}
+use borrow.Author.Tests.{not-true, not-false, le-ltb}
+use Rattle.geometry.specs.declared.Geometry.{Geometry}
 use Rattle.state.specs.declared.State.{State}
 use Rattle.answer.specs.declared.Refusal.{Refusal}
 use Rattle.answer.specs.Answer.{lengths, storesAlone}
@@ -17,16 +19,21 @@ use Rattle.answer.specs.declared.Verdict.the-variants.{Pass, Refuse}
 use Rattle.state.specs.State.{parkedState, cutState, isRunning}
 use Rattle.layout.specs.Bounded.{updated}
 use Rattle.layout.specs.ParkRecord.{parkRecord}
-use Rattle.volume.specs.Tables.{memory, sectorAt}
+use Rattle.volume.specs.Tables.{memory, sectorAt, tablesOf}
 use Rattle.volume.specs.Refusals.{applies, firstOf, judged}
-use Rattle.volume.specs.Store.{applied, after, memoryWith, performed, unlessRefused}
+use Rattle.volume.specs.Store.{Store, applied, after, memoryWith, performed, unlessRefused}
 use Rattle.volume.specs.Format.{tablesFit}
 use Rattle.volume.specs.Calls.{stateFits, stateChecks, tablesAgree, parkChecks, parkAction, parkOf}
+use Rattle.laws.proofs.Bounded.{bool?}
 use Rattle.laws.proofs.Sizes.{fits, state-fits, tables-fit}
-use Rattle.laws.proofs.Judged.{cleared, later, performed-cut, performed-whole}
+use Rattle.laws.proofs.Judged.{cleared, later}
 use Rattle.checks.specs.Left.{lent}
 use Rattle.checks.proofs.StateLaws.{refused-by-lengths, passed-by-lengths, sizes-passed, tables-passed}
-use Rattle.power.proofs.Performing.{memory-left}
+use Rattle.power.specs.declared.allowance.Power.{Power}
+use Rattle.power.specs.declared.allowance.Power.the-variants.{Left, Failed}
+use Rattle.power.specs.Power.{powered}
+use Rattle.power.proofs.Performing.{memory-left, call-cut, call-whole}
+use Rattle.park.specs.Park.{recordStore}
 
 -- The verdict on the lengths is v.
 module _ (s : State) (im mp pl nu us : List ℕ) (v : Verdict)
@@ -45,26 +52,52 @@ module _ (s : State) (im mp pl nu us : List ℕ) (v : Verdict)
     pub lengths-passed : tablesFit (memory im mp pl nu us) (s .geometry) ≡ true
     lengths-passed = tables-passed s im mp pl nu us true [] v f e
 
-    pub bits-enough : s .geometry .n ≤ 8 * length us
-    bits-enough = let u = tables-fit im mp pl nu us (s .geometry) lengths-passed .used in omega arith
-
     then : (w : Verdict) → w ≡ firstOf later (parkChecks s (memory im mp pl nu us)) → w ≡ verdict
     unfolding parkChecks
     then w k = passed-by-lengths s im mp pl nu us true _ v f e w k
 
-    module _ (b3 : Bool) (f3 : b3 ≡ isRunning (s .phase)) where
-      pub phase-refused : not b3 ≡ true → Refuse WrongPhase ≡ verdict
-      unfolding parkChecks firstOf applies
-      phase-refused e3 = then (Refuse WrongPhase) (rw (sym f3 ∙ not-true b3 e3) refl)
+    pub phase-refused : isRunning (s .phase) ≡ false → Refuse WrongPhase ≡ verdict
+    unfolding parkChecks firstOf applies
+    phase-refused e3 = then (Refuse WrongPhase) (rw e3 refl)
 
-      module _ (e3 : not b3 ≡ false) (b4 : Bool) (f4 : b4 ≡ tablesAgree s (memory im mp pl nu us)) where
-        pub tables-refused : not b4 ≡ true → Refuse Inconsistent ≡ verdict
-        unfolding parkChecks firstOf applies
-        tables-refused e4 = then (Refuse Inconsistent) (rw (sym f3 ∙ not-false b3 e3, sym f4 ∙ not-true b4 e4) refl)
+    pub running-judged : (w : Verdict) → isRunning (s .phase) ≡ true → w ≡ cond (tablesAgree s (memory im mp pl nu us)) Pass (Refuse Inconsistent) → w ≡ verdict
+    unfolding parkChecks firstOf applies
+    running-judged w e3 k =
+        ⊎-elim (λ (t : tablesAgree s (memory im mp pl nu us) ≡ true). then w (k ∙ rw (e3, t) refl))
+        (λ (t : tablesAgree s (memory im mp pl nu us) ≡ false). then w (k ∙ rw (e3, t) refl))
+        (bool? (tablesAgree s (memory im mp pl nu us)))
 
-        pub none-refused : not b4 ≡ false → Pass ≡ verdict
-        unfolding parkChecks firstOf applies
-        none-refused e4 = then Pass (rw (sym f3 ∙ not-false b3 e3, sym f4 ∙ not-false b4 e4) refl)
+-- Of a running volume, by the test of its tables.
+pub bits-enough : (im mp pl nu us : List ℕ) (g : Geometry) → tablesFit (memory im mp pl nu us) g ≡ true → g .n ≤ 8 * length us
+bits-enough im mp pl nu us g e = let u = tables-fit im mp pl nu us g e .used in omega arith
+
+pub tables-bad : (b t : Bool) → b ≡ t → not b ≡ true → Refuse Inconsistent ≡ cond t Pass (Refuse Inconsistent)
+tables-bad b t f e = rw (sym f ∙ not-true b e) refl
+
+pub tables-good : (b t : Bool) → b ≡ t → not b ≡ false → Pass ≡ cond t Pass (Refuse Inconsistent)
+tables-good b t f e = rw (sym f ∙ not-false b e) refl
+
+-- The store of the record, where it is allowed and where it is not.
+module _ (number tail allowance : ℕ) (before : ℕ → List ℕ) where
+  abbrev pub Stored : Power → (ℕ → List ℕ) → Type 0
+  Stored r image = (r ≡ powered 1 allowance) × (image ≡ applied (take allowance (recordStore number tail ∷ [])) before)
+
+take-none : (n : ℕ) → _≡_ {A = List Store} (take n []) []
+take-none zero = refl
+take-none (suc n) = refl
+
+pub store-fails : (number tail allowance : ℕ) (before : ℕ → List ℕ) → allowance ≡ 0 → Stored number tail allowance before Failed before
+unfolding powered applied
+store-fails number tail allowance before f = rw f (refl, refl)
+
+pub store-made : (number tail allowance : ℕ) (before image : ℕ → List ℕ) → (allowance ≡ 0 → ⊥)
+    → image ≡ updated before 0 (parkRecord (record { number = number; tail = tail })) → Stored number tail allowance before (Left (allowance - 1)) image
+unfolding powered applied
+store-made number tail zero before image f u = absurd (f refl)
+store-made number tail (suc allowance) before image f u = (
+  rw (le-ltb (suc allowance) 1 (omega arith)) refl,
+  u ∙ ap (λ (xs : List Store). applied (recordStore number tail ∷ xs) before) (sym (take-none allowance)),
+)
 
 -- There is a sector 0.
 pub first-sector : (s : State) (im mp pl nu us : List ℕ) → Pass ≡ judged (parkChecks s (memory im mp pl nu us)) → 512 ≤ length im
@@ -82,35 +115,25 @@ module _ (s : State) (im mp pl nu us : List ℕ) (allowance : ℕ) where
   park-refused r e =
       ap (λ (v : Verdict). unlessRefused v s (memory im mp pl nu us) (performed allowance (parkAction s (memory im mp pl nu us)) (memory im mp pl nu us))) e
 
-  module _ (pass : Pass ≡ judged (parkChecks s (memory im mp pl nu us))) (x : Answer) (y : State) where
+  module _ (pass : Pass ≡ judged (parkChecks s (memory im mp pl nu us))) (im′ : List ℕ) (kept : length im′ ≡ length im)
+      (made : sectorAt im′ ≡ applied (take allowance (recordStore (s .number) (s .tail) ∷ [])) (sectorAt im)) (x : Answer) (y : State) where
     performs : performed allowance (parkAction s (memory im mp pl nu us)) (memory im mp pl nu us) ≡ parkOf s (memory im mp pl nu us) allowance
     unfolding parkOf
     performs = ap (λ (v : Verdict). unlessRefused v s (memory im mp pl nu us) (performed allowance (parkAction s (memory im mp pl nu us)) (memory im mp pl nu us))) pass
 
-    pub park-cut : allowance ≡ 0 → x ≡ PowerFailed (storesAlone 0) → y ≡ cutState s
-        → after (record { answer = x; state = y }) (memory im mp pl nu us) ≡ parkOf s (memory im mp pl nu us) allowance
-    unfolding parkAction applied memory
-    park-cut z p q =
-        let action = parkAction s (memory im mp pl nu us) in
-        ap (λ (a : Answer). after (record { answer = a; state = y }) (memory im mp pl nu us)) p
-        ∙ ap (λ (t : State). after (record { answer = PowerFailed (storesAlone 0); state = t }) (memory im mp pl nu us)) q
-        ∙ ap (λ (k : ℕ). after (record { answer = PowerFailed (storesAlone k); state = cutState s })
-        (memoryWith (memory im mp pl nu us) (applied (take k (action .stores)) (sectorAt im)) (memory im mp pl nu us .tables))) (sym z)
-        ∙ sym (performed-cut allowance action (memory im mp pl nu us) (omega arith))
+    left-as-it-came : memory im′ mp pl nu us ≡ memoryWith (memory im mp pl nu us) (sectorAt im′) (tablesOf mp pl nu us)
+    left-as-it-came = memory-left im mp pl nu us im′ mp pl nu us (sectorAt im′) (tablesOf mp pl nu us) kept refl refl refl refl refl refl
+
+    pub park-cut : Failed ≡ powered 1 allowance → x ≡ PowerFailed (storesAlone allowance) → y ≡ cutState s
+        → after (record { answer = x; state = y }) (memory im′ mp pl nu us) ≡ parkOf s (memory im mp pl nu us) allowance
+    unfolding parkAction memory
+    park-cut e p q =
+        call-cut allowance (parkAction s (memory im mp pl nu us)) (memory im mp pl nu us) (memory im′ mp pl nu us) (sectorAt im′) made x y p q e left-as-it-came
         ∙ performs
 
-    pub park-done : (im′ : List ℕ) → (allowance ≡ 0 → ⊥) → x ≡ Accepted (storesAlone 1) → y ≡ parkedState s → length im′ ≡ length im
-        → sectorAt im′ ≡ updated (sectorAt im) 0 (parkRecord (record { number = s .number; tail = s .tail }))
+    pub park-whole : (left : ℕ) → Left left ≡ powered 1 allowance → x ≡ Accepted (storesAlone (allowance - left)) → y ≡ parkedState s
         → after (record { answer = x; state = y }) (memory im′ mp pl nu us) ≡ parkOf s (memory im mp pl nu us) allowance
-    unfolding parkAction applied memory
-    park-done im′ d p q e i =
-        let action = parkAction s (memory im mp pl nu us) in
-        ap (λ (a : Answer). after (record { answer = a; state = y }) (memory im′ mp pl nu us)) p
-        ∙ ap (λ (t : State). after (record { answer = Accepted (storesAlone 1); state = t }) (memory im′ mp pl nu us)) q
-        ∙ ap (after (record { answer = Accepted (storesAlone 1); state = parkedState s }))
-        (memory-left im mp pl nu us im′ mp pl nu us (applied (action .stores) (sectorAt im)) (memory im mp pl nu us .tables) e refl refl refl refl i refl)
-        ∙ sym (performed-whole allowance action (memory im mp pl nu us) (some allowance d))
+    unfolding parkAction memory
+    park-whole left e p q =
+        call-whole allowance (parkAction s (memory im mp pl nu us)) (memory im mp pl nu us) (memory im′ mp pl nu us) (sectorAt im′) made x y left p q e left-as-it-came
         ∙ performs
-      where
-        some : (k : ℕ) → (k ≡ 0 → ⊥) → 1 ≤ k
-        some k f = omega arith

@@ -5,6 +5,10 @@ ghost use Rattle.geometry.specs.Geometry.{sectorBytes};
 ghost use Rattle.layout.specs.Bounded.{at};
 ghost use Rattle.layout.specs.Word.{wordsOf};
 ghost use Rattle.layout.specs.ParkRecord.{parkRecord, isParkRecord};
+use geometry::Geometry;
+
+// Words 4 and on are zero.
+const ZEROS: usize = Geometry::WORDS - 4;
 
 // Fills s with a park record.
 pub fn put_park(s: &mut [u8], number: u32, tail: u32)
@@ -14,7 +18,7 @@ pub fn put_park(s: &mut [u8], number: u32, tail: u32)
     let words = [0u32, number, tail];
     marks::put_mark(s, &marks::PARK_MARK);
     words::put_words(s, 1, &words);
-    words::put_zeros(s, 4, 124);
+    words::put_zeros(s, 4, ZEROS);
     sums::put_balance(s);
 }
 
@@ -29,7 +33,7 @@ pub fn is_park(s: &[u8]) -> bool
     if sums::word_sum(s) != 0 {
         return false;
     }
-    words::words_zero(s, 4, 128)
+    words::words_zero(s, 4, Geometry::WORDS)
 }
 
 // The tail's number.

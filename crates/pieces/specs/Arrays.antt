@@ -6,7 +6,7 @@ use mathlib.Core.List.{List, []}
 use lib.ListN.{length, take}
 use lib.Dec.{eqb}
 use Rattle.geometry.specs.declared.Geometry.{Geometry}
-use Rattle.geometry.specs.Geometry.{piecesFor, pieceOf}
+use Rattle.geometry.specs.Geometry.{piecesFor, pieceOf, branchRoom}
 use Rattle.layout.specs.Bounded.{at, anyBelow, countBelow, tabled}
 use Rattle.layout.specs.Word.{wordsOf}
 use Rattle.layout.specs.MapSector.{valid}
@@ -78,6 +78,6 @@ pub record Settling (g : Geometry) (number : ℕ) (blocks entries taken : List �
 pub record Planning (plan : Plan) (count members : ℕ) (branches written : List ℕ) (dataSectors : ℕ) (taken : List ℕ) : Type 0 where
   pub members-are : members ≡ plan .members
   pub branches-are : take count branches ≡ plan .branches
-  pub few : count ≤ 24
+  pub few : count ≤ branchRoom
   pub written-are : flagged written ≡ plan .written
   pub taken-are : take (dataSectors + members) taken ≡ plan .places

@@ -6,7 +6,8 @@ ghost use mathlib.Core.List.{[]};
 ghost use Prim.Native.Nat.{ℕ, _+_, _*_, _≤_, _<_};
 ghost use lib.ListN.{length, take, replicate};
 ghost use lib.Dec.{ltb};
-ghost use Rattle.geometry.specs.Geometry.{sectorBytes, piecesFor, usedBytes, geometryFits};
+ghost use Rattle.geometry.specs.Geometry.{sectorBytes, piecesFor, usedBytes, geometryFits, branchRoom, foldingBranches, mostPieces, commitBlocks, commitSectors};
+ghost use Rattle.geometry.specs.SizeClasses.{smallSectors};
 ghost use Rattle.layout.specs.Bounded.{at, listFrom, countBelow};
 ghost use Rattle.volume.specs.Tables.{bitAt, sectorAt, tablesOf};
 ghost use Rattle.volume.specs.Placing.{base, placeOf};
@@ -36,12 +37,12 @@ fn copy_used(used: &[u8], marks: &mut [u8])
     }
 }
 
-// With more than 24 branches listed, every piece is written and the first member has none.
+// With more branches listed than there is room for, every piece is written and the first member has none.
 fn fold(written: &mut [u8], pieces: u32, listed: usize) -> usize
     requires { ⌜ pieces ≤ length (now written) ⌝ }
-    ensures { λ r. ⌜ (r ≡ cond (ltb 24 listed) 0 listed) × (flagged (now (written .exit)) ≡ cond (ltb 24 listed) (λ q. ltb q pieces || flagged (now (written .entry)) q) (flagged (now (written .entry)))) ⌝ }
+    ensures { λ r. ⌜ (r ≡ cond (ltb branchRoom listed) 0 listed) × (flagged (now (written .exit)) ≡ cond (ltb branchRoom listed) (λ q. ltb q pieces || flagged (now (written .entry)) q) (flagged (now (written .entry)))) ⌝ }
 {
-    if listed <= 24 {
+    if listed <= Geometry::BRANCH_ROOM {
         return listed;
     }
     pieces::flag_all(written, pieces);
@@ -62,16 +63,16 @@ fn take_in(used: &[u8], g: Geometry, head: u32, count: usize, taken: &mut [u32],
     placing::find_places(marks, g.n, head, count, taken);
 }
 
-// The same in a copy of 1,024 bits, which is cleared sooner.
+// The same of a small volume, in a copy that is cleared sooner.
 fn take_few(used: &[u8], g: Geometry, head: u32, count: usize, taken: &mut [u32])
-    requires { ⌜ g .n ≤ 1024 ⌝ }
+    requires { ⌜ g .n ≤ smallSectors ⌝ }
     requires { ⌜ geometryFits g ≡ true ⌝ }
     requires { ⌜ length (now used) ≡ usedBytes (g .n) ⌝ }
     requires { ⌜ head < g .n ⌝ }
     requires { ⌜ count ≤ length (now taken) ⌝ }
     ensures { λ _. ⌜ take count (now (taken .exit)) ≡ listFrom (placeOf base (g .n) (bitAt (now (used .entry))) head) 0 count ⌝ }
 {
-    let mut marks = [0u8; 128];
+    let mut marks = [0u8; Geometry::SMALL_USED_BYTES];
     take_in(used, g, head, count, taken, &mut marks);
 }
 
@@ -83,7 +84,7 @@ fn take_any(used: &[u8], g: Geometry, head: u32, count: usize, taken: &mut [u32]
     requires { ⌜ count ≤ length (now taken) ⌝ }
     ensures { λ _. ⌜ take count (now (taken .exit)) ≡ listFrom (placeOf base (g .n) (bitAt (now (used .entry))) head) 0 count ⌝ }
 {
-    let mut marks = [0u8; 8192];
+    let mut marks = [0u8; Geometry::MOST_USED_BYTES];
     take_in(used, g, head, count, taken, &mut marks);
 }
 
@@ -95,7 +96,7 @@ fn take_sectors(used: &[u8], g: Geometry, head: u32, count: usize, taken: &mut [
     requires { ⌜ count ≤ length (now taken) ⌝ }
     ensures { λ _. ⌜ take count (now (taken .exit)) ≡ listFrom (placeOf base (g .n) (bitAt (now (used .entry))) head) 0 count ⌝ }
 {
-    if g.n <= 1024 {
+    if g.n <= Geometry::SMALL {
         take_few(used, g, head, count, taken);
         return;
     }
@@ -116,11 +117,11 @@ fn list_untouched(
     requires { ⌜ length (now image) ≡ sectorBytes * s .geometry .n ⌝ }
     requires { ⌜ length (now places) ≡ piecesFor (s .geometry .l) ⌝ }
     requires { ⌜ length (now numbers) ≡ piecesFor (s .geometry .l) ⌝ }
-    requires { ⌜ s .number ≤ 4294967039 ⌝ }
+    requires { ⌜ s .number ≤ base .greatest ⌝ }
     requires { ⌜ ((i : ℕ) → i < length (now blocks) → at (now blocks) i < s .geometry .l) ⌝ }
     requires { ⌜ Live (s .geometry) (sectorAt (now image)) (at (now places)) (piecesFor (s .geometry .l)) ⌝ }
-    requires { ⌜ now written ≡ replicate 256 0 ⌝ }
-    requires { ⌜ length (now branches) ≡ 25 ⌝ }
+    requires { ⌜ now written ≡ replicate mostPieces 0 ⌝ }
+    requires { ⌜ length (now branches) ≡ foldingBranches ⌝ }
     ensures { λ r. ⌜ Untouched s (now (places .entry)) (now (numbers .entry)) (viewOf (s .geometry) (sectorAt (now (image .entry)))) (now (blocks .entry)) (now (written .exit)) (now (branches .exit)) r ⌝ }
 {
     pieces::touch_pieces(written, blocks);
@@ -137,9 +138,9 @@ fn list_untouched(
 
 // Counts the members, once it is known how many branches are listed.
 fn count_members(written: &mut [u8], pieces: u32, listed: usize) -> Sizes
-    requires { ⌜ pieces ≤ 256 ⌝ }
+    requires { ⌜ pieces ≤ mostPieces ⌝ }
     requires { ⌜ pieces ≤ length (now written) ⌝ }
-    ensures { λ r. ⌜ (r .branches ≡ cond (ltb 24 listed) 0 listed) × (flagged (now (written .exit)) ≡ cond (ltb 24 listed) (λ q. ltb q pieces || flagged (now (written .entry)) q) (flagged (now (written .entry)))) × (r .members ≡ countBelow (flagged (now (written .exit))) pieces) × (r .members ≤ 256) ⌝ }
+    ensures { λ r. ⌜ (r .branches ≡ cond (ltb branchRoom listed) 0 listed) × (flagged (now (written .exit)) ≡ cond (ltb branchRoom listed) (λ q. ltb q pieces || flagged (now (written .entry)) q) (flagged (now (written .entry)))) × (r .members ≡ countBelow (flagged (now (written .exit))) pieces) × (r .members ≤ mostPieces) ⌝ }
 {
     let branches = fold(written, pieces, listed);
     Sizes {
@@ -168,13 +169,13 @@ pub fn plan(
     requires { ⌜ length (now numbers) ≡ piecesFor (s .geometry .l) ⌝ }
     requires { ⌜ length (now used) ≡ usedBytes (s .geometry .n) ⌝ }
     requires { ⌜ head < s .geometry .n ⌝ }
-    requires { ⌜ s .number ≤ 4294967039 ⌝ }
-    requires { ⌜ count ≤ 64 ⌝ }
+    requires { ⌜ s .number ≤ base .greatest ⌝ }
+    requires { ⌜ count ≤ commitBlocks ⌝ }
     requires { ⌜ ((i : ℕ) → i < length (now blocks) → at (now blocks) i < s .geometry .l) ⌝ }
     requires { ⌜ Live (s .geometry) (sectorAt (now image)) (at (now places)) (piecesFor (s .geometry .l)) ⌝ }
-    requires { ⌜ now written ≡ replicate 256 0 ⌝ }
-    requires { ⌜ length (now branches) ≡ 25 ⌝ }
-    requires { ⌜ length (now taken) ≡ 320 ⌝ }
+    requires { ⌜ now written ≡ replicate mostPieces 0 ⌝ }
+    requires { ⌜ length (now branches) ≡ foldingBranches ⌝ }
+    requires { ⌜ length (now taken) ≡ commitSectors ⌝ }
     ensures { λ r. ⌜ Planning (planned base s (tablesOf [] (now (places .entry)) (now (numbers .entry)) (now (used .entry))) (viewOf (s .geometry) (sectorAt (now (image .entry)))) head (changeOf (now (blocks .entry)) [] count)) (r .branches) (r .members) (now (branches .exit)) (now (written .exit)) count (now (taken .exit)) ⌝ }
 {
     let g = s.geometry;

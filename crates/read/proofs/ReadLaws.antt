@@ -2,7 +2,7 @@
 use Prim.Native.Nat.{ℕ, _*_, _+_, _-_, _≤_, _<_}
 use mathlib.Core.Path.{_≡_, refl, sym, _∙_, ap}
 use mathlib.Core.Logic.{⊎-elim}
-use mathlib.Core.Bool.{Bool, true, false, not, _&&_}
+use mathlib.Core.Bool.{Bool, true, false, not, cond, _&&_}
 use mathlib.Core.List.{List, []}
 use native.Mathlib.Omega.{arith}
 use lib.ListN.{length}
@@ -25,7 +25,7 @@ use Rattle.volume.specs.Refusals.{applies, firstOf, judged}
 use Rattle.volume.specs.Format.{tablesFit}
 use Rattle.volume.specs.Calls.{stateFits, stateChecks, entryReadable, readChecks, blockOf, readJudged, readOf}
 use Rattle.checks.specs.Left.{readLeft, lent}
-use Rattle.laws.proofs.Bounded.{and-l, and-r, or-cases}
+use Rattle.laws.proofs.Bounded.{bool?, and-l, and-r, or-cases}
 use Rattle.laws.proofs.Sizes.{fits, state-fits, tables-fit}
 use Rattle.laws.proofs.Judged.{cleared, later}
 use Rattle.checks.proofs.StateLaws.{refused-by-lengths, passed-by-lengths, sizes-passed, tables-passed}
@@ -70,20 +70,24 @@ module _ (s : State) (im mp pl nu us : List ℕ) (block out : ℕ) (v : Verdict)
     unfolding readChecks firstOf applies
     block-refused h = then (Refuse BlockNumbers) (rw (le-ltb block (s .geometry .l) h) refl)
 
-    module _ (h : block < s .geometry .l) (b3 : Bool) (f3 : b3 ≡ isReadable (s .phase)) where
-      pub phase-refused : not b3 ≡ true → Refuse WrongPhase ≡ verdict
+    module _ (h : block < s .geometry .l) where
+      pub phase-refused : isReadable (s .phase) ≡ false → Refuse WrongPhase ≡ verdict
       unfolding readChecks firstOf applies
-      phase-refused e3 = then (Refuse WrongPhase) (rw (lt-ltb block (s .geometry .l) h, sym f3 ∙ not-true b3 e3) refl)
+      phase-refused e3 = then (Refuse WrongPhase) (rw (lt-ltb block (s .geometry .l) h, e3) refl)
 
-      module _ (e3 : not b3 ≡ false) (b4 : Bool) (f4 : b4 ≡ entryReadable (s .geometry .n) (at mp block)) where
-        pub entry-refused : not b4 ≡ true → Refuse Inconsistent ≡ verdict
-        unfolding readChecks firstOf applies memory
-        entry-refused e4 =
-            then (Refuse Inconsistent) (rw (lt-ltb block (s .geometry .l) h, sym f3 ∙ not-false b3 e3, sym f4 ∙ not-true b4 e4) refl)
+      pub readable-judged : (w : Verdict) → isReadable (s .phase) ≡ true → w ≡ cond (entryReadable (s .geometry .n) (at mp block)) Pass (Refuse Inconsistent) → w ≡ verdict
+      unfolding readChecks firstOf applies memory
+      readable-judged w e3 k =
+          ⊎-elim (λ (t : entryReadable (s .geometry .n) (at mp block) ≡ true). then w (k ∙ rw (lt-ltb block (s .geometry .l) h, e3, t) refl))
+          (λ (t : entryReadable (s .geometry .n) (at mp block) ≡ false). then w (k ∙ rw (lt-ltb block (s .geometry .l) h, e3, t) refl))
+          (bool? (entryReadable (s .geometry .n) (at mp block)))
 
-        pub none-refused : not b4 ≡ false → Pass ≡ verdict
-        unfolding readChecks firstOf applies memory
-        none-refused e4 = then Pass (rw (lt-ltb block (s .geometry .l) h, sym f3 ∙ not-false b3 e3, sym f4 ∙ not-false b4 e4) refl)
+-- The verdict on one entry.
+pub entry-bad : (b t : Bool) → b ≡ t → not b ≡ true → Refuse Inconsistent ≡ cond t Pass (Refuse Inconsistent)
+entry-bad b t f e = rw (sym f ∙ not-true b e) refl
+
+pub entry-good : (b t : Bool) → b ≡ t → not b ≡ false → Pass ≡ cond t Pass (Refuse Inconsistent)
+entry-good b t f e = rw (sym f ∙ not-false b e) refl
 
 -- What a read that meets no refusal relies on.
 pub record Readable (im mp : List ℕ) (block out : ℕ) : Type 0 where

@@ -1,19 +1,22 @@
 // The read call: the block that an entry names, restored where it was stored flipped.
 ghost use mathlib.Core.Path.{_≡_};
+ghost use mathlib.Core.Bool.{cond};
 ghost use Prim.Native.Nat.{_≤_, _<_};
 ghost use lib.ListN.{length};
+ghost use Rattle.answer.specs.declared.Refusal.the-variants.{Inconsistent};
+ghost use Rattle.answer.specs.declared.Verdict.the-variants.{Pass, Refuse};
 ghost use Rattle.layout.specs.Bounded.{at};
 ghost use Rattle.layout.specs.Entry.{sectorOf, restored};
 ghost use Rattle.volume.specs.Tables.{sectorAt, memory};
 ghost use Rattle.volume.specs.Refusals.{judged};
 ghost use Rattle.volume.specs.Calls.{entryReadable, readChecks, readOf};
 ghost use Rattle.checks.specs.Left.{readLeft};
-ghost use Rattle.answer.specs.declared.Verdict.the-variants.{Pass};
 use answer::Answer;
 use answer::Refusal;
 use answer::Verdict;
 use geometry::Geometry;
 use state::Outcome;
+use state::Phase;
 use state::State;
 
 // Refusal 5 of a read: its own entry is empty, or names a sector from 1 to n - 1.
@@ -29,6 +32,17 @@ fn entry_readable(n: u32, entry: u32) -> bool
         return false;
     }
     sector <= n - 1
+}
+
+// The same as a verdict, of a volume that can be read.
+fn entry_verdict(n: u32, entry: u32) -> Verdict
+    requires { ⌜ 1 ≤ n ⌝ }
+    ensures { λ r. ⌜ r ≡ cond (entryReadable n entry) Pass (Refuse Inconsistent) ⌝ }
+{
+    if !entry_readable(n, entry) {
+        return Verdict::Refuse(Refusal::Inconsistent);
+    }
+    Verdict::Pass
 }
 
 // The refusals of a read, in their order.
@@ -60,13 +74,13 @@ fn read_verdict(
             if g.l <= block {
                 return Verdict::Refuse(Refusal::BlockNumbers);
             }
-            if !s.is_readable() {
-                return Verdict::Refuse(Refusal::WrongPhase);
+            let entry = map[block as usize];
+            let phase = s.phase;
+            match phase {
+                Phase::Running => entry_verdict(g.n, entry),
+                Phase::Parked => entry_verdict(g.n, entry),
+                Phase::Cut => Verdict::Refuse(Refusal::WrongPhase),
             }
-            if !entry_readable(g.n, map[block as usize]) {
-                return Verdict::Refuse(Refusal::Inconsistent);
-            }
-            Verdict::Pass
         }
     }
 }

@@ -43,7 +43,7 @@ fn by_walk(
     ensures { λ r. ⌜ after r (memory (now (image .exit)) (now (map .exit)) (now (places .exit)) (now (numbers .exit)) (now (used .exit))) ≡ recovered g allowance (memory (now (image .entry)) (now (map .entry)) (now (places .entry)) (now (numbers .entry)) (now (used .entry))) (findingOf g (imageView g (sectorAt (now (image .entry)))) (sectorAt (now (image .entry)) 0)) ⌝ }
 {
     if !walk::walk_tables(image, g, tail, number, map, places, numbers, used) {
-        if g.n <= 1024 {
+        if g.n <= Geometry::SMALL {
             return recover_by_scan::by_small_scan(image, map, places, numbers, used, g, allowance);
         }
         return recover_by_scan::by_scan(image, map, places, numbers, used, g, allowance);
@@ -79,7 +79,7 @@ fn find(
     let g = settings.volume((image.len() / Geometry::SECTOR) as u32);
     match walk_start::parked_at(image, g) {
         Start::Nowhere => {
-            if g.n <= 1024 {
+            if g.n <= Geometry::SMALL {
                 return recover_by_scan::by_small_scan(
                     image,
                     map,

@@ -4,6 +4,7 @@ ghost use mathlib.Core.Bool.{true};
 ghost use Prim.Native.Nat.{_*_, _≤_};
 ghost use lib.ListN.{length};
 ghost use Rattle.geometry.specs.Geometry.{sectorBytes, piecesFor, usedBytes, geometryFits};
+ghost use Rattle.geometry.specs.SizeClasses.{smallSectors};
 ghost use Rattle.volume.specs.Tables.{sectorAt, memory};
 ghost use Rattle.volume.specs.Store.{after};
 ghost use Rattle.volume.specs.Recover.{scanFinding, recovered, imageView};
@@ -31,7 +32,7 @@ pub fn by_scan(
     requires { ⌜ length (now used) ≡ usedBytes (g .n) ⌝ }
     ensures { λ r. ⌜ after r (memory (now (image .exit)) (now (map .exit)) (now (places .exit)) (now (numbers .exit)) (now (used .exit))) ≡ recovered g allowance (memory (now (image .entry)) (now (map .entry)) (now (places .entry)) (now (numbers .entry)) (now (used .entry))) (scanFinding g (imageView g (sectorAt (now (image .entry)))) (sectorAt (now (image .entry)) 0)) ⌝ }
 {
-    let mut above = [0u8; 8192];
+    let mut above = [0u8; Geometry::MOST_USED_BYTES];
     let found = scan::scan(image, g, map, places, numbers, used, &mut above);
     match found {
         Found::Missing(loss) => {
@@ -56,7 +57,7 @@ pub fn by_scan(
     }
 }
 
-// The same of a volume of at most 1,024 sectors, in small arrays.
+// The same of a small volume, in small arrays.
 pub fn by_small_scan(
     image: &mut [u8],
     map: &mut [u32],
@@ -66,7 +67,7 @@ pub fn by_small_scan(
     g: Geometry,
     allowance: u32,
 ) -> Outcome
-    requires { ⌜ g .n ≤ 1024 ⌝ }
+    requires { ⌜ g .n ≤ smallSectors ⌝ }
     requires { ⌜ geometryFits g ≡ true ⌝ }
     requires { ⌜ length (now image) ≡ sectorBytes * g .n ⌝ }
     requires { ⌜ length (now map) ≡ g .l ⌝ }
@@ -75,7 +76,7 @@ pub fn by_small_scan(
     requires { ⌜ length (now used) ≡ usedBytes (g .n) ⌝ }
     ensures { λ r. ⌜ after r (memory (now (image .exit)) (now (map .exit)) (now (places .exit)) (now (numbers .exit)) (now (used .exit))) ≡ recovered g allowance (memory (now (image .entry)) (now (map .entry)) (now (places .entry)) (now (numbers .entry)) (now (used .entry))) (scanFinding g (imageView g (sectorAt (now (image .entry)))) (sectorAt (now (image .entry)) 0)) ⌝ }
 {
-    let mut above = [0u8; 128];
+    let mut above = [0u8; Geometry::SMALL_USED_BYTES];
     let found = scan::scan_small(image, g, map, places, numbers, used, &mut above);
     match found {
         Found::Missing(loss) => {

@@ -3,7 +3,8 @@ ghost use mathlib.Core.Path.{_≡_};
 ghost use mathlib.Core.Bool.{true, not};
 ghost use Prim.Native.Nat.{_*_, _≤_};
 ghost use lib.ListN.{length, replicate};
-ghost use Rattle.geometry.specs.Geometry.{sectorBytes, piecesFor, usedBytes, geometryFits};
+ghost use Rattle.geometry.specs.Geometry.{sectorBytes, piecesFor, usedBytes, geometryFits, mostSectors};
+ghost use Rattle.geometry.specs.SizeClasses.{smallSectors, mediumSectors};
 ghost use Rattle.volume.specs.Tables.{sectorAt, bitAt, tablesOf};
 ghost use Rattle.volume.specs.Recover.{newestClosing, closedUpTo, scannedLog, scanDamaged, scanFinding, imageView};
 ghost use Rattle.signed.specs.Signed.{Listed};
@@ -67,7 +68,7 @@ fn scan_tables(
     requires { ⌜ geometryFits g ≡ true ⌝ }
     requires { ⌜ length (now image) ≡ sectorBytes * g .n ⌝ }
     requires { ⌜ read .tail ≡ newestClosing (g .n) (imageView g (sectorAt (now image))) ⌝ }
-    requires { ⌜ length (now sectors) ≤ 65536 ⌝ }
+    requires { ⌜ length (now sectors) ≤ mostSectors ⌝ }
     requires { ⌜ length (now numbered) ≡ length (now sectors) ⌝ }
     requires { ⌜ length (now pieces) ≡ length (now sectors) ⌝ }
     requires { ⌜ Listed (imageView g (sectorAt (now image))) (g .n) (now sectors) (now numbered) (now pieces) ⌝ }
@@ -112,7 +113,7 @@ fn scan_listed(
     requires { ⌜ length (now image) ≡ sectorBytes * g .n ⌝ }
     requires { ⌜ read .tail ≡ newestClosing (g .n) (imageView g (sectorAt (now image))) ⌝ }
     requires { ⌜ read .number ≡ closedUpTo (g .n) (imageView g (sectorAt (now image))) ⌝ }
-    requires { ⌜ length (now sectors) ≤ 65536 ⌝ }
+    requires { ⌜ length (now sectors) ≤ mostSectors ⌝ }
     requires { ⌜ length (now numbered) ≡ length (now sectors) ⌝ }
     requires { ⌜ length (now pieces) ≡ length (now sectors) ⌝ }
     requires { ⌜ Listed (imageView g (sectorAt (now image))) (g .n) (now sectors) (now numbered) (now pieces) ⌝ }
@@ -164,7 +165,7 @@ fn scan_in(
     requires { ⌜ geometryFits g ≡ true ⌝ }
     requires { ⌜ length (now image) ≡ sectorBytes * g .n ⌝ }
     requires { ⌜ g .n ≤ length (now sectors) ⌝ }
-    requires { ⌜ length (now sectors) ≤ 65536 ⌝ }
+    requires { ⌜ length (now sectors) ≤ mostSectors ⌝ }
     requires { ⌜ length (now numbered) ≡ length (now sectors) ⌝ }
     requires { ⌜ length (now pieces) ≡ length (now sectors) ⌝ }
     requires { ⌜ length (now map) ≡ g .l ⌝ }
@@ -192,7 +193,7 @@ fn scan_in(
     )
 }
 
-// The scan of a volume of at most 1,024 sectors. The arrays are cleared first, so a small volume has small ones.
+// The scan of a small volume. The arrays are cleared first, so a small volume has small ones.
 pub fn scan_small(
     image: &[u8],
     g: Geometry,
@@ -202,7 +203,7 @@ pub fn scan_small(
     used: &mut [u8],
     above: &mut [u8],
 ) -> Found
-    requires { ⌜ g .n ≤ 1024 ⌝ }
+    requires { ⌜ g .n ≤ smallSectors ⌝ }
     requires { ⌜ geometryFits g ≡ true ⌝ }
     requires { ⌜ length (now image) ≡ sectorBytes * g .n ⌝ }
     requires { ⌜ length (now map) ≡ g .l ⌝ }
@@ -213,9 +214,9 @@ pub fn scan_small(
     requires { ⌜ now above ≡ replicate (length (now above)) 0 ⌝ }
     ensures { λ r. ⌜ (scanFound r (g .n) (imageView g (sectorAt (now (image .entry)))) (sectorAt (now (image .entry)) 0) (tablesOf (now (map .exit)) (now (places .exit)) (now (numbers .exit)) (now (used .exit))) ≡ scanFinding g (imageView g (sectorAt (now (image .entry)))) (sectorAt (now (image .entry)) 0)) × scanAbove r (imageView g (sectorAt (now (image .entry)))) (bitAt (now (above .exit))) ⌝ }
 {
-    let mut sectors = [0u16; 1024];
-    let mut numbered = [0u32; 1024];
-    let mut pieces = [0u8; 1024];
+    let mut sectors = [0u16; Geometry::SMALL as usize];
+    let mut numbered = [0u32; Geometry::SMALL as usize];
+    let mut pieces = [0u8; Geometry::SMALL as usize];
     scan_in(
         image,
         g,
@@ -230,7 +231,7 @@ pub fn scan_small(
     )
 }
 
-// The same of at most 16,384 sectors.
+// The same of a medium volume.
 fn scan_medium(
     image: &[u8],
     g: Geometry,
@@ -240,7 +241,7 @@ fn scan_medium(
     used: &mut [u8],
     above: &mut [u8],
 ) -> Found
-    requires { ⌜ g .n ≤ 16384 ⌝ }
+    requires { ⌜ g .n ≤ mediumSectors ⌝ }
     requires { ⌜ geometryFits g ≡ true ⌝ }
     requires { ⌜ length (now image) ≡ sectorBytes * g .n ⌝ }
     requires { ⌜ length (now map) ≡ g .l ⌝ }
@@ -251,9 +252,9 @@ fn scan_medium(
     requires { ⌜ now above ≡ replicate (length (now above)) 0 ⌝ }
     ensures { λ r. ⌜ (scanFound r (g .n) (imageView g (sectorAt (now (image .entry)))) (sectorAt (now (image .entry)) 0) (tablesOf (now (map .exit)) (now (places .exit)) (now (numbers .exit)) (now (used .exit))) ≡ scanFinding g (imageView g (sectorAt (now (image .entry)))) (sectorAt (now (image .entry)) 0)) × scanAbove r (imageView g (sectorAt (now (image .entry)))) (bitAt (now (above .exit))) ⌝ }
 {
-    let mut sectors = [0u16; 16384];
-    let mut numbered = [0u32; 16384];
-    let mut pieces = [0u8; 16384];
+    let mut sectors = [0u16; Geometry::MEDIUM as usize];
+    let mut numbered = [0u32; Geometry::MEDIUM as usize];
+    let mut pieces = [0u8; Geometry::MEDIUM as usize];
     scan_in(
         image,
         g,
@@ -288,9 +289,9 @@ fn scan_large(
     requires { ⌜ now above ≡ replicate (length (now above)) 0 ⌝ }
     ensures { λ r. ⌜ (scanFound r (g .n) (imageView g (sectorAt (now (image .entry)))) (sectorAt (now (image .entry)) 0) (tablesOf (now (map .exit)) (now (places .exit)) (now (numbers .exit)) (now (used .exit))) ≡ scanFinding g (imageView g (sectorAt (now (image .entry)))) (sectorAt (now (image .entry)) 0)) × scanAbove r (imageView g (sectorAt (now (image .entry)))) (bitAt (now (above .exit))) ⌝ }
 {
-    let mut sectors = [0u16; 65536];
-    let mut numbered = [0u32; 65536];
-    let mut pieces = [0u8; 65536];
+    let mut sectors = [0u16; Geometry::MOST_SECTORS as usize];
+    let mut numbered = [0u32; Geometry::MOST_SECTORS as usize];
+    let mut pieces = [0u8; Geometry::MOST_SECTORS as usize];
     scan_in(
         image,
         g,
@@ -325,7 +326,7 @@ pub fn scan(
     requires { ⌜ now above ≡ replicate (length (now above)) 0 ⌝ }
     ensures { λ r. ⌜ (scanFound r (g .n) (imageView g (sectorAt (now (image .entry)))) (sectorAt (now (image .entry)) 0) (tablesOf (now (map .exit)) (now (places .exit)) (now (numbers .exit)) (now (used .exit))) ≡ scanFinding g (imageView g (sectorAt (now (image .entry)))) (sectorAt (now (image .entry)) 0)) × scanAbove r (imageView g (sectorAt (now (image .entry)))) (bitAt (now (above .exit))) ⌝ }
 {
-    if g.n <= 16384 {
+    if g.n <= Geometry::MEDIUM {
         return scan_medium(image, g, map, places, numbers, used, above);
     }
     scan_large(image, g, map, places, numbers, used, above)

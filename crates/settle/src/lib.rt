@@ -44,14 +44,14 @@ fn free_places(used: &mut [u8], places: &[u32], written: &[u8])
     requires { ⌜ ((p : ℕ) → p < length (now places) → at (now places) p < 8 * length (now used)) ⌝ }
     ensures { λ _. ⌜ bitAt (now (used .exit)) ≡ without (bitAt (now (used .entry))) (flagged (now (written .entry))) (at (now (places .entry))) (length (now (places .entry))) ⌝ }
 {
-    let mut p = 0;
-    'pieces: while p < places.len() {
-        if written[p] != 1 {
-            p += 1;
+    let mut q = 0;
+    'pieces: while q < places.len() {
+        if written[q] != 1 {
+            q += 1;
             continue 'pieces;
         }
-        bits::clear_bit(used, places[p] as usize);
-        p += 1;
+        bits::clear_bit(used, places[q] as usize);
+        q += 1;
     }
 }
 

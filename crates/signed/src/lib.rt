@@ -4,7 +4,7 @@ ghost use mathlib.Core.Bool.{cond};
 ghost use Prim.Native.Nat.{ℕ, _*_, _≤_, _<_};
 ghost use lib.ListN.{length, set, drop};
 ghost use lib.Dec.{eqb};
-ghost use Rattle.geometry.specs.Geometry.{sectorBytes, piecesFor};
+ghost use Rattle.geometry.specs.Geometry.{sectorBytes, piecesFor, mostSectors, mostPieces};
 ghost use Rattle.layout.specs.Bounded.{at};
 ghost use Rattle.layout.specs.Word.{wordsOf};
 ghost use Rattle.volume.specs.Tables.{sectorAt, bitAt};
@@ -34,8 +34,8 @@ fn closing_number(s: &[u8]) -> u32
 // Lists at i what sector k says.
 fn list(s: &[u8], k: u32, i: usize, sectors: &mut [u16], numbers: &mut [u32], pieces: &mut [u8])
     requires { ⌜ length (now s) ≡ sectorBytes ⌝ }
-    requires { ⌜ k < 65536 ⌝ }
-    requires { ⌜ at (wordsOf (now s)) 4 < 256 ⌝ }
+    requires { ⌜ k < mostSectors ⌝ }
+    requires { ⌜ at (wordsOf (now s)) 4 < mostPieces ⌝ }
     requires { ⌜ i < length (now sectors) ⌝ }
     requires { ⌜ i < length (now numbers) ⌝ }
     requires { ⌜ i < length (now pieces) ⌝ }
@@ -57,8 +57,8 @@ pub fn read_signed(
 ) -> Signed
     requires { ⌜ length (now image) ≡ sectorBytes * g .n ⌝ }
     requires { ⌜ 1 ≤ g .n ⌝ }
-    requires { ⌜ g .n ≤ 65536 ⌝ }
-    requires { ⌜ piecesFor (g .l) ≤ 256 ⌝ }
+    requires { ⌜ g .n ≤ mostSectors ⌝ }
+    requires { ⌜ piecesFor (g .l) ≤ mostPieces ⌝ }
     requires { ⌜ g .n ≤ length (now sectors) ⌝ }
     requires { ⌜ length (now numbers) ≡ length (now sectors) ⌝ }
     requires { ⌜ length (now pieces) ≡ length (now sectors) ⌝ }

@@ -5,7 +5,8 @@ ghost use mathlib.Core.Bool.{true, _&&_, Bool·beq};
 ghost use Prim.Native.Nat.{ℕ, _+_, _*_, _≤_, _<_};
 ghost use lib.ListN.{length};
 ghost use lib.Dec.{eqb, leb};
-ghost use Rattle.geometry.specs.Geometry.{mostSectors, piecesFor, usedBytes, geometryFits};
+ghost use Rattle.geometry.specs.Geometry.{mostSectors, piecesFor, usedBytes, geometryFits, mostBlocks, mostPieces, mostUsedBytes};
+ghost use Rattle.geometry.specs.SizeClasses.{smallSectors, smallUsedBytes};
 ghost use Rattle.layout.specs.Bounded.{at, allBelow, always, gathered};
 ghost use Rattle.layout.specs.Entry.{sectorOf};
 ghost use Rattle.volume.specs.Tables.{bitAt, usedBy, tablesOf, freeSectors, consistent};
@@ -40,8 +41,8 @@ fn bits_agree(used: &[u8], marks: &[u8]) -> bool
 // Whether no sector is named twice, and P are free. Names that are all different take as many sectors as they are, and sector 0 is one
 // more.
 pub fn once_with_room(g: Geometry, count: u32, free: u32) -> bool
-    requires { ⌜ count ≤ 24832 ⌝ }
-    requires { ⌜ free ≤ 65536 ⌝ }
+    requires { ⌜ count ≤ mostBlocks + mostPieces ⌝ }
+    requires { ⌜ free ≤ mostSectors ⌝ }
     ensures { λ r. ⌜ r ≡ (eqb (free + count + 1) (g .n) && leb (piecesFor (g .l)) free) ⌝ }
 {
     if free + count + 1 != g.n {
@@ -50,27 +51,27 @@ pub fn once_with_room(g: Geometry, count: u32, free: u32) -> bool
     Geometry::pieces_for(g.l) <= free
 }
 
-// Whether the used bits are exactly sector 0 and the names, which are marked in a map of their own and then compared: in one of 1,024
-// bits, which is cleared sooner.
+// Whether the used bits are exactly sector 0 and the names, which are marked in a map of their own and then compared: of a
+// small volume, in one that is cleared sooner.
 fn few_bits_agree(map: &[u32], places: &[u32], used: &[u8]) -> bool
-    requires { ⌜ length (now used) ≤ 128 ⌝ }
-    requires { ⌜ ((q : ℕ) → q < length (now places) → at (now places) q < 1024) ⌝ }
-    requires { ⌜ ((b : ℕ) → b < length (now map) → sectorOf (at (now map) b) < 1024) ⌝ }
+    requires { ⌜ length (now used) ≤ smallUsedBytes ⌝ }
+    requires { ⌜ ((q : ℕ) → q < length (now places) → at (now places) q < smallSectors) ⌝ }
+    requires { ⌜ ((b : ℕ) → b < length (now map) → sectorOf (at (now map) b) < smallSectors) ⌝ }
     ensures { λ r. ⌜ r ≡ allBelow (λ k. Bool·beq (bitAt (now (used .entry)) k) (usedBy (withEntries (at (now (map .entry))) (length (now (map .entry))) (gathered always (at (now (places .entry))) [] (length (now (places .entry))))) k)) (8 * length (now (used .entry))) ⌝ }
 {
-    let mut marks = [0u8; 128];
+    let mut marks = [0u8; Geometry::SMALL_USED_BYTES];
     names::mark_few(&mut marks, map, places);
     bits_agree(used, &marks)
 }
 
 // The same for a volume of any size, with about so many entries that are not empty.
 fn all_bits_agree(map: &[u32], places: &[u32], used: &[u8], count: u32) -> bool
-    requires { ⌜ length (now used) ≤ 8192 ⌝ }
-    requires { ⌜ ((q : ℕ) → q < length (now places) → at (now places) q < 65536) ⌝ }
-    requires { ⌜ ((b : ℕ) → b < length (now map) → sectorOf (at (now map) b) < 65536) ⌝ }
+    requires { ⌜ length (now used) ≤ mostUsedBytes ⌝ }
+    requires { ⌜ ((q : ℕ) → q < length (now places) → at (now places) q < mostSectors) ⌝ }
+    requires { ⌜ ((b : ℕ) → b < length (now map) → sectorOf (at (now map) b) < mostSectors) ⌝ }
     ensures { λ r. ⌜ r ≡ allBelow (λ k. Bool·beq (bitAt (now (used .entry)) k) (usedBy (withEntries (at (now (map .entry))) (length (now (map .entry))) (gathered always (at (now (places .entry))) [] (length (now (places .entry))))) k)) (8 * length (now (used .entry))) ⌝ }
 {
-    let mut marks = [0u8; 8192];
+    let mut marks = [0u8; Geometry::MOST_USED_BYTES];
     names::mark_all(&mut marks, map, places, count);
     bits_agree(used, &marks)
 }
@@ -83,7 +84,7 @@ fn named_bits_agree(n: u32, map: &[u32], places: &[u32], used: &[u8], count: u32
     requires { ⌜ ((b : ℕ) → b < length (now map) → sectorOf (at (now map) b) < n) ⌝ }
     ensures { λ r. ⌜ r ≡ allBelow (λ k. Bool·beq (bitAt (now (used .entry)) k) (usedBy (withEntries (at (now (map .entry))) (length (now (map .entry))) (gathered always (at (now (places .entry))) [] (length (now (places .entry))))) k)) (8 * length (now (used .entry))) ⌝ }
 {
-    if n <= 1024 {
+    if n <= Geometry::SMALL {
         return few_bits_agree(map, places, used);
     }
     all_bits_agree(map, places, used, count)

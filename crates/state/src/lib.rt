@@ -1,6 +1,6 @@
 // The state of a volume. It goes into every call by value, and every call hands it back.
 ghost use mathlib.Core.Path.{_≡_};
-ghost use Rattle.state.specs.State.{parkedState, cutState, committedState, freshState, lostState, isRunning, isReadable};
+ghost use Rattle.state.specs.State.{parkedState, cutState, committedState, freshState, lostState};
 use answer::Answer;
 use geometry::Geometry;
 
@@ -78,30 +78,6 @@ impl State {
             tail,
             number,
             phase: Phase::Running,
-        }
-    }
-
-    // Write, drop and park need a running volume.
-    pub fn is_running(self) -> bool
-        ensures { λ r. ⌜ r ≡ isRunning (self .phase) ⌝ }
-    {
-        let phase = self.phase;
-        match phase {
-            Phase::Running => true,
-            Phase::Parked => false,
-            Phase::Cut => false,
-        }
-    }
-
-    // Read needs a running or a parked one.
-    pub fn is_readable(self) -> bool
-        ensures { λ r. ⌜ r ≡ isReadable (self .phase) ⌝ }
-    {
-        let phase = self.phase;
-        match phase {
-            Phase::Running => true,
-            Phase::Parked => true,
-            Phase::Cut => false,
         }
     }
 }

@@ -5,7 +5,7 @@ use mathlib.Core.Bool.{true}
 use mathlib.Core.List.{List}
 use lib.ListN.{length}
 use Rattle.state.specs.declared.State.{State}
-use Rattle.geometry.specs.Geometry.{branchRoom, piecesFor, pieceOf}
+use Rattle.geometry.specs.Geometry.{branchRoom, piecesFor, pieceOf, mostPieces}
 use Rattle.layout.specs.Bounded.{at, countBelow}
 use Rattle.pieces.specs.Arrays.{flagged}
 
@@ -21,6 +21,6 @@ pub record Ready (s : State) (map blocks entries taken : List ℕ) (dataSectors 
   pub taken-all : dataSectors + members ≡ length taken
   pub room : length branches ≤ branchRoom
   pub numbers : s .number + members < 2 ^ 32
-  pub most : piecesFor (s .geometry .l) ≤ 256
+  pub most : piecesFor (s .geometry .l) ≤ mostPieces
   pub flags : piecesFor (s .geometry .l) ≤ length written
   pub counted : members ≡ countBelow (flagged written) (piecesFor (s .geometry .l))

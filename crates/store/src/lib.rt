@@ -5,7 +5,7 @@ ghost use mathlib.Core.List.{[], _∷_, _++_};
 ghost use Prim.Native.Nat.{ℕ, suc, _+_, _*_, _-_, _≤_, _<_, _^_};
 ghost use lib.ListN.{length, take};
 ghost use lib.Dec.{eqb};
-ghost use Rattle.geometry.specs.Geometry.{sectorBytes, branchRoom, piecesFor};
+ghost use Rattle.geometry.specs.Geometry.{sectorBytes, branchRoom, piecesFor, mostPieces};
 ghost use Rattle.layout.specs.Bounded.{at, always, countBelow, isZero, updated, updates};
 ghost use Rattle.layout.specs.MapSector.{encoded};
 ghost use Rattle.volume.specs.Tables.{sectorAt, tablesOf, pieceEntries};
@@ -73,7 +73,7 @@ fn store_member(
     requires { ⌜ length (now branches) ≤ branchRoom ⌝ }
     requires { ⌜ s .number + members < 2 ^ 32 ⌝ }
     requires { ⌜ j < members ⌝ }
-    requires { ⌜ p < 256 ⌝ }
+    requires { ⌜ p < mostPieces ⌝ }
     requires { ⌜ Cursor (now blocks) p from ⌝ }
     ensures { λ r. ⌜ Cursor (now (blocks .entry)) (p + 1) r × (sectorAt (now (image .exit)) ≡ updated (sectorAt (now (image .entry))) (at (now (taken .entry)) (count + j)) (encoded (s .geometry .l) (record { number = suc (s .number + j); piece = p; closing = eqb (suc j) members; branches = cond (isZero j) (now (branches .entry)) (at (now (taken .entry)) (count + (j - 1)) ∷ []); entries = pieceEntries (s .geometry .l) (updates (at (now (map .entry))) (at (now (blocks .entry))) (at (now (news .entry))) (length (now (blocks .entry)))) p }))) ⌝ }
 {
@@ -82,7 +82,7 @@ fn store_member(
     let closing = j + 1 == members;
     let place = (count as usize) + (j as usize);
     let k = taken[place] as usize;
-    let mut entries = [0u32; 96];
+    let mut entries = [0u32; Geometry::PIECE_ENTRIES];
     let next = entries::changed_piece(map, l, p, blocks, news, &mut entries, from);
     if j == 0 {
         images::store_map(image, k, l, number, p, closing, branches, &entries);

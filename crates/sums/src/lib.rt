@@ -4,15 +4,16 @@ ghost use lib.ListN.{length};
 ghost use lib.Seq.{sets};
 ghost use Rattle.geometry.specs.Geometry.{sectorBytes};
 ghost use Rattle.layout.specs.Word.{wordBytes, wordsOf, wordSum, balance};
+use geometry::Geometry;
 
-// The bound is a number, so that the compiler adds several words at a time.
+// The bound is a constant, so that the compiler adds several words at a time.
 pub fn word_sum(s: &[u8]) -> u32
     requires { ⌜ length (now s) ≡ sectorBytes ⌝ }
     ensures { λ r. ⌜ r ≡ wordSum (wordsOf (now (s .entry))) ⌝ }
 {
     let mut sum: u32 = 0;
     let mut k = 0;
-    while k < 128 {
+    while k < Geometry::WORDS {
         sum = std::num::wrapping_add_u32(sum, words::word_at(s, k));
         k += 1;
     }

@@ -6,11 +6,12 @@ use mathlib.Core.List.{List}
 use lib.ListN.{length, set}
 use lib.Dec.{ltb}
 use Rattle.geometry.specs.declared.Geometry.{Geometry}
+use Rattle.geometry.specs.Geometry.{mostPieces}
 use Rattle.layout.specs.Bounded.{at, isZero}
 use Rattle.layout.specs.Word.{wordsOf}
 use Rattle.layout.specs.MapSector.{View, valid}
 use Rattle.volume.specs.Recover.{Walk, waitingNumber}
-use Rattle.tournament.specs.Tournament.{ranked, keyAt, Replayed, Keyed}
+use Rattle.tournament.specs.Tournament.{treeLength, ranked, keyAt, Replayed, Keyed}
 
 -- The sectors that wait, and the one taken of each piece that is done.
 abbrev pub walkOf : List ℕ → List ℕ → Walk
@@ -27,9 +28,9 @@ doesWait g tree taken holder s = mayWait tree taken holder (at (wordsOf s) 2) (a
 
 -- With what waits stands a tournament of its numbers.
 pub record Waits (pieces : ℕ) (view : View) (waiting tree taken : List ℕ) : Type 0 where
-  pub few : pieces ≤ 256
+  pub few : pieces ≤ mostPieces
   pub waitingLong : length waiting ≡ pieces
-  pub treeLong : length tree ≡ 512
+  pub treeLong : length tree ≡ treeLength
   pub takenLong : length taken ≡ pieces
   pub keyed : Keyed pieces (waitingNumber view (walkOf waiting taken)) tree
 

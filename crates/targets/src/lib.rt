@@ -3,21 +3,21 @@ ghost use mathlib.Core.Path.{_≡_};
 ghost use mathlib.Core.Bool.{true};
 ghost use Prim.Native.Nat.{_*_, _<_, _≤_};
 ghost use lib.ListN.{length};
-ghost use Rattle.geometry.specs.Geometry.{sectorBytes, piecesFor};
+ghost use Rattle.geometry.specs.Geometry.{sectorBytes, piecesFor, mostPieces};
 ghost use Rattle.layout.specs.Bounded.{at};
 ghost use Rattle.layout.specs.Word.{wordsOf};
 ghost use Rattle.volume.specs.Tables.{sectorAt};
 ghost use Rattle.volume.specs.Commit.{branchesIn};
 ghost use Rattle.volume.specs.Recover.{imageView, numberIn, targetWaits, targetsRead};
-ghost use Rattle.tournament.specs.Tournament.{Tournament};
+ghost use Rattle.tournament.specs.Tournament.{treeLength, Tournament};
 ghost use Rattle.signed.specs.Signed.{signedAt};
 ghost use Rattle.targets.specs.Waiting.{walkOf, mayWait, doesWait, Waits, Put};
 use geometry::Geometry;
 
 // Whether a target waits if it is signed: it is lower in number than the holder, of a piece not done, and newer than what waits for the piece.
 fn may_wait(tree: &[u64], taken: &[u32], holder: u32, number: u32, p: usize) -> bool
-    requires { ⌜ length (now tree) ≡ 512 ⌝ }
-    requires { ⌜ length (now taken) ≤ 256 ⌝ }
+    requires { ⌜ length (now tree) ≡ treeLength ⌝ }
+    requires { ⌜ length (now taken) ≤ mostPieces ⌝ }
     ensures { λ r. ⌜ r ≡ mayWait (now (tree .entry)) (now (taken .entry)) holder number p ⌝ }
 {
     if taken.len() <= p {
@@ -34,8 +34,8 @@ fn may_wait(tree: &[u64], taken: &[u32], holder: u32, number: u32, p: usize) -> 
 
 // Whether a target with the bytes s waits. One that would not by its header is not summed: it changes nothing, signed or not.
 fn does_wait(tree: &[u64], taken: &[u32], s: &[u8], g: Geometry, holder: u32) -> bool
-    requires { ⌜ length (now tree) ≡ 512 ⌝ }
-    requires { ⌜ length (now taken) ≤ 256 ⌝ }
+    requires { ⌜ length (now tree) ≡ treeLength ⌝ }
+    requires { ⌜ length (now taken) ≤ mostPieces ⌝ }
     requires { ⌜ length (now s) ≡ sectorBytes ⌝ }
     requires { ⌜ 1 ≤ g .n ⌝ }
     ensures { λ r. ⌜ r ≡ doesWait g (now (tree .entry)) (now (taken .entry)) holder (now (s .entry)) ⌝ }
@@ -52,8 +52,8 @@ fn does_wait(tree: &[u64], taken: &[u32], s: &[u8], g: Geometry, holder: u32) ->
 pub fn put_in(waiting: &mut [u32], tree: &mut [u64], s: &[u8], k: u32)
     requires { ⌜ length (now s) ≡ sectorBytes ⌝ }
     requires { ⌜ at (wordsOf (now s)) 4 < length (now waiting) ⌝ }
-    requires { ⌜ length (now waiting) ≤ 256 ⌝ }
-    requires { ⌜ length (now tree) ≡ 512 ⌝ }
+    requires { ⌜ length (now waiting) ≤ mostPieces ⌝ }
+    requires { ⌜ length (now tree) ≡ treeLength ⌝ }
     requires { ⌜ Tournament (length (now waiting)) (now tree) ⌝ }
     ensures { λ _. ⌜ Put (now (s .entry)) k (now (waiting .entry)) (now (tree .entry)) (now (waiting .exit)) (now (tree .exit)) ⌝ }
 {

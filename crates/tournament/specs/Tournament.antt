@@ -6,18 +6,23 @@ use mathlib.Core.Bool.{cond}
 use mathlib.Core.List.{List}
 use lib.ListN.{set}
 use lib.Dec.{ltb}
+use Rattle.geometry.specs.Geometry.{mostPieces}
 use Rattle.layout.specs.Bounded.{at, best}
+
+-- The places of the largest tournament: two for each entry.
+abbrev pub treeLength : ℕ
+treeLength = 2 * mostPieces
 
 unfoldable pub greater : ℕ → ℕ → ℕ
 greater a b = cond (ltb a b) b a
 
--- What stands for entry q: its key, and in the lowest byte what puts the lowest of equal ones first.
+-- What stands for entry q: its key, and below its unit what puts the lowest of equal ones first.
 abbrev pub ranked : ℕ → ℕ → ℕ → ℕ
-ranked n q key = 256 * key + (n - 1 - q)
+ranked n q key = mostPieces * key + (n - 1 - q)
 
 -- The key that entry q holds.
 unfoldable pub keyAt : ℕ → List ℕ → ℕ → ℕ
-keyAt n tree q = at tree (n + q) / 256
+keyAt n tree q = at tree (n + q) / mostPieces
 
 -- With the first entry struck out: its key is 0, and its matches are as they were.
 abbrev pub firstStruck : ℕ → List ℕ → List ℕ
@@ -34,7 +39,7 @@ Played tree k = at tree k ≡ greater (at tree (2 * k)) (at tree (2 * k + 1))
 -- All matches are played, and each entry stands at its place.
 pub record Tournament (n : ℕ) (tree : List ℕ) : Type 0 where
   pub played : (k : ℕ) → 1 ≤ k → k < n → Played tree k
-  pub entered : (q : ℕ) → q < n → at tree (n + q) % 256 ≡ n - 1 - q
+  pub entered : (q : ℕ) → q < n → at tree (n + q) % mostPieces ≡ n - 1 - q
 
 -- The matches among n entries are all played, and the entries are kept.
 pub record Replayed (n : ℕ) (before after : List ℕ) : Type 0 where

@@ -48,33 +48,31 @@ module _ (s : State) (im mp pl nu us : List ℕ) (count : ℕ) where
   pub pieces-few : stateFits s (memory im mp pl nu us) ≡ true → piecesFor (s .geometry .l) ≤ 256
   pieces-few e = let m = fits (s .geometry) (state-fits s im mp pl nu us e .range) .most in omega arith
 
-  module _ (b4 : Bool) (f4 : b4 ≡ isRunning (s .phase)) where
-    pub phase-refused : not b4 ≡ true → Refuse WrongPhase ≡ stands
+  pub phase-refused : isRunning (s .phase) ≡ false → Refuse WrongPhase ≡ stands
+  unfolding commitChecks firstOf applies
+  phase-refused e = rw e refl
+
+  module _ (e4 : isRunning (s .phase) ≡ true) (b5 : Bool) (f5 : b5 ≡ tablesAgree s (memory im mp pl nu us)) where
+    pub tables-refused : not b5 ≡ true → Refuse Inconsistent ≡ stands
     unfolding commitChecks firstOf applies
-    phase-refused e = rw (sym f4 ∙ not-true b4 e) refl
+    tables-refused e = rw (e4, sym f5 ∙ not-true b5 e) refl
 
-    module _ (e4 : not b4 ≡ false) (b5 : Bool) (f5 : b5 ≡ tablesAgree s (memory im mp pl nu us)) where
-      pub tables-refused : not b5 ≡ true → Refuse Inconsistent ≡ stands
+    module _ (e5 : not b5 ≡ false) (k pieces : ℕ) (f6 : k ≡ free) (p : pieces ≡ piecesFor (s .geometry .l)) where
+      pub room-refused : k < count + pieces → Refuse NoRoom ≡ stands
       unfolding commitChecks firstOf applies
-      tables-refused e = rw (sym f4 ∙ not-false b4 e4, sym f5 ∙ not-true b5 e) refl
+      room-refused e = rw (e4, sym f5 ∙ not-false b5 e5, lt-ltb free (count + piecesFor (s .geometry .l)) (omega arith)) refl
 
-      module _ (e5 : not b5 ≡ false) (k pieces : ℕ) (f6 : k ≡ free) (p : pieces ≡ piecesFor (s .geometry .l)) where
-        pub room-refused : k < count + pieces → Refuse NoRoom ≡ stands
+      module _ (h : count + pieces ≤ k) where
+        enough : ltb free (count + piecesFor (s .geometry .l)) ≡ false
+        enough = le-ltb free (count + piecesFor (s .geometry .l)) (omega arith)
+
+        pub numbers-refused : 4294967039 < s .number → Refuse NumbersUsedUp ≡ stands
         unfolding commitChecks firstOf applies
-        room-refused e =
-            rw (sym f4 ∙ not-false b4 e4, sym f5 ∙ not-false b5 e5, lt-ltb free (count + piecesFor (s .geometry .l)) (omega arith)) refl
+        numbers-refused e = rw (e4, sym f5 ∙ not-false b5 e5, enough, lt-ltb 4294967039 (s .number) e) refl
 
-        module _ (h : count + pieces ≤ k) where
-          enough : ltb free (count + piecesFor (s .geometry .l)) ≡ false
-          enough = le-ltb free (count + piecesFor (s .geometry .l)) (omega arith)
-
-          pub numbers-refused : 4294967039 < s .number → Refuse NumbersUsedUp ≡ stands
-          unfolding commitChecks firstOf applies
-          numbers-refused e = rw (sym f4 ∙ not-false b4 e4, sym f5 ∙ not-false b5 e5, enough, lt-ltb 4294967039 (s .number) e) refl
-
-          pub none-refused : s .number ≤ 4294967039 → Pass ≡ stands
-          unfolding commitChecks firstOf applies
-          none-refused e = rw (sym f4 ∙ not-false b4 e4, sym f5 ∙ not-false b5 e5, enough, le-ltb 4294967039 (s .number) e) refl
+        pub none-refused : s .number ≤ 4294967039 → Pass ≡ stands
+        unfolding commitChecks firstOf applies
+        none-refused e = rw (e4, sym f5 ∙ not-false b5 e5, enough, le-ltb 4294967039 (s .number) e) refl
 
 -- All together: the verdict on the lengths is v.
 module _ (s : State) (im mp pl nu us : List ℕ) (head : ℕ) (blocks : List ℕ) (fit : Bool) (count : ℕ) (v : Verdict)

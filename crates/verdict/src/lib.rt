@@ -5,9 +5,10 @@ ghost use mathlib.Core.List.{[]};
 ghost use Prim.Native.Nat.{_+_, _≤_};
 ghost use lib.ListN.{length};
 ghost use lib.Dec.{ltb};
-ghost use Rattle.geometry.specs.Geometry.{piecesFor};
-ghost use Rattle.volume.specs.Tables.{bitAt, memory, freeSectors};
+ghost use Rattle.geometry.specs.Geometry.{piecesFor, commitBlocks};
 ghost use Rattle.answer.specs.Answer.{standing};
+ghost use Rattle.state.specs.State.{isRunning};
+ghost use Rattle.volume.specs.Tables.{bitAt, memory, freeSectors};
 ghost use Rattle.volume.specs.Refusals.{firstOf, judged};
 ghost use Rattle.volume.specs.Format.{tablesFit};
 ghost use Rattle.volume.specs.Placing.{base};
@@ -15,13 +16,14 @@ ghost use Rattle.volume.specs.Calls.{stateFits, commitChecks};
 use answer::Refusal;
 use answer::Verdict;
 use geometry::Geometry;
+use state::Phase;
 use state::State;
 
 // A tail with a greater number leaves too few numbers for another commit.
 const GREATEST: u32 = 4_294_967_039;
 
-// The refusals that follow from how the volume stands. A drop needs no sectors of its own: P are always free.
-fn standing_verdict(
+// Of a running volume: the refusals that follow from how its tables stand. A drop needs no sectors of its own: P are always free.
+fn running_verdict(
     s: State,
     image: &[u8],
     map: &[u32],
@@ -30,14 +32,12 @@ fn standing_verdict(
     used: &[u8],
     count: usize,
 ) -> Verdict
+    requires { ⌜ isRunning (s .phase) ≡ true ⌝ }
     requires { ⌜ stateFits s (memory (now image) (now map) (now places) (now numbers) (now used)) ≡ true ⌝ }
     requires { ⌜ tablesFit (memory (now image) (now map) (now places) (now numbers) (now used)) (s .geometry) ≡ true ⌝ }
-    requires { ⌜ count ≤ 64 ⌝ }
+    requires { ⌜ count ≤ commitBlocks ⌝ }
     ensures { λ r. ⌜ r ≡ firstOf standing (commitChecks base s (memory (now (image .entry)) (now (map .entry)) (now (places .entry)) (now (numbers .entry)) (now (used .entry))) 0 [] true (not (ltb (freeSectors (s .geometry .n) (bitAt (now (used .entry)))) (count + piecesFor (s .geometry .l))))) ⌝ }
 {
-    if !s.is_running() {
-        return Verdict::Refuse(Refusal::WrongPhase);
-    }
     let g = s.geometry;
     let free = bits::count_free(used, g.n);
     if !live_sectors::tables_agree(s, image, map, places, numbers, used, free) {
@@ -51,6 +51,29 @@ fn standing_verdict(
         return Verdict::Refuse(Refusal::NumbersUsedUp);
     }
     Verdict::Pass
+}
+
+// The refusals that follow from how the volume stands.
+fn standing_verdict(
+    s: State,
+    image: &[u8],
+    map: &[u32],
+    places: &[u32],
+    numbers: &[u32],
+    used: &[u8],
+    count: usize,
+) -> Verdict
+    requires { ⌜ stateFits s (memory (now image) (now map) (now places) (now numbers) (now used)) ≡ true ⌝ }
+    requires { ⌜ tablesFit (memory (now image) (now map) (now places) (now numbers) (now used)) (s .geometry) ≡ true ⌝ }
+    requires { ⌜ count ≤ commitBlocks ⌝ }
+    ensures { λ r. ⌜ r ≡ firstOf standing (commitChecks base s (memory (now (image .entry)) (now (map .entry)) (now (places .entry)) (now (numbers .entry)) (now (used .entry))) 0 [] true (not (ltb (freeSectors (s .geometry .n) (bitAt (now (used .entry)))) (count + piecesFor (s .geometry .l))))) ⌝ }
+{
+    let phase = s.phase;
+    match phase {
+        Phase::Running => running_verdict(s, image, map, places, numbers, used, count),
+        Phase::Parked => Verdict::Refuse(Refusal::WrongPhase),
+        Phase::Cut => Verdict::Refuse(Refusal::WrongPhase),
+    }
 }
 
 // The refusals of a commit, in their order.

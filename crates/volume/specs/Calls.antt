@@ -13,7 +13,7 @@ use Rattle.answer.specs.declared.Verdict.{Verdict}
 use Rattle.answer.specs.declared.Verdict.the-variants.{Pass, Refuse}
 use Rattle.layout.specs.Bounded.{at, all, allBelow}
 use Rattle.geometry.specs.declared.Geometry.{Geometry}
-use Rattle.geometry.specs.Geometry.{within, sectorBytes, piecesFor, geometryFits}
+use Rattle.geometry.specs.Geometry.{within, sectorBytes, commitBlocks, piecesFor, geometryFits}
 use Rattle.layout.specs.MapSector.{View, decoded}
 use Rattle.layout.specs.Entry.{isEmpty, sectorOf, stored, entryFor, restored}
 use Rattle.layout.specs.ParkRecord.{parkRecord}
@@ -36,7 +36,7 @@ stateFits s m = eqb (m .lengths .image) (sectorBytes * s .geometry .n) && geomet
 -- Refusal 3: 1 to 64 strictly ascending block numbers below L, and a head below N.
 unfoldable pub blocksFit : Geometry → ℕ → List ℕ → Bool
 blocksFit g head blocks =
-    within 1 64 (length blocks)
+    within 1 commitBlocks (length blocks)
     && allBelow (λ i. ltb (at blocks i) (at blocks (suc i))) (length blocks - 1)
     && all (λ b. ltb b (g .l)) blocks
     && ltb head (g .n)

@@ -2,6 +2,7 @@
 use Prim.Native.Nat.{ℕ, zero, suc}
 use mathlib.Core.Bool.{Bool, cond, _||_}
 use lib.Dec.{eqb, ltb}
+use Rattle.geometry.specs.Geometry.{branchRoom}
 
 -- What the reasoning about commits leaves open: how a free sector is chosen (of N sectors, by the used map, from a start),
 -- where the search after it starts, how many branches a map sector may list, and the greatest number of a tail that
@@ -29,7 +30,7 @@ base =
     record {
       choose = λ n isUsed start. firstFree n isUsed n start;
       next = sectorAfter;
-      branchLimit = 24;
+      branchLimit = branchRoom;
       greatest = 4294967039;
     }
 

@@ -3,7 +3,7 @@ ghost use mathlib.Core.Path.{_≡_};
 ghost use mathlib.Core.Bool.{true, not};
 ghost use Prim.Native.Nat.{ℕ, _+_, _*_, _≤_, _<_};
 ghost use lib.ListN.{length};
-ghost use Rattle.geometry.specs.Geometry.{sectorBytes, piecesFor, usedBytes, geometryFits};
+ghost use Rattle.geometry.specs.Geometry.{sectorBytes, piecesFor, usedBytes, geometryFits, entriesPerPiece, branchRoom, mostPieces};
 ghost use Rattle.layout.specs.Bounded.{at, allBelow, listFrom, isZero};
 ghost use Rattle.layout.specs.Word.{wordsOf};
 ghost use Rattle.volume.specs.Tables.{sectorAt};
@@ -45,7 +45,7 @@ fn read_numbers(numbers: &mut [u32], image: &[u8], places: &[u32])
 
 // The map and the numbers of the sectors that a walk took.
 fn walk_fill(image: &[u8], places: &[u32], map: &mut [u32], numbers: &mut [u32])
-    requires { ⌜ length (now map) ≤ 96 * length (now places) ⌝ }
+    requires { ⌜ length (now map) ≤ entriesPerPiece * length (now places) ⌝ }
     requires { ⌜ length (now numbers) ≤ length (now places) ⌝ }
     requires { ⌜ ((p : ℕ) → p < length (now places) → sectorBytes * at (now places) p + sectorBytes ≤ length (now image)) ⌝ }
     ensures { λ _. ⌜ (now (map .exit) ≡ mapFrom (sectorAt (now (image .entry))) (now (places .entry)) (length (now (map .entry)))) × (now (numbers .exit) ≡ listFrom (λ p. at (wordsOf (sectorAt (now (image .entry)) (at (now (places .entry)) p))) 2) 0 (length (now (numbers .entry)))) ⌝ }
@@ -86,9 +86,9 @@ pub fn walk_tables(
 
 // The branches of the sectors at these places.
 pub fn count_branches(image: &[u8], places: &[u32]) -> u32
-    requires { ⌜ length (now places) ≤ 256 ⌝ }
+    requires { ⌜ length (now places) ≤ mostPieces ⌝ }
     requires { ⌜ ((p : ℕ) → p < length (now places) → sectorBytes * at (now places) p + sectorBytes ≤ length (now image)) ⌝ }
-    requires { ⌜ ((p : ℕ) → p < length (now places) → at (wordsOf (sectorAt (now image) (at (now places) p))) 6 ≤ 24) ⌝ }
+    requires { ⌜ ((p : ℕ) → p < length (now places) → at (wordsOf (sectorAt (now image) (at (now places) p))) 6 ≤ branchRoom) ⌝ }
     ensures { λ r. ⌜ (r ≡ branchWordCount (sectorAt (now (image .entry))) (at (now (places .entry))) (length (now (places .entry)))) × (r ≤ 6144) ⌝ }
 {
     let mut count: u32 = 0;

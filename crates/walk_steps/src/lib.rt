@@ -94,8 +94,8 @@ pub fn walk_from(taken: &mut [u32], image: &[u8], g: Geometry, tail: u32)
     requires { ⌜ now taken ≡ replicate (piecesFor (g .l)) 0 ⌝ }
     ensures { λ _. ⌜ now (taken .exit) ≡ listFrom (walkFrom (piecesFor (g .l)) (imageView g (sectorAt (now (image .entry)))) tail) 0 (piecesFor (g .l)) ⌝ }
 {
-    let mut waiting = [0u32; 256];
-    let mut tree = [0u64; 512];
+    let mut waiting = [0u32; Geometry::MOST_PIECES];
+    let mut tree = [0u64; tournament::TREE];
     let pieces = taken.len();
     tournament::start(&mut tree, pieces);
     walk_waiting(&mut waiting[..pieces], &mut tree, taken, image, g, tail);

@@ -1,8 +1,12 @@
 -- Each refusal is the first that applies, by the laws of ReadLaws.
-use Rattle.read.proofs.ReadLaws.{lengths-refused, block-refused, phase-refused, entry-refused, none-refused, in-map, some-sectors}
+use mathlib.Core.Path.{ap}
+use Rattle.state.specs.State.{isReadable}
+use Rattle.read.proofs.ReadLaws.{lengths-refused, block-refused, phase-refused, readable-judged, in-map, some-sectors}
 use borrow.Author.Needs.{needs}
 use Rattle.read.proofs.read_verdict.Statement.{statement}
 use Rattle.read.proofs.read_verdict.Tie as tie
+use Rattle.checks.proofs.state_verdict.Reads as state-verdict-reads
+use Rattle.read.proofs.entry_verdict.Reads as entry-verdict-reads
 
 state-verdict-requires : tie.Need-state-verdict-requires
 state-verdict-requires c κs = search needs
@@ -15,67 +19,71 @@ enum-told c = search needs
 
 returns : tie.Need-returns
 returns c =
-    let the-enum-told = c .before .before .before .enum-told in
     let the-state-verdict = c .before .before .before .before .before .state-verdict in
+    let the-enum-told = c .before .before .before .enum-told in
     block-refused _ _ _ _ _ _ _ _ (the-state-verdict .result) (the-state-verdict .ensures) (the-enum-told .given .1) (c .if1 .taken)
 
-is-readable-requires : tie.Need-is-readable-requires
-is-readable-requires c κs = search needs
+mul-entry : tie.Need-mul-entry
+mul-entry c = search needs
 
-returns-2 : tie.Need-returns-2
-returns-2 c =
-    let the-is-readable = c .before .is-readable in
-    let the-if1 = c .before .before .if1 in
-    let the-enum-told = c .before .before .before .before .before .enum-told in
-    let the-state-verdict = c .before .before .before .before .before .before .before .state-verdict in
-    phase-refused _ _ _ _ _ _ _ _ (the-state-verdict .result) (the-state-verdict .ensures) (the-enum-told .given .1) (the-if1 .left)
-    (the-is-readable .result) (the-is-readable .ensures) (c .if2 .taken)
-
-mul-entry-readable : tie.Need-mul-entry-readable
-mul-entry-readable c = search needs
-
-shared-slice-read-entry-readable : tie.Need-shared-slice-read-entry-readable
-shared-slice-read-entry-readable c =
-    let the-if1 = c .before .before .before .if1 in
-    let the-enum-told = c .before .before .before .before .before .before .enum-told in
-    let the-state-verdict = c .before .before .before .before .before .before .before .before .state-verdict in
-    let a = c .before .before .before .before .before .before .before .before .before .before .before .before .before .before .args in
+shared-slice-read-entry : tie.Need-shared-slice-read-entry
+shared-slice-read-entry c =
+    let the-state-verdict = c .before .before .before .before .before .before .state-verdict in
+    let the-enum-told = c .before .before .before .before .enum-told in
+    let the-if1 = c .before .if1 in
+    let a = c .before .before .before .before .before .before .before .before .before .before .before .before .args in
     in-map (a .s) (a .image .now) (a .map .now) (a .places .now) (a .numbers .now) (a .used .now) (a .block) (a .out) (the-state-verdict .result) (the-state-verdict .ensures) (the-enum-told .given .1) (the-if1 .left)
 
-entry-readable-requires : tie.Need-entry-readable-requires
-entry-readable-requires c κs =
-    let the-enum-told = c .before .before .before .before .before .before .enum-told in
+enum-told-2 : tie.Need-enum-told-2
+enum-told-2 c = search needs
+
+entry-verdict-requires : tie.Need-entry-verdict-requires
+entry-verdict-requires c κs =
     let the-state-verdict = c .before .before .before .before .before .before .before .before .state-verdict in
+    let the-enum-told = c .before .before .before .before .before .before .enum-told in
     let a = c .before .before .before .before .before .before .before .before .before .before .before .before .before .before .args in
     some-sectors (a .s) (a .image .now) (a .map .now) (a .places .now) (a .numbers .now) (a .used .now) (a .block) (a .out) (the-state-verdict .result) (the-state-verdict .ensures) (the-enum-told .given .1)
 
+enum-told-3 : tie.Need-enum-told-3
+enum-told-3 c = search needs
+
+entry-verdict-requires-2 : tie.Need-entry-verdict-requires-2
+entry-verdict-requires-2 c κs =
+    let the-state-verdict = c .before .before .before .before .before .before .before .before .state-verdict in
+    let the-enum-told = c .before .before .before .before .before .before .enum-told in
+    let a = c .before .before .before .before .before .before .before .before .before .before .before .before .before .before .args in
+    some-sectors (a .s) (a .image .now) (a .map .now) (a .places .now) (a .numbers .now) (a .used .now) (a .block) (a .out) (the-state-verdict .result) (the-state-verdict .ensures) (the-enum-told .given .1)
+
+enum-told-4 : tie.Need-enum-told-4
+enum-told-4 c = search needs
+
+returns-2 : tie.Need-returns-2
+returns-2 c =
+    let the-state-verdict = c .before .before .before .state-verdict in
+    lengths-refused _ _ _ _ _ _ _ _ (the-state-verdict .result) (the-state-verdict .ensures) _ (c .before .lengths .given .1)
+
 returns-3 : tie.Need-returns-3
 returns-3 c =
-    let the-entry-readable = c .before .entry-readable in
-    let the-if2 = c .before .before .before .if2 in
-    let the-is-readable = c .before .before .before .before .is-readable in
-    let the-if1 = c .before .before .before .before .before .if1 in
-    let the-enum-told = c .before .before .before .before .before .before .before .before .enum-told in
-    let the-state-verdict = c .before .before .before .before .before .before .before .before .before .before .state-verdict in
-    entry-refused _ _ _ _ _ _ _ _ (the-state-verdict .result) (the-state-verdict .ensures) (the-enum-told .given .1) (the-if1 .left)
-    (the-is-readable .result) (the-is-readable .ensures) (the-if2 .left) (the-entry-readable .result) (the-entry-readable .ensures) (c .if3 .taken)
+    let the-state-verdict = c .before .before .before .before .before .before .before .before .before .state-verdict in
+    let the-enum-told = c .before .before .before .before .before .before .before .enum-told in
+    let the-if1 = c .before .before .before .before .if1 in
+    readable-judged _ _ _ _ _ _ _ _ (the-state-verdict .result) (the-state-verdict .ensures) (the-enum-told .given .1) (the-if1 .left)
+    (c .entry-verdict .result) (ap isReadable (c .before .enum-told2 .given .1)) (c .entry-verdict .ensures)
 
 returns-4 : tie.Need-returns-4
 returns-4 c =
-    let the-lengths = c .before .lengths in
-    let the-state-verdict = c .before .before .before .state-verdict in
-    lengths-refused _ _ _ _ _ _ _ _ (the-state-verdict .result) (the-state-verdict .ensures) _ (the-lengths .given .1)
+    let the-state-verdict = c .before .before .before .before .before .before .before .before .before .state-verdict in
+    let the-enum-told = c .before .before .before .before .before .before .before .enum-told in
+    let the-if1 = c .before .before .before .before .if1 in
+    readable-judged _ _ _ _ _ _ _ _ (the-state-verdict .result) (the-state-verdict .ensures) (the-enum-told .given .1) (the-if1 .left)
+    (c .entry-verdict2 .result) (ap isReadable (c .before .enum-told3 .given .1)) (c .entry-verdict2 .ensures)
 
 returns-5 : tie.Need-returns-5
 returns-5 c =
-    let the-entry-readable = c .before .entry-readable in
-    let the-if2 = c .before .before .before .if2 in
-    let the-is-readable = c .before .before .before .before .is-readable in
-    let the-if1 = c .before .before .before .before .before .if1 in
-    let the-enum-told = c .before .before .before .before .before .before .before .before .enum-told in
-    let the-state-verdict = c .before .before .before .before .before .before .before .before .before .before .state-verdict in
-    none-refused _ _ _ _ _ _ _ _ (the-state-verdict .result) (the-state-verdict .ensures) (the-enum-told .given .1) (the-if1 .left)
-    (the-is-readable .result) (the-is-readable .ensures) (the-if2 .left) (the-entry-readable .result) (the-entry-readable .ensures) (c .if3 .left)
+    let the-state-verdict = c .before .before .before .before .before .before .before .before .state-verdict in
+    let the-enum-told = c .before .before .before .before .before .before .enum-told in
+    let the-if1 = c .before .before .before .if1 in
+    phase-refused _ _ _ _ _ _ _ _ (the-state-verdict .result) (the-state-verdict .ensures) (the-enum-told .given .1) (the-if1 .left) (ap isReadable (c .enum-told4 .given .1))
 
 pub read-verdict-spec : {M : Type 1} → statement M
 read-verdict-spec =
@@ -85,11 +93,14 @@ read-verdict-spec =
     enum-known-lengths
     enum-told
     returns
-    is-readable-requires
+    mul-entry
+    shared-slice-read-entry
+    enum-told-2
+    entry-verdict-requires
+    enum-told-3
+    entry-verdict-requires-2
+    enum-told-4
     returns-2
-    mul-entry-readable
-    shared-slice-read-entry-readable
-    entry-readable-requires
     returns-3
     returns-4
     returns-5)

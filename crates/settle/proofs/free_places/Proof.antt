@@ -1,4 +1,4 @@
--- The places of the written pieces below p are free.
+-- The places of the written pieces below q are free.
 use borrow.Author.Needs.{needs}
 use Prim.Native.Nat.{ℕ, _-_, _≤_}
 use mathlib.Core.Path.{_≡_, refl, _∙_, ap}
@@ -15,10 +15,10 @@ use Rattle.settle.proofs.free_places.Tie as tie
 use Rattle.bits.proofs.clear_bit.Reads as clear-bit-reads
 
 abbrev Inv-pieces : tie.InvT-pieces
-Inv-pieces used₀ places written p₀ used p = (p ≤ length places) × (length used ≡ length used₀) × (bitAt used ≡ without (bitAt used₀) (flagged written) (at places) p)
+Inv-pieces used₀ places written q₀ used q = (q ≤ length places) × (length used ≡ length used₀) × (bitAt used ≡ without (bitAt used₀) (flagged written) (at places) q)
 
 abbrev μ-pieces : tie.MeasureT-pieces
-μ-pieces used₀ places written p₀ used p = length places - p
+μ-pieces used₀ places written q₀ used q = length places - q
 
 pieces-holds : tie.Need-pieces-holds Inv-pieces μ-pieces
 pieces-holds c =
@@ -27,8 +27,8 @@ pieces-holds c =
 shared-slice-read-if1 : tie.Need-shared-slice-read-if1 Inv-pieces μ-pieces
 shared-slice-read-if1 c = omega arith
 
-add-p : tie.Need-add-p Inv-pieces μ-pieces
-add-p c = omega arith
+add-q : tie.Need-add-q Inv-pieces μ-pieces
+add-q c = omega arith
 
 pieces-less : tie.Need-pieces-less Inv-pieces μ-pieces
 pieces-less c = omega arith
@@ -36,7 +36,7 @@ pieces-less c = omega arith
 pieces-again : tie.Need-pieces-again Inv-pieces μ-pieces
 pieces-again c =
     let l = c .before .before .before .pieces in
-    (omega arith, l .inv .1, without-miss _ _ _ (l .p) (bitAt (l .used)) (not-flagged _ (l .p) (c .if1 .taken)) (l .inv .2))
+    (omega arith, l .inv .1, without-miss _ _ _ (l .q) (bitAt (l .used)) (not-flagged _ (l .q) (c .if1 .taken)) (l .inv .2))
 
 mul-clear-bit : tie.Need-mul-clear-bit Inv-pieces μ-pieces
 mul-clear-bit c = search needs
@@ -47,7 +47,7 @@ shared-slice-read-clear-bit c = search needs
 cast-clear-bit : tie.Need-cast-clear-bit Inv-pieces μ-pieces
 cast-clear-bit c =
     let the-pieces = c .before .before .before .before .before .pieces in
-    let h = c .shared-slice-known4 .given (the-pieces .p) in
+    let h = c .shared-slice-known4 .given (the-pieces .q) in
     omega arith
 
 clear-bit-requires : tie.Need-clear-bit-requires Inv-pieces μ-pieces
@@ -57,8 +57,8 @@ clear-bit-requires c κs =
     let h = the-pre .1 _ (the-pieces-test .taken) in
     omega arith
 
-add-p-2 : tie.Need-add-p-2 Inv-pieces μ-pieces
-add-p-2 c = omega arith
+add-q-2 : tie.Need-add-q-2 Inv-pieces μ-pieces
+add-q-2 c = omega arith
 
 pieces-less-2 : tie.Need-pieces-less-2 Inv-pieces μ-pieces
 pieces-less-2 c = omega arith
@@ -68,7 +68,7 @@ pieces-again-2 c =
     let the-clear-bit = c .before .before .clear-bit in
     let the-if1 = c .before .before .before .before .before .if1 in
     let l = c .before .before .before .before .before .before .before .before .pieces in
-    (omega arith, the-clear-bit .kept .0 ∙ l .inv .1, without-hit _ _ _ (l .p) (bitAt (l .used)) _ (is-flagged _ (l .p) (the-if1 .left)) (l .inv .2) (the-clear-bit .ensures))
+    (omega arith, the-clear-bit .kept .0 ∙ l .inv .1, without-hit _ _ _ (l .q) (bitAt (l .used)) _ (is-flagged _ (l .q) (the-if1 .left)) (l .inv .2) (the-clear-bit .ensures))
 
 same-length : tie.Need-same-length Inv-pieces μ-pieces
 same-length c = search needs
@@ -77,7 +77,7 @@ returns : tie.Need-returns Inv-pieces μ-pieces
 returns c =
     let a = c .before .before .before .before .before .args in
     let l = c .before .pieces in
-    l .inv .2 ∙ ap {B = ℕ → Bool} (λ (x : ℕ). without (bitAt (a .used .now)) (flagged (a .written .now)) (at (a .places .now)) x) (let e : l .p ≡ length (a .places .now) = omega arith in e)
+    l .inv .2 ∙ ap {B = ℕ → Bool} (λ (x : ℕ). without (bitAt (a .used .now)) (flagged (a .written .now)) (at (a .places .now)) x) (let e : l .q ≡ length (a .places .now) = omega arith in e)
 
 pub free-places-spec : {M : Type 1} → statement M
 free-places-spec =
@@ -87,14 +87,14 @@ free-places-spec =
     μ-pieces
     pieces-holds
     shared-slice-read-if1
-    add-p
+    add-q
     pieces-less
     pieces-again
     mul-clear-bit
     shared-slice-read-clear-bit
     cast-clear-bit
     clear-bit-requires
-    add-p-2
+    add-q-2
     pieces-less-2
     pieces-again-2
     same-length

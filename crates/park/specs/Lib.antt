@@ -1,0 +1,2 @@
+-- What this crate's contracts say.
+pub mod Park
