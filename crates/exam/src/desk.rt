@@ -29,7 +29,7 @@ pub const MAP: usize = 24576;
 
 pub const PIECES: usize = 256;
 
-pub const USED: usize = 512;
+pub const USED: usize = calls::USED;
 
 // The number after a line's.
 fn counted(line: u32) -> u32 {
