@@ -10,6 +10,9 @@ use state::State;
 use storing_calls::Storing;
 use wording::say;
 
+// The bytes of the used map of the sectors that the program holds.
+pub const USED: usize = 512;
+
 // A line's call among those that may store.
 fn storing(call: Call) -> Storing {
     match call {
@@ -140,14 +143,28 @@ fn sector_part(image: &[u8], k: u32) -> &[u8] {
     words::part(image, first, first + 512)
 }
 
-// The sectors of the image, a line each.
-fn show_sectors(image: &[u8], g: Geometry) {
+// The sectors of the image, a line each, with the marks that a scan made where it found a log.
+fn say_sectors(image: &[u8], g: Geometry, found: bool, used: &[u8]) {
     let n = g.n;
     let mut k = 0u32;
     while k < n {
-        sector_line::say_sector(sector_part(image, k), k, g);
+        let live = found && live_marks::is_live(used, k as usize);
+        sector_line::say_sector(sector_part(image, k), k, g, live);
         k += 1;
     }
+}
+
+// Marks the live sectors in the part of the used map that belongs to the volume.
+fn mark_live(image: &[u8], g: Geometry, used: &mut [u8]) -> bool {
+    let bytes = within(g.used_bytes() as usize, used.len());
+    live_marks::mark_live(image, g, &mut used[..bytes])
+}
+
+// The sectors by the image alone, whatever the volume's own tables say.
+fn show_sectors(image: &[u8], g: Geometry) {
+    let mut used = [0u8; USED];
+    let found = mark_live(image, g, &mut used);
+    say_sectors(image, g, found, &used);
 }
 
 fn say_done(call: Call, done: Outcome) {

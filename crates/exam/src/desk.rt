@@ -1,7 +1,12 @@
 // The desk: it takes a line apart, lends the volume's parts to the call, and keeps the state.
+ghost use Rattle.line_reader.specs.Reader.{Placed};
 use crate::calls;
 use geometry::Geometry;
 use geometry::Settings;
+use line_reader::LINE;
+use line_reader::Reader;
+use line_reader::Standing;
+use line_reader::WINDOW;
 use paper::data::Trouble;
 use paper::request;
 use paper::request::Call;
@@ -13,11 +18,10 @@ pub struct Desk {
     pub state: State,
     // Whether there is a volume.
     pub open: bool,
-    // Whether a line was not understood.
+    // Whether the paper is at its end, or a line was not understood.
     pub stopped: bool,
-    // The line's number, from 1, and where in the paper the next one begins.
+    // The line's number, from 1.
     pub line: u32,
-    pub at: usize,
 }
 
 // Sectors that the program holds, and their bytes; the largest map and its pieces; the used map of so many sectors.
@@ -29,7 +33,7 @@ pub const MAP: usize = 24576;
 
 pub const PIECES: usize = 256;
 
-pub const USED: usize = 512;
+pub const USED: usize = calls::USED;
 
 // The number after a line's.
 fn counted(line: u32) -> u32 {
@@ -46,19 +50,17 @@ impl Desk {
             open: false,
             stopped: false,
             line: 0,
-            at: 0,
         }
     }
 
-    // The desk at the next line; the one after it begins at `at`.
-    pub fn moved(self, at: usize) -> Desk {
+    // The desk at the next line.
+    fn moved(self) -> Desk {
         let state = self.state;
         Desk {
             state,
             open: self.open,
             stopped: self.stopped,
             line: counted(self.line),
-            at,
         }
     }
 
@@ -69,7 +71,6 @@ impl Desk {
             open: self.open,
             stopped: true,
             line: self.line,
-            at: self.at,
         }
     }
 
@@ -79,7 +80,6 @@ impl Desk {
             open,
             stopped: self.stopped,
             line: self.line,
-            at: self.at,
         }
     }
 }
@@ -205,7 +205,7 @@ fn answer_call(
 }
 
 // A line of the paper.
-pub fn answer_line(
+fn answer_line(
     desk: Desk,
     line: &[u8],
     image: &mut [u8; IMAGE],
@@ -218,5 +218,43 @@ pub fn answer_line(
     match call {
         Call::Nothing => desk,
         _ => answer_call(desk, call, line, image, map, places, numbers, used),
+    }
+}
+
+// What the reader found: the next line, or why there is none.
+pub fn answer_next(
+    desk: Desk,
+    window: &[u8; WINDOW],
+    reader: Reader,
+    image: &mut [u8; IMAGE],
+    map: &mut [u32; MAP],
+    places: &mut [u32; PIECES],
+    numbers: &mut [u32; PIECES],
+    used: &mut [u8; USED],
+) -> Desk
+    requires { ⌜ Placed reader ⌝ }
+{
+    let here = desk.moved();
+    let standing = reader.standing();
+    match standing {
+        Standing::Whole => answer_line(
+            here,
+            line_reader::line(window, reader),
+            image,
+            map,
+            places,
+            numbers,
+            used,
+        ),
+        Standing::Nothing => desk.stop(),
+        Standing::Long => {
+            say::say_long_line(here.line, LINE as u64);
+            here.stop()
+        }
+        // A read failed; the reader leaves no line open otherwise.
+        _ => {
+            say::say_unreadable(here.line);
+            here.stop()
+        }
     }
 }

@@ -3,45 +3,27 @@ mod calls;
 mod desk;
 
 use desk::Desk;
-use paper::words;
-use wording::say;
+use line_reader::Reader;
 
-// The line of the paper that is next, if there is one.
-fn answer_next(
-    paper: &[u8],
-    desk: Desk,
-    image: &mut [u8; desk::IMAGE],
-    map: &mut [u32; desk::MAP],
-    places: &mut [u32; desk::PIECES],
-    numbers: &mut [u32; desk::PIECES],
-    used: &mut [u8; desk::USED],
-) -> Desk {
-    let at = desk.at;
-    if at >= paper.len() {
-        return desk;
-    }
-    if desk.stopped {
-        return desk;
-    }
-    let end = words::line_end(paper, at);
-    let line = words::trimmed(words::part(paper, at, end));
-    let here = desk.moved(words::after(paper, end));
-    desk::answer_line(here, line, image, map, places, numbers, used)
-}
-
-// The lines of a paper, one after the other. Each takes a byte at least, so the bytes of the paper are turns enough.
+// The lines of a paper, one after the other. Nothing says that a paper ends, so they are counted down from a number that no run uses up.
 fn answer_lines(
-    paper: &[u8],
     image: &mut [u8; desk::IMAGE],
     map: &mut [u32; desk::MAP],
     places: &mut [u32; desk::PIECES],
     numbers: &mut [u32; desk::PIECES],
     used: &mut [u8; desk::USED],
 ) {
+    let mut window = [0u8; line_reader::WINDOW];
+    let mut reader = Reader::opened();
     let mut desk = Desk::opened();
-    let mut left = paper.len();
+    let mut left = u64::MAX;
     while left > 0 {
-        desk = answer_next(paper, desk, image, map, places, numbers, used);
+        reader = line_reader::next_line(&mut window, reader);
+        desk = desk::answer_next(desk, &window, reader, image, map, places, numbers, used);
+        if desk.stopped {
+            return;
+        }
+        reader = reader.passed();
         left -= 1;
     }
 }
@@ -52,23 +34,10 @@ fn blank_image() -> [u8; desk::IMAGE] {
 }
 
 fn main() {
-    let mut input = [0u8; 65537];
-    let length = io::read_full(0, &mut input);
-    if length > 65536 {
-        say::say(b"line 1: expected a paper of at most 65536 bytes, found more\n");
-        return;
-    }
     let mut image = blank_image();
     let mut map = [0u32; desk::MAP];
     let mut places = [0u32; desk::PIECES];
     let mut numbers = [0u32; desk::PIECES];
     let mut used = [0u8; desk::USED];
-    answer_lines(
-        &input[..length],
-        &mut image,
-        &mut map,
-        &mut places,
-        &mut numbers,
-        &mut used,
-    );
+    answer_lines(&mut image, &mut map, &mut places, &mut numbers, &mut used);
 }

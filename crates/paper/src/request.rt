@@ -159,13 +159,13 @@ fn other_named(word: &[u8]) -> Call {
     Call::Unknown
 }
 
-// The call that a line asks for. A line whose first byte is # is a comment.
+// The call that a line asks for. A line whose first word begins with # is a comment.
 pub fn call_of(line: &[u8]) -> Call {
     let start = words::word_start(line, 0);
     if start >= line.len() {
         return Call::Nothing;
     }
-    if words::byte_at(line, 0) == 35 {
+    if words::byte_at(line, start) == 35 {
         return Call::Nothing;
     }
     let word = words::part(line, start, words::word_end(line, start));

@@ -72,13 +72,16 @@ fn say_kind(s: &[u8], k: u32, g: Geometry)
     say::say(b" data");
 }
 
-// The line of sector k of a volume.
-pub fn say_sector(s: &[u8], k: u32, g: Geometry) {
+// The line of sector k of a volume, and whether it is live.
+pub fn say_sector(s: &[u8], k: u32, g: Geometry, live: bool) {
     say::say_count(b"sector ", k);
     if s.len() == 512 {
         if 1 <= g.n {
             say_kind(s, k, g);
         }
+    }
+    if live {
+        say::say(b"; live");
     }
     say::say(b"\n");
 }

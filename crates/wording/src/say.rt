@@ -250,3 +250,17 @@ pub fn say_obstacle(number: u32, line: &[u8], trouble: Trouble) {
     say(shortened(line));
     say(b"\n");
 }
+
+// A line that is longer than any that is read: at most so many bytes.
+pub fn say_long_line(number: u32, most: u64) {
+    say_count(b"line ", number);
+    say(b": expected a line of at most ");
+    io::print_decimal(STDOUT_FILENO, most);
+    say(b" bytes, found a longer one\n");
+}
+
+// A line whose end cannot be read.
+pub fn say_unreadable(number: u32) {
+    say_count(b"line ", number);
+    say(b": expected the rest of the paper, which cannot be read\n");
+}

@@ -1,21 +1,37 @@
+-- The reader keeps to its window.
 use borrow.Author.Needs.{needs}
+use Rattle.line_reader.specs.Reader.{Placed}
 use Rattle.exam.proofs.answer_lines.Statement.{statement}
 use Rattle.exam.proofs.answer_lines.Tie as tie
 
 abbrev Inv-loop : tie.InvT-loop
-Inv-loop paper image₀ map₀ places₀ numbers₀ used₀ desk₀ left₀ image map places numbers used desk left = Unit {0}
+Inv-loop image₀ map₀ places₀ numbers₀ used₀ window₀ reader₀ desk₀ left₀ image map places numbers used window reader desk left =
+    Placed reader
 
 abbrev μ-loop : tie.MeasureT-loop
-μ-loop paper image₀ map₀ places₀ numbers₀ used₀ desk₀ left₀ image map places numbers used desk left = left
+μ-loop image₀ map₀ places₀ numbers₀ used₀ window₀ reader₀ desk₀ left₀ image map places numbers used window reader desk left =
+    left
 
 opened-requires : tie.Need-opened-requires Inv-loop μ-loop
 opened-requires c κs = search needs
 
+opened-requires-2 : tie.Need-opened-requires-2 Inv-loop μ-loop
+opened-requires-2 c κs = search needs
+
 loop-holds : tie.Need-loop-holds Inv-loop μ-loop
 loop-holds c = search needs
 
+next-line-requires : tie.Need-next-line-requires Inv-loop μ-loop
+next-line-requires c κs = search needs
+
 answer-next-requires : tie.Need-answer-next-requires Inv-loop μ-loop
 answer-next-requires c κs = search needs
+
+returns : tie.Need-returns Inv-loop μ-loop
+returns c = search needs
+
+passed-requires : tie.Need-passed-requires Inv-loop μ-loop
+passed-requires c κs = search needs
 
 sub-left : tie.Need-sub-left Inv-loop μ-loop
 sub-left c = search needs
@@ -26,8 +42,8 @@ loop-less c = search needs
 loop-again : tie.Need-loop-again Inv-loop μ-loop
 loop-again c = search needs
 
-returns : tie.Need-returns Inv-loop μ-loop
-returns c = search needs
+returns-2 : tie.Need-returns-2 Inv-loop μ-loop
+returns-2 c = search needs
 
 pub answer-lines-spec : {M : Type 1} → statement M
 answer-lines-spec =
@@ -36,9 +52,13 @@ answer-lines-spec =
     Inv-loop
     μ-loop
     opened-requires
+    opened-requires-2
     loop-holds
+    next-line-requires
     answer-next-requires
+    returns
+    passed-requires
     sub-left
     loop-less
     loop-again
-    returns)
+    returns-2)

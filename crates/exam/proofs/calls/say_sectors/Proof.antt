@@ -1,16 +1,22 @@
 use Prim.Native.Nat.{_-_}
 use borrow.Author.Needs.{needs}
-use Rattle.exam.proofs.calls.show_sectors.Statement.{statement}
-use Rattle.exam.proofs.calls.show_sectors.Tie as tie
+use Rattle.exam.proofs.calls.say_sectors.Statement.{statement}
+use Rattle.exam.proofs.calls.say_sectors.Tie as tie
 
 abbrev Inv-loop : tie.InvT-loop
-Inv-loop image g n k₀ k = Unit {0}
+Inv-loop image g found used n k₀ k = Unit {0}
 
 abbrev μ-loop : tie.MeasureT-loop
-μ-loop image g n k₀ k = n - k
+μ-loop image g found used n k₀ k = n - k
 
 loop-holds : tie.Need-loop-holds Inv-loop μ-loop
 loop-holds c = tt
+
+cast-is-live : tie.Need-cast-is-live Inv-loop μ-loop
+cast-is-live c = search needs
+
+is-live-requires : tie.Need-is-live-requires Inv-loop μ-loop
+is-live-requires c κs = search needs
 
 sector-part-requires : tie.Need-sector-part-requires Inv-loop μ-loop
 sector-part-requires c κs = search needs
@@ -30,13 +36,15 @@ loop-again c = tt
 returns : tie.Need-returns Inv-loop μ-loop
 returns c = search needs
 
-pub show-sectors-spec : {M : Type 1} → statement M
-show-sectors-spec =
+pub say-sectors-spec : {M : Type 1} → statement M
+say-sectors-spec =
     tie.close
     (tie.spec
     Inv-loop
     μ-loop
     loop-holds
+    cast-is-live
+    is-live-requires
     sector-part-requires
     say-sector-requires
     add-k

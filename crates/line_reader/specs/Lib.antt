@@ -1,0 +1,2 @@
+-- Where a reader stands in its window.
+pub mod Reader

@@ -1,0 +1,2 @@
+-- What a scan found, as marks.
+pub mod MarkLaws

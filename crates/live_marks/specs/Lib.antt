@@ -1,0 +1,2 @@
+-- The sectors that a scan takes as live.
+pub mod Live
