@@ -11,10 +11,14 @@ use reference_board::board;
 use trial_choice::choice;
 
 fn try_script() {
-    let mut text = [0u8; 65536];
+    let mut text = [0u8; script::MOST + 1];
     let length = io::read_full(0, &mut text);
     let mut b = [0u32; board::SIZE];
-    script::run(&mut b, &text[..length]);
+    if length > script::MOST {
+        script::refuse_all(&mut b);
+    } else {
+        script::run(&mut b, &text[..length]);
+    }
     trial_report::say_script(&b);
 }
 

@@ -3,42 +3,55 @@ use crate::cuts;
 use paper::words;
 use reference_board::board;
 use trial_board::cells;
+use trial_script::form;
+use trial_script::form::Kind;
+use trial_script::form::Wrong;
+use trial_script::parts;
 
-// shows: a read of each block gives the plain disk's.
-fn is_shown(b: &mut [u32; board::SIZE], line: &[u8]) -> bool {
-    if words::is_word(trial_script::word(line, 0), b"shows") {
-        trial_shown::compare(b, 0);
-        return true;
-    }
-    false
-}
+// So many bytes of a script are read.
+pub const MOST: usize = 65_536;
 
-fn is_call(b: &mut [u32; board::SIZE], line: &[u8]) -> bool {
-    let call = trial_script::call_of(trial_script::word(line, 0));
-    if call > 5 {
-        return false;
-    }
-    trial_script::stand(b, call, trial_script::number(line, 1));
+fn perform(b: &mut [u32; board::SIZE], call: u32, argument: u32) {
+    trial_script::stand(b, call, argument);
     cuts::perform(b);
     trial_disk::settle_call(b);
     trial_script::clear(b);
-    true
 }
 
-fn carry_out(b: &mut [u32; board::SIZE], line: &[u8]) -> bool {
-    if is_call(b, line) {
-        return true;
+// shows: a read of each block gives the plain disk's.
+fn carry_out_other(b: &mut [u32; board::SIZE], line: &[u8], kind: Kind) {
+    match kind {
+        Kind::Shows => trial_shown::compare(b, 0),
+        _ => trial_script::carry_out(b, line, kind),
     }
-    if is_shown(b, line) {
-        return true;
+}
+
+fn carry_out(b: &mut [u32; board::SIZE], line: &[u8], kind: Kind) {
+    let call = trial_script::call_of(kind);
+    if call > 5 {
+        carry_out_other(b, line, kind);
+        return;
     }
-    trial_script::carry_out(b, line)
+    perform(b, call, parts::number(line, 1));
+}
+
+// A line that is not of its form is reported and not carried out.
+fn refuse(b: &mut [u32; board::SIZE], line: &[u8], kind: Kind, wrong: Wrong) {
+    trial_report::say_bad_line(cells::get(b, cells::LINE), line, kind, wrong);
+    cells::hold(b, false, cells::SAMPLE);
 }
 
 fn carry_out_line(b: &mut [u32; board::SIZE], line: &[u8]) {
     cells::add(b, cells::LINE, 1);
-    let understood = carry_out(b, line);
-    cells::hold(b, understood, cells::SAMPLE);
+    if parts::is_passed(line) {
+        return;
+    }
+    let kind = form::kind_of(line);
+    let wrong = form::wrong_in(line);
+    match wrong {
+        Wrong::Nothing => carry_out(b, line, kind),
+        _ => refuse(b, line, kind, wrong),
+    }
 }
 
 // The line that begins at `at`, if one does, and where the next one begins.
@@ -47,7 +60,7 @@ fn carry_out_at(b: &mut [u32; board::SIZE], text: &[u8], at: usize) -> usize {
         return at;
     }
     let end = words::line_end(text, at);
-    carry_out_line(b, words::part(text, at, end));
+    carry_out_line(b, words::trimmed(words::part(text, at, end)));
     words::after(text, end)
 }
 
@@ -58,4 +71,10 @@ pub fn run(b: &mut [u32; board::SIZE], text: &[u8]) {
     for i in 0..most {
         at = carry_out_at(b, text, at);
     }
+}
+
+// A script that is longer than what is read: a line may be cut, so none is carried out.
+pub fn refuse_all(b: &mut [u32; board::SIZE]) {
+    trial_report::say_too_long(MOST as u32);
+    cells::hold(b, false, cells::SAMPLE);
 }

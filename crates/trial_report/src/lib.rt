@@ -1,6 +1,10 @@
 // One line a family: what was run, how often, and the first difference if there is one.
+use paper::words;
 use reference_board::board;
 use trial_board::cells;
+use trial_script::form::Kind;
+use trial_script::form::Wrong;
+use trial_script::parts;
 use wording::say;
 
 fn say_call(call: u32) {
@@ -30,7 +34,7 @@ fn say_what(what: u32) {
         12 => say::say(b"a block is not the plain disk's"),
         13 => say::say(b"a cut call did not make its stores and answer 10"),
         14 => say::say(b"a recovery was not accepted"),
-        _ => say::say(b"a fact of the script does not hold, or its line is not understood"),
+        _ => say::say(b"a fact of the script does not hold, or a line is not of a known form"),
     }
 }
 
@@ -87,6 +91,104 @@ pub fn say_script(b: &[u32; board::SIZE]) {
     say::say(b" facts");
     say_some(b, cells::BLOCKS_READ, b" blocks as on the plain disk");
     say_differences(b);
+}
+
+// The forms of lines that go with a call, and of calls.
+fn say_call_form(kind: Kind) {
+    match kind {
+        Kind::Volume => say::say(b"volume L N"),
+        Kind::Block => say::say(b"block B SEED"),
+        Kind::Blocks => say::say(b"blocks FIRST STEP COUNT"),
+        Kind::Stores => say::say(b"stores K"),
+        Kind::BytesMore => say::say(b"bytes-more K"),
+        Kind::Format => say::say(b"format"),
+        Kind::Write => say::say(b"write HEAD"),
+        Kind::Drop => say::say(b"drop HEAD"),
+        Kind::Read => say::say(b"read B"),
+        Kind::Park => say::say(b"park"),
+        _ => say::say(b"recover"),
+    }
+}
+
+// The form of a line by its kind.
+fn say_form(kind: Kind) {
+    match kind {
+        Kind::Is => say::say(b"is NAME [INDEX] VALUE"),
+        Kind::Sector => say::say(b"sector K WORD VALUE"),
+        Kind::Blank => say::say(b"blank K"),
+        Kind::Shows => say::say(b"shows"),
+        Kind::Rejects => say::say(b"rejects LINE"),
+        Kind::Set => say::say(b"set NAME [INDEX] VALUE"),
+        Kind::Put => say::say(b"put K WORD VALUE"),
+        Kind::Balance => say::say(b"balance K"),
+        Kind::Copy => say::say(b"copy K J"),
+        _ => say_call_form(kind),
+    }
+}
+
+// The start of what was found, where it is long.
+fn shortened(text: &[u8]) -> &[u8] {
+    if text.len() > 40 {
+        return words::part(text, 0, 40);
+    }
+    text
+}
+
+// Word i of a line, counted from 0 here and from 1 for people.
+fn say_found(line: &[u8], i: u32) {
+    say::say(b", found \"");
+    say::say(shortened(parts::word(line, i)));
+    say::say_count(b"\" as word ", board::plus(i, 1));
+}
+
+fn say_first_words() {
+    say::say(
+        b"volume, block, blocks, stores, bytes-more, format, write, drop, read, park, recover",
+    );
+    say::say(b", is, sector, blank, shows, rejects, set, put, balance or copy");
+}
+
+fn say_wrong(line: &[u8], kind: Kind, wrong: Wrong) {
+    match wrong {
+        Wrong::Nothing => {}
+        Wrong::FirstWord => {
+            say_first_words();
+            say_found(line, 0);
+        }
+        Wrong::Name(i) => {
+            say_form(kind);
+            say::say(b", the NAME a known one");
+            say_found(line, i);
+        }
+        Wrong::Number(i) => {
+            say_form(kind);
+            say::say(b", with numbers up to 4294967295");
+            say_found(line, i);
+        }
+        Wrong::Missing(_) => {
+            say_form(kind);
+            say::say(b", found the end of the line");
+        }
+        Wrong::TooMany(i) => {
+            say_form(kind);
+            say::say(b" and no more");
+            say_found(line, i);
+        }
+    }
+}
+
+// A line that is not of a known form: what was expected, and what stands there.
+pub fn say_bad_line(number: u32, line: &[u8], kind: Kind, wrong: Wrong) {
+    say::say_count(b"line ", number);
+    say::say(b": expected ");
+    say_wrong(line, kind, wrong);
+    say::say(b"\n");
+}
+
+// A script that is not read whole.
+pub fn say_too_long(most: u32) {
+    say::say_count(b"expected a script of at most ", most);
+    say::say(b" bytes, found a longer one: none of its lines is carried out\n");
 }
 
 fn say_volume(family: &[u8], l: u32, n: u32) {

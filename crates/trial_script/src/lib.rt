@@ -1,118 +1,12 @@
-// The lines of a script: a word and up to three numbers; lines that are empty or begin with # are passed over.
-use paper::words;
-use paper::words::Number;
+// What a line of a script does. Calls, and what a volume shows, are carried out elsewhere.
+pub mod cell;
+pub mod form;
+pub mod parts;
+
+use form::Kind;
 use reference_board::board;
 use trial_board::cells;
 use trial_board::stand;
-
-// Where word `count` of a line is looked for, from 0.
-fn skip(line: &[u8], count: u32) -> usize {
-    let mut at = 0usize;
-    for i in 0..count {
-        at = words::word_end(line, words::word_start(line, at));
-    }
-    at
-}
-
-pub fn word(line: &[u8], count: u32) -> &[u8] {
-    let start = words::word_start(line, skip(line, count));
-    words::part(line, start, words::word_end(line, start))
-}
-
-// Word `count` as a number; 0 where it is none.
-pub fn number(line: &[u8], count: u32) -> u32 {
-    let found = words::number_in(word(line, count));
-    match found {
-        Number::Value(value) => value,
-        Number::Nothing => 0,
-    }
-}
-
-fn has_word(line: &[u8], count: u32) -> bool {
-    word(line, count).len() > 0
-}
-
-// The cell of an answer or of the state.
-fn answer_cell(name: &[u8]) -> u32 {
-    if words::is_word(name, b"answer") {
-        return board::ANSWER;
-    }
-    if words::is_word(name, b"made") {
-        return board::STORES;
-    }
-    if words::is_word(name, b"way") {
-        return board::WAY;
-    }
-    if words::is_word(name, b"sectors-read") {
-        return board::READS;
-    }
-    if words::is_word(name, b"branches") {
-        return board::BRANCH_COUNT;
-    }
-    state_cell(name)
-}
-
-fn state_cell(name: &[u8]) -> u32 {
-    if words::is_word(name, b"n") {
-        return board::STATE_N;
-    }
-    if words::is_word(name, b"l") {
-        return board::STATE_L;
-    }
-    if words::is_word(name, b"tail") {
-        return board::TAIL;
-    }
-    if words::is_word(name, b"number") {
-        return board::NUMBER;
-    }
-    if words::is_word(name, b"phase") {
-        return board::PHASE;
-    }
-    length_cell(name)
-}
-
-// The L that a format or a recover is given, and the lengths lent.
-fn length_cell(name: &[u8]) -> u32 {
-    if words::is_word(name, b"call-l") {
-        return board::BLOCK_COUNT;
-    }
-    if words::is_word(name, b"image-length") {
-        return board::IMAGE_LENGTH;
-    }
-    if words::is_word(name, b"map-length") {
-        return board::MAP_LENGTH;
-    }
-    if words::is_word(name, b"places-length") {
-        return board::PLACES_LENGTH;
-    }
-    if words::is_word(name, b"numbers-length") {
-        return board::NUMBERS_LENGTH;
-    }
-    if words::is_word(name, b"used-length") {
-        return board::USED_LENGTH;
-    }
-    table_cell(name)
-}
-
-// Where a table begins. (A name that is none of these is past the board, and reads as 0.)
-fn table_cell(name: &[u8]) -> u32 {
-    if words::is_word(name, b"entry") {
-        return board::LENT;
-    }
-    if words::is_word(name, b"place") {
-        return board::LENT + board::PLACES;
-    }
-    if words::is_word(name, b"live-number") {
-        return board::LENT + board::NUMBERS;
-    }
-    if words::is_word(name, b"used") {
-        return board::LENT + board::USED;
-    }
-    if words::is_word(name, b"out") {
-        return board::OUT;
-    }
-    4_294_967_295
-}
 
 fn hold_fact(b: &mut [u32; board::SIZE], holds: bool) {
     cells::add(b, cells::FACTS, 1);
@@ -121,50 +15,45 @@ fn hold_fact(b: &mut [u32; board::SIZE], holds: bool) {
 
 // is NAME VALUE, or is NAME INDEX VALUE
 fn hold_is(b: &mut [u32; board::SIZE], line: &[u8]) {
-    let from = answer_cell(word(line, 1));
-    let holds = if has_word(line, 3) {
-        board::get(b, from, number(line, 2)) == number(line, 3)
+    let from = cell::cell_of(parts::word(line, 1));
+    let holds = if parts::has_word(line, 3) {
+        board::get(b, from, parts::number(line, 2)) == parts::number(line, 3)
     } else {
-        board::get(b, from, 0) == number(line, 2)
+        board::get(b, from, 0) == parts::number(line, 2)
     };
     hold_fact(b, holds);
 }
 
 // sector K WORD VALUE: a word of the image.
 fn hold_sector(b: &mut [u32; board::SIZE], line: &[u8]) {
-    let x = board::word(b, board::IMAGE, number(line, 1), number(line, 2));
-    hold_fact(b, x == number(line, 3));
+    let x = board::word(
+        b,
+        board::IMAGE,
+        parts::number(line, 1),
+        parts::number(line, 2),
+    );
+    hold_fact(b, x == parts::number(line, 3));
 }
 
 // blank K: a sector of zeros.
 fn hold_blank(b: &mut [u32; board::SIZE], line: &[u8]) {
-    let blank = board::is_zero_sector(b, board::IMAGE, number(line, 1));
+    let blank = board::is_zero_sector(b, board::IMAGE, parts::number(line, 1));
     hold_fact(b, blank);
 }
 
-fn is_fact(b: &mut [u32; board::SIZE], line: &[u8]) -> bool {
-    if words::is_word(word(line, 0), b"is") {
-        hold_is(b, line);
-        return true;
-    }
-    if words::is_word(word(line, 0), b"sector") {
-        hold_sector(b, line);
-        return true;
-    }
-    if words::is_word(word(line, 0), b"blank") {
-        hold_blank(b, line);
-        return true;
-    }
-    false
+// rejects LINE: the rest is not of a known form.
+fn hold_rejects(b: &mut [u32; board::SIZE], line: &[u8]) {
+    let right = form::is_right(parts::rest(line));
+    hold_fact(b, !right);
 }
 
 // set NAME VALUE, or set NAME INDEX VALUE
 fn set(b: &mut [u32; board::SIZE], line: &[u8]) {
-    let from = answer_cell(word(line, 1));
-    if has_word(line, 3) {
-        board::put(b, from, number(line, 2), number(line, 3));
+    let from = cell::cell_of(parts::word(line, 1));
+    if parts::has_word(line, 3) {
+        board::put(b, from, parts::number(line, 2), parts::number(line, 3));
     } else {
-        board::put(b, from, 0, number(line, 2));
+        board::put(b, from, 0, parts::number(line, 2));
     }
 }
 
@@ -173,9 +62,9 @@ fn put(b: &mut [u32; board::SIZE], line: &[u8]) {
     board::put_word(
         b,
         board::IMAGE,
-        number(line, 1),
-        number(line, 2),
-        number(line, 3),
+        parts::number(line, 1),
+        parts::number(line, 2),
+        parts::number(line, 3),
     );
 }
 
@@ -184,30 +73,10 @@ fn copy(b: &mut [u32; board::SIZE], line: &[u8]) {
     board::copy_sector(
         b,
         board::IMAGE,
-        number(line, 1),
+        parts::number(line, 1),
         board::IMAGE,
-        number(line, 2),
+        parts::number(line, 2),
     );
-}
-
-fn is_change(b: &mut [u32; board::SIZE], line: &[u8]) -> bool {
-    if words::is_word(word(line, 0), b"set") {
-        set(b, line);
-        return true;
-    }
-    if words::is_word(word(line, 0), b"put") {
-        put(b, line);
-        return true;
-    }
-    if words::is_word(word(line, 0), b"balance") {
-        cells::balance(b, number(line, 1));
-        return true;
-    }
-    if words::is_word(word(line, 0), b"copy") {
-        copy(b, line);
-        return true;
-    }
-    false
 }
 
 fn name_more(b: &mut [u32; board::SIZE], first: u32, step: u32, count: u32) {
@@ -223,52 +92,27 @@ fn name_next(b: &mut [u32; board::SIZE], step: u32) {
     cells::add(b, cells::CURSOR, step);
 }
 
-// What goes with the next call: its blocks, one (block B SEED) or several (blocks FIRST STEP COUNT), and its stores.
-fn is_argument(b: &mut [u32; board::SIZE], line: &[u8]) -> bool {
-    if words::is_word(word(line, 0), b"volume") {
-        stand::stand_format(b, number(line, 1), number(line, 2));
-        return true;
-    }
-    if words::is_word(word(line, 0), b"block") {
-        trial_disk::name_block(b, number(line, 1), number(line, 2));
-        return true;
-    }
-    if words::is_word(word(line, 0), b"blocks") {
-        name_more(b, number(line, 1), number(line, 2), number(line, 3));
-        return true;
-    }
-    if words::is_word(word(line, 0), b"stores") {
-        cells::set(b, board::ALLOWED, number(line, 1));
-        return true;
-    }
-    if words::is_word(word(line, 0), b"bytes-more") {
-        cells::set(b, cells::BYTES_MORE, number(line, 1));
-        return true;
-    }
-    false
+// blocks FIRST STEP COUNT
+fn name_several(b: &mut [u32; board::SIZE], line: &[u8]) {
+    name_more(
+        b,
+        parts::number(line, 1),
+        parts::number(line, 2),
+        parts::number(line, 3),
+    );
 }
 
-// The number of a call; 6 where the word is none.
-pub fn call_of(name: &[u8]) -> u32 {
-    if words::is_word(name, b"format") {
-        return 0;
+// The number of a call; 6 where the line is none.
+pub fn call_of(kind: Kind) -> u32 {
+    match kind {
+        Kind::Format => 0,
+        Kind::Write => 1,
+        Kind::Drop => 2,
+        Kind::Read => 3,
+        Kind::Park => 4,
+        Kind::Recover => 5,
+        _ => 6,
     }
-    if words::is_word(name, b"write") {
-        return 1;
-    }
-    if words::is_word(name, b"drop") {
-        return 2;
-    }
-    if words::is_word(name, b"read") {
-        return 3;
-    }
-    if words::is_word(name, b"park") {
-        return 4;
-    }
-    if words::is_word(name, b"recover") {
-        return 5;
-    }
-    6
 }
 
 // The bytes that go with a call.
@@ -298,23 +142,36 @@ pub fn clear(b: &mut [u32; board::SIZE]) {
     cells::set(b, board::ALLOWED, stand::ENOUGH);
 }
 
-fn is_passed(line: &[u8]) -> bool {
-    if line.len() == 0 {
-        return true;
+// Damage.
+fn change(b: &mut [u32; board::SIZE], line: &[u8], kind: Kind) {
+    match kind {
+        Kind::Set => set(b, line),
+        Kind::Put => put(b, line),
+        Kind::Balance => cells::balance(b, parts::number(line, 1)),
+        Kind::Copy => copy(b, line),
+        _ => {}
     }
-    words::byte_at(line, 0) == b'#'
 }
 
-// Carries a line out that is neither a call nor looks at what a volume shows. Whether it was understood.
-pub fn carry_out(b: &mut [u32; board::SIZE], line: &[u8]) -> bool {
-    if is_passed(line) {
-        return true;
+// Facts, or damage.
+fn hold(b: &mut [u32; board::SIZE], line: &[u8], kind: Kind) {
+    match kind {
+        Kind::Is => hold_is(b, line),
+        Kind::Sector => hold_sector(b, line),
+        Kind::Blank => hold_blank(b, line),
+        Kind::Rejects => hold_rejects(b, line),
+        _ => change(b, line, kind),
     }
-    if is_fact(b, line) {
-        return true;
+}
+
+// Carries a line out that is neither a call nor looks at what a volume shows: what goes with the next call, a fact, or damage.
+pub fn carry_out(b: &mut [u32; board::SIZE], line: &[u8], kind: Kind) {
+    match kind {
+        Kind::Volume => stand::stand_format(b, parts::number(line, 1), parts::number(line, 2)),
+        Kind::Block => { trial_disk::name_block(b, parts::number(line, 1), parts::number(line, 2)) }
+        Kind::Blocks => name_several(b, line),
+        Kind::Stores => cells::set(b, board::ALLOWED, parts::number(line, 1)),
+        Kind::BytesMore => cells::set(b, cells::BYTES_MORE, parts::number(line, 1)),
+        _ => hold(b, line, kind),
     }
-    if is_argument(b, line) {
-        return true;
-    }
-    is_change(b, line)
 }

@@ -1,7 +1,7 @@
 use Prim.Native.Nat.{_-_}
 use borrow.Author.Needs.{needs}
-use Rattle.trial_script.proofs.skip.Statement.{statement}
-use Rattle.trial_script.proofs.skip.Tie as tie
+use Rattle.trial_script.proofs.parts.skip.Statement.{statement}
+use Rattle.trial_script.proofs.parts.skip.Tie as tie
 
 abbrev Inv-loop : tie.InvT-loop
 Inv-loop line count at₀ i₀ at i = Unit {0}

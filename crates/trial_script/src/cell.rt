@@ -1,0 +1,92 @@
+// The names of a script, and the cells of the board that they stand for.
+use paper::words;
+use reference_board::board;
+
+// What is no name: past the board.
+const NONE: u32 = 4_294_967_295;
+
+// The cell of an answer, of the state, of what is lent or of a table.
+pub fn cell_of(name: &[u8]) -> u32 {
+    if words::is_word(name, b"answer") {
+        return board::ANSWER;
+    }
+    if words::is_word(name, b"made") {
+        return board::STORES;
+    }
+    if words::is_word(name, b"way") {
+        return board::WAY;
+    }
+    if words::is_word(name, b"sectors-read") {
+        return board::READS;
+    }
+    if words::is_word(name, b"branches") {
+        return board::BRANCH_COUNT;
+    }
+    state_cell(name)
+}
+
+fn state_cell(name: &[u8]) -> u32 {
+    if words::is_word(name, b"n") {
+        return board::STATE_N;
+    }
+    if words::is_word(name, b"l") {
+        return board::STATE_L;
+    }
+    if words::is_word(name, b"tail") {
+        return board::TAIL;
+    }
+    if words::is_word(name, b"number") {
+        return board::NUMBER;
+    }
+    if words::is_word(name, b"phase") {
+        return board::PHASE;
+    }
+    length_cell(name)
+}
+
+// The L that a format or a recover is given, and the lengths lent.
+fn length_cell(name: &[u8]) -> u32 {
+    if words::is_word(name, b"call-l") {
+        return board::BLOCK_COUNT;
+    }
+    if words::is_word(name, b"image-length") {
+        return board::IMAGE_LENGTH;
+    }
+    if words::is_word(name, b"map-length") {
+        return board::MAP_LENGTH;
+    }
+    if words::is_word(name, b"places-length") {
+        return board::PLACES_LENGTH;
+    }
+    if words::is_word(name, b"numbers-length") {
+        return board::NUMBERS_LENGTH;
+    }
+    if words::is_word(name, b"used-length") {
+        return board::USED_LENGTH;
+    }
+    table_cell(name)
+}
+
+// Where a table begins.
+fn table_cell(name: &[u8]) -> u32 {
+    if words::is_word(name, b"entry") {
+        return board::LENT;
+    }
+    if words::is_word(name, b"place") {
+        return board::LENT + board::PLACES;
+    }
+    if words::is_word(name, b"live-number") {
+        return board::LENT + board::NUMBERS;
+    }
+    if words::is_word(name, b"used") {
+        return board::LENT + board::USED;
+    }
+    if words::is_word(name, b"out") {
+        return board::OUT;
+    }
+    NONE
+}
+
+pub fn is_name(name: &[u8]) -> bool {
+    cell_of(name) != NONE
+}

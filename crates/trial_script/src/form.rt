@@ -1,0 +1,230 @@
+// The forms of a script's lines: what may follow the first word. A line is held to its form before anything of it is carried out.
+use crate::cell;
+use crate::parts;
+use paper::words;
+use reference_board::board;
+
+// A line by its first word.
+pub enum Kind {
+    Volume,
+    Block,
+    Blocks,
+    Stores,
+    BytesMore,
+    Format,
+    Write,
+    Drop,
+    Read,
+    Park,
+    Recover,
+    Is,
+    Sector,
+    Blank,
+    Shows,
+    Rejects,
+    Set,
+    Put,
+    Balance,
+    Copy,
+    Unknown,
+}
+
+// What follows: so many numbers; a name and so many numbers; words of any kind.
+enum Form {
+    Numbers { least: u32, most: u32 },
+    Named { least: u32, most: u32 },
+    Words,
+    Nothing,
+}
+
+// The first word that is not as its form asks, counted from 0; one past the last where a word is missing.
+pub enum Wrong {
+    Nothing,
+    FirstWord,
+    Name(u32),
+    Number(u32),
+    Missing(u32),
+    TooMany(u32),
+}
+
+fn argument_kind(first: &[u8]) -> Kind {
+    if words::is_word(first, b"volume") {
+        return Kind::Volume;
+    }
+    if words::is_word(first, b"block") {
+        return Kind::Block;
+    }
+    if words::is_word(first, b"blocks") {
+        return Kind::Blocks;
+    }
+    if words::is_word(first, b"stores") {
+        return Kind::Stores;
+    }
+    if words::is_word(first, b"bytes-more") {
+        return Kind::BytesMore;
+    }
+    call_kind(first)
+}
+
+fn call_kind(first: &[u8]) -> Kind {
+    if words::is_word(first, b"format") {
+        return Kind::Format;
+    }
+    if words::is_word(first, b"write") {
+        return Kind::Write;
+    }
+    if words::is_word(first, b"drop") {
+        return Kind::Drop;
+    }
+    if words::is_word(first, b"read") {
+        return Kind::Read;
+    }
+    if words::is_word(first, b"park") {
+        return Kind::Park;
+    }
+    if words::is_word(first, b"recover") {
+        return Kind::Recover;
+    }
+    fact_kind(first)
+}
+
+fn fact_kind(first: &[u8]) -> Kind {
+    if words::is_word(first, b"is") {
+        return Kind::Is;
+    }
+    if words::is_word(first, b"sector") {
+        return Kind::Sector;
+    }
+    if words::is_word(first, b"blank") {
+        return Kind::Blank;
+    }
+    if words::is_word(first, b"shows") {
+        return Kind::Shows;
+    }
+    if words::is_word(first, b"rejects") {
+        return Kind::Rejects;
+    }
+    damage_kind(first)
+}
+
+fn damage_kind(first: &[u8]) -> Kind {
+    if words::is_word(first, b"set") {
+        return Kind::Set;
+    }
+    if words::is_word(first, b"put") {
+        return Kind::Put;
+    }
+    if words::is_word(first, b"balance") {
+        return Kind::Balance;
+    }
+    if words::is_word(first, b"copy") {
+        return Kind::Copy;
+    }
+    Kind::Unknown
+}
+
+pub fn kind_of(line: &[u8]) -> Kind {
+    argument_kind(parts::word(line, 0))
+}
+
+fn numbers(count: u32) -> Form {
+    Form::Numbers {
+        least: count,
+        most: count,
+    }
+}
+
+fn form_of(kind: Kind) -> Form {
+    match kind {
+        Kind::Volume => numbers(2),
+        Kind::Block => numbers(2),
+        Kind::Blocks => numbers(3),
+        Kind::Stores => numbers(1),
+        Kind::BytesMore => numbers(1),
+        Kind::Format => numbers(0),
+        Kind::Write => numbers(1),
+        Kind::Drop => numbers(1),
+        Kind::Read => numbers(1),
+        Kind::Park => numbers(0),
+        Kind::Recover => numbers(0),
+        Kind::Is => Form::Named { least: 1, most: 2 },
+        Kind::Sector => numbers(3),
+        Kind::Blank => numbers(1),
+        Kind::Shows => numbers(0),
+        Kind::Rejects => Form::Words,
+        Kind::Set => Form::Named { least: 1, most: 2 },
+        Kind::Put => numbers(3),
+        Kind::Balance => numbers(1),
+        Kind::Copy => numbers(2),
+        Kind::Unknown => Form::Nothing,
+    }
+}
+
+// Word i where a number may stand, and must where it is needed.
+fn number_wrong(line: &[u8], i: u32, needed: bool) -> Wrong {
+    if parts::has_word(line, i) {
+        if parts::is_number(line, i) {
+            return Wrong::Nothing;
+        }
+        return Wrong::Number(i);
+    }
+    if needed {
+        return Wrong::Missing(i);
+    }
+    Wrong::Nothing
+}
+
+// The numbers from word `first` on.
+fn numbers_wrong(line: &[u8], first: u32, least: u32, most: u32) -> Wrong {
+    let mut i = 0u32;
+    while i < most {
+        let wrong = number_wrong(line, board::plus(first, i), i < least);
+        match wrong {
+            Wrong::Nothing => {}
+            _ => return wrong,
+        }
+        i += 1;
+    }
+    let end = board::plus(first, most);
+    if parts::has_word(line, end) {
+        return Wrong::TooMany(end);
+    }
+    Wrong::Nothing
+}
+
+// A name, and the numbers after it.
+fn named_wrong(line: &[u8], least: u32, most: u32) -> Wrong {
+    if !parts::has_word(line, 1) {
+        return Wrong::Missing(1);
+    }
+    if !cell::is_name(parts::word(line, 1)) {
+        return Wrong::Name(1);
+    }
+    numbers_wrong(line, 2, least, most)
+}
+
+fn words_wrong(line: &[u8]) -> Wrong {
+    if parts::has_word(line, 1) {
+        return Wrong::Nothing;
+    }
+    Wrong::Missing(1)
+}
+
+// What is wrong with a line.
+pub fn wrong_in(line: &[u8]) -> Wrong {
+    let form = form_of(kind_of(line));
+    match form {
+        Form::Numbers { least, most } => numbers_wrong(line, 1, least, most),
+        Form::Named { least, most } => named_wrong(line, least, most),
+        Form::Words => words_wrong(line),
+        Form::Nothing => Wrong::FirstWord,
+    }
+}
+
+pub fn is_right(line: &[u8]) -> bool {
+    let wrong = wrong_in(line);
+    match wrong {
+        Wrong::Nothing => true,
+        _ => false,
+    }
+}
