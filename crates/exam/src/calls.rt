@@ -1,17 +1,21 @@
 // The calls on the volume, and their answers.
 ghost use Prim.Native.Nat.{_≤_, _*_};
+ghost use Rattle.geometry.specs.Geometry.{sectorBytes};
 use answer::Answer;
 use geometry::Geometry;
+use paper::request;
 use paper::request::Call;
 use paper::request::Request;
-use paper::words;
+use paper::tokens;
 use state::Outcome;
 use state::State;
 use storing_calls::Storing;
 use wording::say;
 
-// The bytes of the used map of the sectors that the program holds.
-pub const USED: usize = 512;
+// Sectors that the program holds, and the bytes of their used map.
+pub const HELD: u32 = 4096;
+
+pub const USED: usize = HELD as usize / 8;
 
 // A line's call among those that may store.
 fn storing(call: Call) -> Storing {
@@ -34,7 +38,7 @@ fn say_read(
     used: &[u8],
     block: u32,
 ) -> Outcome {
-    let mut out = [0u8; 512];
+    let mut out = [0u8; Geometry::SECTOR];
     let done = read::read(s, image, map, places, numbers, used, block, &mut out);
     let answer = done.answer;
     say::say_count(b"read ", block);
@@ -59,7 +63,7 @@ fn is_shown(
     block: u32,
     aloud: bool,
 ) -> bool {
-    let mut out = [0u8; 512];
+    let mut out = [0u8; Geometry::SECTOR];
     read::read(s, image, map, places, numbers, used, block, &mut out);
     if blocks::is_blank(&out) {
         return false;
@@ -76,7 +80,7 @@ fn is_shown(
 // One more where a block is shown.
 fn counted(count: u32, shown: bool) -> u32 {
     if shown {
-        if count < 65536 {
+        if count < Geometry::MOST_BLOCKS {
             return count + 1;
         }
     }
@@ -113,7 +117,7 @@ fn show(
     numbers: &[u32],
     used: &[u8],
 ) -> Outcome {
-    let mut out = [0u8; 512];
+    let mut out = [0u8; Geometry::SECTOR];
     let done = read::read(s, image, map, places, numbers, used, 0, &mut out);
     let answer = done.answer;
     say::say(b"show");
@@ -132,15 +136,15 @@ fn show(
 
 // The bytes of so many sectors.
 fn bytes_of(sectors: u32) -> usize
-    ensures { λ r. ⌜ r ≤ 4294967296 * 512 ⌝ }
+    ensures { λ r. ⌜ r ≤ 4294967296 * sectorBytes ⌝ }
 {
-    sectors as usize * 512
+    sectors as usize * Geometry::SECTOR
 }
 
 // The bytes of sector k.
 fn sector_part(image: &[u8], k: u32) -> &[u8] {
     let first = bytes_of(k);
-    words::part(image, first, first + 512)
+    tokens::part(image, first, first + Geometry::SECTOR)
 }
 
 // The sectors of the image, a line each, with the marks that a scan made where it found a log.
@@ -230,10 +234,10 @@ fn within(x: usize, most: usize) -> usize
 
 // The bytes of the blocks of a line.
 fn bytes_part(bytes: &[u8], count: usize) -> &[u8] {
-    if count < 1024 {
-        return words::part(bytes, 0, count * 512);
+    if count <= request::MOST {
+        return tokens::part(bytes, 0, count * Geometry::SECTOR);
     }
-    words::part(bytes, 0, 0)
+    tokens::part(bytes, 0, 0)
 }
 
 // The blocks from `from` up to `to`; none where these are no positions of the list.

@@ -24,14 +24,12 @@ pub struct Desk {
     pub line: u32,
 }
 
-// Sectors that the program holds, and their bytes; the largest map and its pieces; the used map of so many sectors.
-const HELD: u32 = 4096;
+// The bytes of the sectors that the program holds, the largest map and its pieces, and the used map of so many sectors.
+pub const IMAGE: usize = calls::HELD as usize * Geometry::SECTOR;
 
-pub const IMAGE: usize = 2097152;
+pub const MAP: usize = Geometry::MOST_BLOCKS as usize;
 
-pub const MAP: usize = 24576;
-
-pub const PIECES: usize = 256;
+pub const PIECES: usize = Geometry::MOST_PIECES;
 
 pub const USED: usize = calls::USED;
 
@@ -95,7 +93,7 @@ fn obstacle(desk: Desk, call: Call, r: Request) -> Trouble {
     match call {
         Call::Format => {
             let g = asked(r);
-            if g.n > HELD {
+            if g.n > calls::HELD {
                 if g.fits() {
                     return Trouble::Sectors;
                 }
@@ -184,8 +182,8 @@ fn answer_call(
     numbers: &mut [u32; PIECES],
     used: &mut [u8; USED],
 ) -> Desk {
-    let mut blocks = [0u32; 128];
-    let mut bytes = [0u8; 65536];
+    let mut blocks = [0u32; request::MOST];
+    let mut bytes = [0u8; request::MOST * Geometry::SECTOR];
     let r = request::request_of(line, call, &mut blocks, &mut bytes);
     if is_refused(desk, call, r, line) {
         return desk.stop();

@@ -4,7 +4,7 @@ ghost use Prim.Native.Nat.{ℕ, _+_, _≤_, _<_};
 ghost use lib.ListN.{length, getD};
 ghost use Rattle.line_reader.specs.Reader.{lineBytes, windowBytes, Placed};
 use libc::STDIN_FILENO;
-use paper::words;
+use paper::tokens;
 
 // The bytes of the longest line, without its newline.
 pub const LINE: usize = 262_144;
@@ -212,5 +212,5 @@ pub fn next_line(window: &mut [u8; WINDOW], from: Reader) -> Reader
 
 // The line that stands in the window, without a return at its end.
 pub fn line(window: &[u8; WINDOW], r: Reader) -> &[u8] {
-    words::trimmed(words::part(window, r.from, r.sought))
+    tokens::trimmed(tokens::part(window, r.from, r.sought))
 }

@@ -42,7 +42,7 @@ fn mark_in(
 {
     let l = g.l as usize;
     let p = Geometry::pieces_for(g.l) as usize;
-    let mut above = [0u8; 8192];
+    let mut above = [0u8; Geometry::MOST_USED_BYTES];
     let found = scan::scan(
         image,
         g,
@@ -65,9 +65,9 @@ fn mark_scanned(image: &[u8], g: Geometry, used: &mut [u8]) -> bool
     requires { ⌜ length (now used) ≡ usedBytes (g .n) ⌝ }
     ensures { λ r. ⌜ marked r (bitAt (now (used .exit))) ≡ scanMarks g (now (image .entry)) ⌝ }
 {
-    let mut map = [0u32; 24576];
-    let mut places = [0u32; 256];
-    let mut numbers = [0u32; 256];
+    let mut map = [0u32; Geometry::MOST_BLOCKS as usize];
+    let mut places = [0u32; Geometry::MOST_PIECES];
+    let mut numbers = [0u32; Geometry::MOST_PIECES];
     mark_in(image, g, &mut map, &mut places, &mut numbers, used)
 }
 

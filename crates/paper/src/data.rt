@@ -1,5 +1,8 @@
 // The bytes of a block as a paper writes them: text in quotes, or x and hexadecimal digits.
-use crate::words;
+use crate::tokens;
+
+// Bytes of a block.
+pub const BLOCK: usize = 512;
 
 pub enum Trouble {
     Fine,
@@ -110,20 +113,20 @@ fn all_hex(text: &[u8]) -> bool {
 
 // Text: `from` is just after the quote.
 fn quoted(line: &[u8], from: usize) -> Data {
-    let to = words::find(line, from, 34);
+    let to = tokens::find(line, from, 34);
     if to >= line.len() {
         return Data::bad(from, Trouble::Quote);
     }
-    let text = words::part(line, from, to);
+    let text = tokens::part(line, from, to);
     if !all_plain(text) {
         return Data::bad(from, Trouble::Text);
     }
-    if text.len() > 512 {
+    if text.len() > BLOCK {
         return Data::bad(from, Trouble::Long);
     }
-    let next = words::after(line, to);
+    let next = tokens::after(line, to);
     if next < line.len() {
-        if !words::is_space(line[next]) {
+        if !tokens::is_space(line[next]) {
             return Data::bad(next, Trouble::Space);
         }
     }
@@ -138,15 +141,15 @@ fn quoted(line: &[u8], from: usize) -> Data {
 
 // Hexadecimal digits: `from` is just after the x.
 fn hexadecimal(line: &[u8], from: usize) -> Data {
-    let to = words::word_end(line, from);
-    let text = words::part(line, from, to);
+    let to = tokens::word_end(line, from);
+    let text = tokens::part(line, from, to);
     if text.len() % 2 != 0 {
         return Data::bad(from, Trouble::Hex);
     }
     if !all_hex(text) {
         return Data::bad(from, Trouble::Hex);
     }
-    if text.len() > 1024 {
+    if text.len() > 2 * BLOCK {
         return Data::bad(from, Trouble::Long);
     }
     Data {
@@ -160,8 +163,8 @@ fn hexadecimal(line: &[u8], from: usize) -> Data {
 
 // The data that begins at `from`.
 pub fn data_at(line: &[u8], from: usize) -> Data {
-    let first = words::byte_at(line, from);
-    let next = words::after(line, from);
+    let first = tokens::byte_at(line, from);
+    let next = tokens::after(line, from);
     if first == 34 {
         return quoted(line, next);
     }

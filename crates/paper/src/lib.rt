@@ -1,4 +1,4 @@
 // Papers: the lines that the desk sets.
 pub mod data;
 pub mod request;
-pub mod words;
+pub mod tokens;

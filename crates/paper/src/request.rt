@@ -2,8 +2,8 @@
 use crate::data;
 use crate::data::Data;
 use crate::data::Trouble;
-use crate::words;
-use crate::words::Number;
+use crate::tokens;
+use crate::tokens::Number;
 
 pub enum Call {
     // A blank line or a comment.
@@ -127,13 +127,13 @@ impl Request {
 
 // The calls that change the volume's blocks.
 fn commit_named(word: &[u8]) -> Call {
-    if words::is_word(word, b"format") {
+    if tokens::is_word(word, b"format") {
         return Call::Format;
     }
-    if words::is_word(word, b"write") {
+    if tokens::is_word(word, b"write") {
         return Call::Write;
     }
-    if words::is_word(word, b"drop") {
+    if tokens::is_word(word, b"drop") {
         return Call::Drop;
     }
     Call::Unknown
@@ -141,19 +141,19 @@ fn commit_named(word: &[u8]) -> Call {
 
 // The others.
 fn other_named(word: &[u8]) -> Call {
-    if words::is_word(word, b"read") {
+    if tokens::is_word(word, b"read") {
         return Call::Read;
     }
-    if words::is_word(word, b"park") {
+    if tokens::is_word(word, b"park") {
         return Call::Park;
     }
-    if words::is_word(word, b"recover") {
+    if tokens::is_word(word, b"recover") {
         return Call::Recover;
     }
-    if words::is_word(word, b"show") {
+    if tokens::is_word(word, b"show") {
         return Call::Show;
     }
-    if words::is_word(word, b"sectors") {
+    if tokens::is_word(word, b"sectors") {
         return Call::Sectors;
     }
     Call::Unknown
@@ -161,14 +161,14 @@ fn other_named(word: &[u8]) -> Call {
 
 // The call that a line asks for. A line whose first word begins with # is a comment.
 pub fn call_of(line: &[u8]) -> Call {
-    let start = words::word_start(line, 0);
+    let start = tokens::word_start(line, 0);
     if start >= line.len() {
         return Call::Nothing;
     }
-    if words::byte_at(line, start) == 35 {
+    if tokens::byte_at(line, start) == 35 {
         return Call::Nothing;
     }
-    let word = words::part(line, start, words::word_end(line, start));
+    let word = tokens::part(line, start, tokens::word_end(line, start));
     let commit = commit_named(word);
     match commit {
         Call::Unknown => other_named(word),
@@ -214,8 +214,8 @@ fn take_plug(line: &[u8], at: usize, end: usize, call: Call, r: Request) -> Requ
     if r.plugged {
         return r.wrong(at, Trouble::PlugTwice);
     }
-    let word = words::part(line, at, end);
-    let number = words::number_in(words::part(word, 7, word.len()));
+    let word = tokens::part(line, at, end);
+    let number = tokens::number_in(tokens::part(word, 7, word.len()));
     match number {
         Number::Nothing => r.wrong(at, Trouble::Plug),
         Number::Value(stores) => r.with_plug(stores, end),
@@ -224,7 +224,7 @@ fn take_plug(line: &[u8], at: usize, end: usize, call: Call, r: Request) -> Requ
 
 // One of the numbers after a call's name.
 fn take_number(word: &[u8], at: usize, end: usize, r: Request) -> Request {
-    let number = words::number_in(word);
+    let number = tokens::number_in(word);
     match number {
         Number::Nothing => r.wrong(at, Trouble::Number),
         Number::Value(value) => {
@@ -248,7 +248,7 @@ fn take_block(r: Request, at: usize, end: usize, block: u32, blocks: &mut [u32])
 
 // B of a drop.
 fn take_drop(word: &[u8], at: usize, end: usize, r: Request, blocks: &mut [u32]) -> Request {
-    let number = words::number_in(word);
+    let number = tokens::number_in(word);
     match number {
         Number::Nothing => r.wrong(at, Trouble::Number),
         Number::Value(block) => take_block(r, at, end, block, blocks),
@@ -258,8 +258,8 @@ fn take_drop(word: &[u8], at: usize, end: usize, r: Request, blocks: &mut [u32])
 // The data of the block that is next in the list.
 fn fill_block(bytes: &mut [u8], count: usize, text: &[u8], hex: bool) {
     if count < MOST {
-        let first = count * 512;
-        let end = first + 512;
+        let first = count * data::BLOCK;
+        let end = first + data::BLOCK;
         if end <= bytes.len() {
             data::fill(&mut bytes[first..end], text, hex);
         }
@@ -283,7 +283,7 @@ fn take_data(
             fill_block(
                 bytes,
                 r.count,
-                words::part(line, found.from, found.to),
+                tokens::part(line, found.from, found.to),
                 found.hex,
             );
             take_block(r, at, found.next, block, blocks)
@@ -294,14 +294,14 @@ fn take_data(
 
 // B=DATA of a write.
 fn take_write(line: &[u8], at: usize, r: Request, blocks: &mut [u32], bytes: &mut [u8]) -> Request {
-    let equals = words::find(line, at, 61);
-    let number = words::number_in(words::part(line, at, equals));
+    let equals = tokens::find(line, at, 61);
+    let number = tokens::number_in(tokens::part(line, at, equals));
     match number {
         Number::Nothing => r.wrong(at, Trouble::Block),
         Number::Value(block) => take_data(
             line,
             at,
-            words::after(line, equals),
+            tokens::after(line, equals),
             r,
             block,
             blocks,
@@ -319,9 +319,9 @@ fn take_word(
     blocks: &mut [u32],
     bytes: &mut [u8],
 ) -> Request {
-    let end = words::word_end(line, at);
-    let word = words::part(line, at, end);
-    if words::begins_with(word, b"stores=") {
+    let end = tokens::word_end(line, at);
+    let word = tokens::part(line, at, end);
+    if tokens::begins_with(word, b"stores=") {
         return take_plug(line, at, end, call, r);
     }
     if r.taken < wanted(call) {
@@ -345,7 +345,7 @@ fn take_words(
     let mut r = Request::fresh(from);
     let mut turn = 0;
     while turn < line.len() {
-        let at = words::word_start(line, r.at);
+        let at = tokens::word_start(line, r.at);
         if at >= line.len() {
             return r;
         }
@@ -376,12 +376,12 @@ fn whole(line: &[u8], call: Call, r: Request) -> Request {
 
 // What a line asks of a call. The blocks and their bytes go into the lists.
 pub fn request_of(line: &[u8], call: Call, blocks: &mut [u32], bytes: &mut [u8]) -> Request {
-    let start = words::word_start(line, 0);
+    let start = tokens::word_start(line, 0);
     match call {
         Call::Unknown => Request::fresh(start).wrong(start, Trouble::Call),
         Call::Nothing => Request::fresh(start),
         _ => {
-            let from = words::word_end(line, start);
+            let from = tokens::word_end(line, start);
             let r = take_words(line, from, call, blocks, bytes);
             whole(line, call, r)
         }

@@ -9,7 +9,7 @@ use wording::say;
 fn say_branch(s: &[u8], i: usize)
     requires { ⌜ length (now s) ≡ sectorBytes ⌝ }
 {
-    if i < 24 {
+    if i < Geometry::BRANCH_ROOM {
         say::say_count(b" ", map_sector::branch_at(s, i));
     }
 }
@@ -75,7 +75,7 @@ fn say_kind(s: &[u8], k: u32, g: Geometry)
 // The line of sector k of a volume, and whether it is live.
 pub fn say_sector(s: &[u8], k: u32, g: Geometry, live: bool) {
     say::say_count(b"sector ", k);
-    if s.len() == 512 {
+    if s.len() == Geometry::SECTOR {
         if 1 <= g.n {
             say_kind(s, k, g);
         }

@@ -1,6 +1,6 @@
 // The script on standard input: calls with chosen arguments, and facts that hold after them.
 use crate::cuts;
-use paper::words;
+use paper::tokens;
 use reference_board::board;
 use trial_board::cells;
 use trial_script::form;
@@ -59,9 +59,9 @@ fn carry_out_at(b: &mut [u32; board::SIZE], text: &[u8], at: usize) -> usize {
     if at >= text.len() {
         return at;
     }
-    let end = words::line_end(text, at);
-    carry_out_line(b, words::trimmed(words::part(text, at, end)));
-    words::after(text, end)
+    let end = tokens::line_end(text, at);
+    carry_out_line(b, tokens::trimmed(tokens::part(text, at, end)));
+    tokens::after(text, end)
 }
 
 // The lines of a script. Each takes a byte at least.

@@ -1,5 +1,5 @@
 // One line a family: what was run, how often, and the first difference if there is one.
-use paper::words;
+use paper::tokens;
 use reference_board::board;
 use trial_board::cells;
 use trial_script::form::Kind;
@@ -129,7 +129,7 @@ fn say_form(kind: Kind) {
 // The start of what was found, where it is long.
 fn shortened(text: &[u8]) -> &[u8] {
     if text.len() > 40 {
-        return words::part(text, 0, 40);
+        return tokens::part(text, 0, 40);
     }
     text
 }

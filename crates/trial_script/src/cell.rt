@@ -1,5 +1,5 @@
 // The names of a script, and the cells of the board that they stand for.
-use paper::words;
+use paper::tokens;
 use reference_board::board;
 
 // What is no name: past the board.
@@ -7,38 +7,38 @@ const NONE: u32 = 4_294_967_295;
 
 // The cell of an answer, of the state, of what is lent or of a table.
 pub fn cell_of(name: &[u8]) -> u32 {
-    if words::is_word(name, b"answer") {
+    if tokens::is_word(name, b"answer") {
         return board::ANSWER;
     }
-    if words::is_word(name, b"made") {
+    if tokens::is_word(name, b"made") {
         return board::STORES;
     }
-    if words::is_word(name, b"way") {
+    if tokens::is_word(name, b"way") {
         return board::WAY;
     }
-    if words::is_word(name, b"sectors-read") {
+    if tokens::is_word(name, b"sectors-read") {
         return board::READS;
     }
-    if words::is_word(name, b"branches") {
+    if tokens::is_word(name, b"branches") {
         return board::BRANCH_COUNT;
     }
     state_cell(name)
 }
 
 fn state_cell(name: &[u8]) -> u32 {
-    if words::is_word(name, b"n") {
+    if tokens::is_word(name, b"n") {
         return board::STATE_N;
     }
-    if words::is_word(name, b"l") {
+    if tokens::is_word(name, b"l") {
         return board::STATE_L;
     }
-    if words::is_word(name, b"tail") {
+    if tokens::is_word(name, b"tail") {
         return board::TAIL;
     }
-    if words::is_word(name, b"number") {
+    if tokens::is_word(name, b"number") {
         return board::NUMBER;
     }
-    if words::is_word(name, b"phase") {
+    if tokens::is_word(name, b"phase") {
         return board::PHASE;
     }
     length_cell(name)
@@ -46,22 +46,22 @@ fn state_cell(name: &[u8]) -> u32 {
 
 // The L that a format or a recover is given, and the lengths lent.
 fn length_cell(name: &[u8]) -> u32 {
-    if words::is_word(name, b"call-l") {
+    if tokens::is_word(name, b"call-l") {
         return board::BLOCK_COUNT;
     }
-    if words::is_word(name, b"image-length") {
+    if tokens::is_word(name, b"image-length") {
         return board::IMAGE_LENGTH;
     }
-    if words::is_word(name, b"map-length") {
+    if tokens::is_word(name, b"map-length") {
         return board::MAP_LENGTH;
     }
-    if words::is_word(name, b"places-length") {
+    if tokens::is_word(name, b"places-length") {
         return board::PLACES_LENGTH;
     }
-    if words::is_word(name, b"numbers-length") {
+    if tokens::is_word(name, b"numbers-length") {
         return board::NUMBERS_LENGTH;
     }
-    if words::is_word(name, b"used-length") {
+    if tokens::is_word(name, b"used-length") {
         return board::USED_LENGTH;
     }
     table_cell(name)
@@ -69,19 +69,19 @@ fn length_cell(name: &[u8]) -> u32 {
 
 // Where a table begins.
 fn table_cell(name: &[u8]) -> u32 {
-    if words::is_word(name, b"entry") {
+    if tokens::is_word(name, b"entry") {
         return board::LENT;
     }
-    if words::is_word(name, b"place") {
+    if tokens::is_word(name, b"place") {
         return board::LENT + board::PLACES;
     }
-    if words::is_word(name, b"live-number") {
+    if tokens::is_word(name, b"live-number") {
         return board::LENT + board::NUMBERS;
     }
-    if words::is_word(name, b"used") {
+    if tokens::is_word(name, b"used") {
         return board::LENT + board::USED;
     }
-    if words::is_word(name, b"out") {
+    if tokens::is_word(name, b"out") {
         return board::OUT;
     }
     NONE

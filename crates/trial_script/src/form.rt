@@ -1,7 +1,7 @@
 // The forms of a script's lines: what may follow the first word. A line is held to its form before anything of it is carried out.
 use crate::cell;
 use crate::parts;
-use paper::words;
+use paper::tokens;
 use reference_board::board;
 
 // A line by its first word.
@@ -48,76 +48,76 @@ pub enum Wrong {
 }
 
 fn argument_kind(first: &[u8]) -> Kind {
-    if words::is_word(first, b"volume") {
+    if tokens::is_word(first, b"volume") {
         return Kind::Volume;
     }
-    if words::is_word(first, b"block") {
+    if tokens::is_word(first, b"block") {
         return Kind::Block;
     }
-    if words::is_word(first, b"blocks") {
+    if tokens::is_word(first, b"blocks") {
         return Kind::Blocks;
     }
-    if words::is_word(first, b"stores") {
+    if tokens::is_word(first, b"stores") {
         return Kind::Stores;
     }
-    if words::is_word(first, b"bytes-more") {
+    if tokens::is_word(first, b"bytes-more") {
         return Kind::BytesMore;
     }
     call_kind(first)
 }
 
 fn call_kind(first: &[u8]) -> Kind {
-    if words::is_word(first, b"format") {
+    if tokens::is_word(first, b"format") {
         return Kind::Format;
     }
-    if words::is_word(first, b"write") {
+    if tokens::is_word(first, b"write") {
         return Kind::Write;
     }
-    if words::is_word(first, b"drop") {
+    if tokens::is_word(first, b"drop") {
         return Kind::Drop;
     }
-    if words::is_word(first, b"read") {
+    if tokens::is_word(first, b"read") {
         return Kind::Read;
     }
-    if words::is_word(first, b"park") {
+    if tokens::is_word(first, b"park") {
         return Kind::Park;
     }
-    if words::is_word(first, b"recover") {
+    if tokens::is_word(first, b"recover") {
         return Kind::Recover;
     }
     fact_kind(first)
 }
 
 fn fact_kind(first: &[u8]) -> Kind {
-    if words::is_word(first, b"is") {
+    if tokens::is_word(first, b"is") {
         return Kind::Is;
     }
-    if words::is_word(first, b"sector") {
+    if tokens::is_word(first, b"sector") {
         return Kind::Sector;
     }
-    if words::is_word(first, b"blank") {
+    if tokens::is_word(first, b"blank") {
         return Kind::Blank;
     }
-    if words::is_word(first, b"shows") {
+    if tokens::is_word(first, b"shows") {
         return Kind::Shows;
     }
-    if words::is_word(first, b"rejects") {
+    if tokens::is_word(first, b"rejects") {
         return Kind::Rejects;
     }
     damage_kind(first)
 }
 
 fn damage_kind(first: &[u8]) -> Kind {
-    if words::is_word(first, b"set") {
+    if tokens::is_word(first, b"set") {
         return Kind::Set;
     }
-    if words::is_word(first, b"put") {
+    if tokens::is_word(first, b"put") {
         return Kind::Put;
     }
-    if words::is_word(first, b"balance") {
+    if tokens::is_word(first, b"balance") {
         return Kind::Balance;
     }
-    if words::is_word(first, b"copy") {
+    if tokens::is_word(first, b"copy") {
         return Kind::Copy;
     }
     Kind::Unknown

@@ -1,5 +1,5 @@
 // What the code reads of a volume, held to the plain disk.
-use paper::words as text;
+use paper::tokens;
 use reference_board::board;
 use state::State;
 use trial_board::cells;
@@ -7,10 +7,10 @@ use trial_board::cells;
 fn word_at(out: &[u8], i: u32) -> u32 {
     let at = i as usize * 4;
     words::word_of(
-        text::byte_at(out, at),
-        text::byte_at(out, at + 1),
-        text::byte_at(out, at + 2),
-        text::byte_at(out, at + 3),
+        tokens::byte_at(out, at),
+        tokens::byte_at(out, at + 1),
+        tokens::byte_at(out, at + 2),
+        tokens::byte_at(out, at + 3),
     )
 }
 

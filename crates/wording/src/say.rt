@@ -7,7 +7,7 @@ use libc::STDOUT_FILENO;
 use paper::data;
 use paper::data::Trouble;
 use paper::request::Call;
-use paper::words;
+use paper::tokens;
 use state::State;
 
 pub fn say(text: &[u8]) {
@@ -51,7 +51,7 @@ fn shown_length(block: &[u8]) -> usize {
 
 // A block without its trailing zeros: as text where it is plain, otherwise in hexadecimal.
 pub fn say_block(block: &[u8]) {
-    let text = words::part(block, 0, shown_length(block));
+    let text = tokens::part(block, 0, shown_length(block));
     if text.len() == 0 {
         say(b"zeros");
         return;
@@ -215,14 +215,14 @@ fn say_form(call: Call) {
 // The start of what was found, where it is long.
 fn shortened(text: &[u8]) -> &[u8] {
     if text.len() > 40 {
-        return words::part(text, 0, 40);
+        return tokens::part(text, 0, 40);
     }
     text
 }
 
 // Where in the line the trouble is: the word there, or the line's end.
 fn say_place(line: &[u8], at: usize) {
-    let word = words::part(line, at, words::word_end(line, at));
+    let word = tokens::part(line, at, tokens::word_end(line, at));
     if word.len() == 0 {
         say(b", found the end of the line");
         return;

@@ -1,8 +1,8 @@
 use Prim.Native.Nat.{_-_}
 use lib.ListN.{length}
 use borrow.Author.Needs.{needs}
-use Rattle.paper.proofs.words.word_start.Statement.{statement}
-use Rattle.paper.proofs.words.word_start.Tie as tie
+use Rattle.paper.proofs.tokens.word_start.Statement.{statement}
+use Rattle.paper.proofs.tokens.word_start.Tie as tie
 
 abbrev Inv-loop : tie.InvT-loop
 Inv-loop line from i₀ i = Unit {0}

@@ -1,17 +1,20 @@
 use Prim.Native.Nat.{_-_}
 use lib.ListN.{length}
 use borrow.Author.Needs.{needs}
-use Rattle.paper.proofs.words.find.Statement.{statement}
-use Rattle.paper.proofs.words.find.Tie as tie
+use Rattle.paper.proofs.tokens.begins_with.Statement.{statement}
+use Rattle.paper.proofs.tokens.begins_with.Tie as tie
 
 abbrev Inv-loop : tie.InvT-loop
-Inv-loop line from b i₀ i = Unit {0}
+Inv-loop word name i₀ i = Unit {0}
 
 abbrev μ-loop : tie.MeasureT-loop
-μ-loop line from b i₀ i = length line - i
+μ-loop word name i₀ i = length name - i
 
 loop-holds : tie.Need-loop-holds Inv-loop μ-loop
 loop-holds c = tt
+
+byte-at-requires : tie.Need-byte-at-requires Inv-loop μ-loop
+byte-at-requires c κs = search needs
 
 shared-slice-read-if1 : tie.Need-shared-slice-read-if1 Inv-loop μ-loop
 shared-slice-read-if1 c = search needs
@@ -31,13 +34,14 @@ loop-again c = tt
 returns-2 : tie.Need-returns-2 Inv-loop μ-loop
 returns-2 c = search needs
 
-pub find-spec : {M : Type 1} → statement M
-find-spec =
+pub begins-with-spec : {M : Type 1} → statement M
+begins-with-spec =
     tie.close
     (tie.spec
     Inv-loop
     μ-loop
     loop-holds
+    byte-at-requires
     shared-slice-read-if1
     returns
     add-i

@@ -1,8 +1,8 @@
 use Prim.Native.Nat.{_-_}
 use lib.ListN.{length}
 use borrow.Author.Needs.{needs}
-use Rattle.paper.proofs.words.number_in.Statement.{statement}
-use Rattle.paper.proofs.words.number_in.Tie as tie
+use Rattle.paper.proofs.tokens.number_in.Statement.{statement}
+use Rattle.paper.proofs.tokens.number_in.Tie as tie
 
 abbrev Inv-loop : tie.InvT-loop
 Inv-loop word value₀ i₀ value i = Unit {0}

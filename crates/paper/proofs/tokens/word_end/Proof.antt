@@ -1,23 +1,23 @@
 use Prim.Native.Nat.{_-_}
 use lib.ListN.{length}
 use borrow.Author.Needs.{needs}
-use Rattle.paper.proofs.words.begins_with.Statement.{statement}
-use Rattle.paper.proofs.words.begins_with.Tie as tie
+use Rattle.paper.proofs.tokens.word_end.Statement.{statement}
+use Rattle.paper.proofs.tokens.word_end.Tie as tie
 
 abbrev Inv-loop : tie.InvT-loop
-Inv-loop word name i₀ i = Unit {0}
+Inv-loop line from i₀ i = Unit {0}
 
 abbrev μ-loop : tie.MeasureT-loop
-μ-loop word name i₀ i = length name - i
+μ-loop line from i₀ i = length line - i
 
 loop-holds : tie.Need-loop-holds Inv-loop μ-loop
 loop-holds c = tt
 
-byte-at-requires : tie.Need-byte-at-requires Inv-loop μ-loop
-byte-at-requires c κs = search needs
+shared-slice-read-is-space : tie.Need-shared-slice-read-is-space Inv-loop μ-loop
+shared-slice-read-is-space c = search needs
 
-shared-slice-read-if1 : tie.Need-shared-slice-read-if1 Inv-loop μ-loop
-shared-slice-read-if1 c = search needs
+is-space-requires : tie.Need-is-space-requires Inv-loop μ-loop
+is-space-requires c κs = search needs
 
 returns : tie.Need-returns Inv-loop μ-loop
 returns c = search needs
@@ -34,15 +34,15 @@ loop-again c = tt
 returns-2 : tie.Need-returns-2 Inv-loop μ-loop
 returns-2 c = search needs
 
-pub begins-with-spec : {M : Type 1} → statement M
-begins-with-spec =
+pub word-end-spec : {M : Type 1} → statement M
+word-end-spec =
     tie.close
     (tie.spec
     Inv-loop
     μ-loop
     loop-holds
-    byte-at-requires
-    shared-slice-read-if1
+    shared-slice-read-is-space
+    is-space-requires
     returns
     add-i
     loop-less
