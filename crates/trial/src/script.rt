@@ -37,7 +37,8 @@ fn carry_out(b: &mut [u32; board::SIZE], line: &[u8], kind: Kind) {
 
 // A line that is not of its form is reported and not carried out.
 fn refuse(b: &mut [u32; board::SIZE], line: &[u8], kind: Kind, wrong: Wrong) {
-    trial_report::say_bad_line(cells::get(b, cells::LINE), line, kind, wrong);
+    let word = form::found(line, wrong);
+    trial_report::say_bad_line(cells::get(b, cells::LINE), word, kind, wrong);
     cells::hold(b, false, cells::SAMPLE);
 }
 

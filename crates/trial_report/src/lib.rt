@@ -4,7 +4,6 @@ use reference_board::board;
 use trial_board::cells;
 use trial_script::form::Kind;
 use trial_script::form::Wrong;
-use trial_script::parts;
 use wording::say;
 
 fn say_call(call: u32) {
@@ -134,10 +133,10 @@ fn shortened(text: &[u8]) -> &[u8] {
     text
 }
 
-// Word i of a line, counted from 0 here and from 1 for people.
-fn say_found(line: &[u8], i: u32) {
+// The word that stands as word i, which is counted from 0 here and from 1 for people.
+fn say_found(word: &[u8], i: u32) {
     say::say(b", found \"");
-    say::say(shortened(parts::word(line, i)));
+    say::say(shortened(word));
     say::say_count(b"\" as word ", board::plus(i, 1));
 }
 
@@ -148,22 +147,22 @@ fn say_first_words() {
     say::say(b", is, sector, blank, shows, rejects, set, put, balance or copy");
 }
 
-fn say_wrong(line: &[u8], kind: Kind, wrong: Wrong) {
+fn say_wrong(word: &[u8], kind: Kind, wrong: Wrong) {
     match wrong {
         Wrong::Nothing => {}
         Wrong::FirstWord => {
             say_first_words();
-            say_found(line, 0);
+            say_found(word, 0);
         }
         Wrong::Name(i) => {
             say_form(kind);
             say::say(b", the NAME a known one");
-            say_found(line, i);
+            say_found(word, i);
         }
         Wrong::Number(i) => {
             say_form(kind);
             say::say(b", with numbers up to 4294967295");
-            say_found(line, i);
+            say_found(word, i);
         }
         Wrong::Missing(_) => {
             say_form(kind);
@@ -172,16 +171,16 @@ fn say_wrong(line: &[u8], kind: Kind, wrong: Wrong) {
         Wrong::TooMany(i) => {
             say_form(kind);
             say::say(b" and no more");
-            say_found(line, i);
+            say_found(word, i);
         }
     }
 }
 
-// A line that is not of a known form: what was expected, and what stands there.
-pub fn say_bad_line(number: u32, line: &[u8], kind: Kind, wrong: Wrong) {
+// A line that is not of a known form: what was expected, and the word that stands there.
+pub fn say_bad_line(number: u32, word: &[u8], kind: Kind, wrong: Wrong) {
     say::say_count(b"line ", number);
     say::say(b": expected ");
-    say_wrong(line, kind, wrong);
+    say_wrong(word, kind, wrong);
     say::say(b"\n");
 }
 

@@ -228,3 +228,13 @@ pub fn is_right(line: &[u8]) -> bool {
         _ => false,
     }
 }
+
+// The word that is wrong.
+pub fn found(line: &[u8], wrong: Wrong) -> &[u8] {
+    match wrong {
+        Wrong::Name(i) => parts::word(line, i),
+        Wrong::Number(i) => parts::word(line, i),
+        Wrong::TooMany(i) => parts::word(line, i),
+        _ => parts::word(line, 0),
+    }
+}
