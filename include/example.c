@@ -48,8 +48,9 @@ static void load(const char *name)
 /* Prints a result, and hands on its state. Any answer but the expected one ends the program. */
 static vlog_state told(const char *call, vlog_result r, uint32_t expected)
 {
-    printf("%-8s answers %u, %u stores; state: N %u, L %u, tail %u, number %u, phase %u", call, (unsigned)r.answer,
-           (unsigned)r.stores, (unsigned)r.n, (unsigned)r.l, (unsigned)r.tail, (unsigned)r.number, (unsigned)r.phase);
+    printf("%-8s answers %u, %u stores, %u skipped; state: N %u, L %u, tail %u, number %u, phase %u", call,
+           (unsigned)r.answer, (unsigned)r.stores, (unsigned)r.skipped, (unsigned)r.n, (unsigned)r.l, (unsigned)r.tail,
+           (unsigned)r.number, (unsigned)r.phase);
     if (r.way)
         printf("; by a %s, %u sectors read", r.way == VLOG_WALK ? "walk" : "scan", (unsigned)r.read);
     printf("\n");
@@ -73,9 +74,10 @@ int main(int argc, char **argv)
     s = told("write", vlog_write(s, IMAGE, TABLES, 10, block, 1, bytes, sizeof bytes, VLOG_NO_LIMIT), VLOG_ACCEPTED);
     save(name);
 
-    /* The power fails: one store is made, where this write needs two. */
+    /* From the same head the two sectors just stored are in the way. The power fails: one store is made, where this
+     * write needs two. */
     strcpy((char *)bytes, "Bob: no, at ten.");
-    s = told("write", vlog_write(s, IMAGE, TABLES, 20, block, 1, bytes, sizeof bytes, 1), VLOG_POWER_FAILED);
+    s = told("write", vlog_write(s, IMAGE, TABLES, 10, block, 1, bytes, sizeof bytes, 1), VLOG_POWER_FAILED);
     save(name);
 
     /* Memory is lost; the file is all there is. */

@@ -82,10 +82,11 @@ typedef struct {
 } vlog_state;
 
 typedef struct {
-    uint32_t answer; /* 0, or the number of the refusal */
-    uint32_t stores; /* sectors stored; 0 on every refusal but 10 */
-    uint32_t way;    /* of an accepted recover: VLOG_WALK or VLOG_SCAN, else 0 */
-    uint32_t read;   /* and the sectors that it read, else 0 */
+    uint32_t answer;  /* 0, or the number of the refusal */
+    uint32_t stores;  /* sectors stored; 0 on every refusal but 10 */
+    uint32_t skipped; /* of a write or a drop: used sectors that the searches for these passed over, else 0 */
+    uint32_t way;     /* of an accepted recover: VLOG_WALK or VLOG_SCAN, else 0 */
+    uint32_t read;    /* and the sectors that it read, else 0 */
     uint32_t n, l, tail, number, phase; /* the state to go on with */
 } vlog_result;
 
@@ -106,7 +107,7 @@ vlog_result vlog_format(vlog_state state,
                         uint32_t l, uint32_t allowance);
 
 /* Writes 1 to 64 blocks, all or none: 512 bytes for each number, in the order of the numbers. Free sectors are sought
- * from the head upwards: a sector below N, as the one nearest to a disk's arm. */
+ * from the head upwards: a sector below N, as the one nearest to a disk's arm. Used ones in the way are skipped. */
 vlog_result vlog_write(vlog_state state,
                        uint8_t *image, size_t image_length,
                        uint32_t *map, size_t map_length,

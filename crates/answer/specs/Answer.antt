@@ -57,7 +57,7 @@ isRefusal (PowerFailed cost) = false
 
 -- So many stores, and nothing beside them.
 abbrev pub storesAlone : ℕ → Cost
-storesAlone stores = record { stores = stores }
+storesAlone stores = record { stores = stores; skipped = 0 }
 
 -- What a call cost: nothing where it is turned back, but with 10.
 abbrev pub costOf : Answer → Cost

@@ -62,9 +62,19 @@ pub enum Verdict {
     Refuse(Refusal),
 }
 
-// What a call cost.
+// What a call cost: the sectors it stored, and the used sectors that the searches for their places passed over.
 pub struct Cost {
     pub stores: u32,
+    pub skipped: u32,
+}
+
+impl Cost {
+    // So many stores, and nothing beside them.
+    pub fn stores_alone(stores: u32) -> Cost
+        ensures { λ r. ⌜ r ≡ storesAlone stores ⌝ }
+    {
+        Cost { stores, skipped: 0 }
+    }
 }
 
 // What a call answers.
@@ -85,7 +95,7 @@ impl Answer {
     pub fn accepted(stores: u32) -> Answer
         ensures { λ r. ⌜ r ≡ Accepted (storesAlone stores) ⌝ }
     {
-        Answer::Accepted(Cost { stores })
+        Answer::Accepted(Cost::stores_alone(stores))
     }
 
     pub fn walked(read: u32, stores: u32) -> Answer
@@ -93,7 +103,7 @@ impl Answer {
     {
         Answer::Walked {
             read,
-            cost: Cost { stores },
+            cost: Cost::stores_alone(stores),
         }
     }
 
@@ -102,14 +112,14 @@ impl Answer {
     {
         Answer::Scanned {
             read,
-            cost: Cost { stores },
+            cost: Cost::stores_alone(stores),
         }
     }
 
     pub fn power_failed(stores: u32) -> Answer
         ensures { λ r. ⌜ r ≡ PowerFailed (storesAlone stores) ⌝ }
     {
-        Answer::PowerFailed(Cost { stores })
+        Answer::PowerFailed(Cost::stores_alone(stores))
     }
 
     pub fn number(self) -> u32
@@ -139,16 +149,30 @@ impl Answer {
         }
     }
 
-    pub fn cost(self) -> Cost
-        ensures { λ r. ⌜ r ≡ costOf self ⌝ }
+    // What the call cost, each number by itself: a cost that is handed on whole goes through memory.
+    pub fn stores(self) -> u32
+        ensures { λ r. ⌜ r ≡ costOf self .stores ⌝ }
     {
         match self {
-            Answer::Accepted(cost) => cost,
-            Answer::Walked { read: _, cost } => cost,
-            Answer::Scanned { read: _, cost } => cost,
-            Answer::Refused(_) => Cost { stores: 0 },
-            Answer::Lost(_) => Cost { stores: 0 },
-            Answer::PowerFailed(cost) => cost,
+            Answer::Accepted(cost) => cost.stores,
+            Answer::Walked { read: _, cost } => cost.stores,
+            Answer::Scanned { read: _, cost } => cost.stores,
+            Answer::Refused(_) => 0,
+            Answer::Lost(_) => 0,
+            Answer::PowerFailed(cost) => cost.stores,
+        }
+    }
+
+    pub fn skipped(self) -> u32
+        ensures { λ r. ⌜ r ≡ costOf self .skipped ⌝ }
+    {
+        match self {
+            Answer::Accepted(cost) => cost.skipped,
+            Answer::Walked { read: _, cost } => cost.skipped,
+            Answer::Scanned { read: _, cost } => cost.skipped,
+            Answer::Refused(_) => 0,
+            Answer::Lost(_) => 0,
+            Answer::PowerFailed(cost) => cost.skipped,
         }
     }
 

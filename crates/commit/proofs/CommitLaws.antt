@@ -10,7 +10,6 @@ use lib.Dec.{eqb}
 use Rattle.geometry.specs.declared.Geometry.{Geometry}
 use Rattle.state.specs.declared.State.{State}
 use Rattle.state.specs.declared.Outcome.{Outcome}
-use Rattle.answer.specs.Answer.{storesAlone}
 use Rattle.answer.specs.declared.Answer.{Answer}
 use Rattle.answer.specs.declared.Answer.the-variants.{Accepted, PowerFailed}
 use Rattle.geometry.specs.Geometry.{piecesFor}
@@ -19,22 +18,22 @@ use Rattle.layout.specs.Bounded.{at, always, isZero, countBelow, updated, updat
 use Rattle.layout.specs.MapSector.{encoded}
 use Rattle.volume.specs.Tables.{Tables, memory, sectorAt, tablesOf, namedBy, usedBy, pieceEntries}
 use Rattle.volume.specs.Store.{Store, applied, storesBelow, after, Action, performed}
-use Rattle.volume.specs.Commit.{Change, Plan, rank, memberPlace, changedEntries, committedTables, member, dataStore, memberStore, commitStores, planAction}
+use Rattle.volume.specs.Commit.{Change, Plan, rank, memberPlace, changedEntries, committedTables, member, dataStore, memberStore, commitStores, bill, planAction}
 use Rattle.power.specs.declared.allowance.Power.the-variants.{Left, Failed}
 use Rattle.power.specs.Power.{powered}
 use Rattle.pieces.specs.Arrays.{flagged, planOf, changeOf, blockStore, Settling}
 use Rattle.commit.specs.Commit.{changeWith}
 use Rattle.power.proofs.Performing.{memory-left, call-cut, call-whole}
 
-module _ (s : State) (allowance : ℕ) (im mp pl nu us im′ : List ℕ) (blocks bytes news taken branches written : List ℕ) (count members : ℕ)
+module _ (s : State) (allowance : ℕ) (im mp pl nu us im′ : List ℕ) (blocks bytes news taken branches written : List ℕ) (count members skipped : ℕ)
     (e1 : length im′ ≡ length im) where
   abbrev action : Action
-  action = planAction s (tablesOf mp pl nu us) (planOf branches written members count taken) (changeWith blocks bytes news count)
+  action = planAction s (tablesOf mp pl nu us) (planOf branches written members count taken skipped) (changeWith blocks bytes news count)
 
   abbrev made : List Store
   made =
       storesBelow always (blockStore taken bytes) count
-      ++ storesBelow (flagged written) (memberStore s (tablesOf mp [] [] []) (planOf branches written members count taken) (changeOf blocks news count)) (piecesFor (s .geometry .l))
+      ++ storesBelow (flagged written) (memberStore s (tablesOf mp [] [] []) (planOf branches written members count taken 0) (changeOf blocks news count)) (piecesFor (s .geometry .l))
 
   stores-are : made ≡ action .stores
   unfolding planAction commitStores dataStore memberStore member memberPlace rank committedTables changedEntries
@@ -45,7 +44,7 @@ module _ (s : State) (allowance : ℕ) (im mp pl nu us im′ : List ℕ) (blocks
     unfolding memory
     image-is = i ∙ ap (λ (xs : List Store). applied (take allowance xs) (sectorAt im)) stores-are
 
-    pub carried-cut : (x : Answer) (y : State) → x ≡ PowerFailed (storesAlone allowance) → y ≡ cutState s → Failed ≡ powered (length made) allowance
+    pub carried-cut : (x : Answer) (y : State) → x ≡ PowerFailed (record { stores = allowance; skipped = skipped }) → y ≡ cutState s → Failed ≡ powered (length made) allowance
         → after (record { answer = x; state = y }) (memory im′ mp pl nu us) ≡ performed allowance action (memory im mp pl nu us)
     unfolding planAction
     carried-cut x y p q e =
@@ -56,9 +55,9 @@ module _ (s : State) (allowance : ℕ) (im mp pl nu us im′ : List ℕ) (blocks
     pub carried-whole : (mp′ pl′ nu′ us′ : List ℕ) (r : Outcome) (left : ℕ) → length mp′ ≡ length mp → length pl′ ≡ length pl → length nu′ ≡ length nu
         → length us′ ≡ length us → Settling (s .geometry) (s .number) blocks news taken count written
         → members ≡ countBelow (flagged written) (piecesFor (s .geometry .l)) → 1 ≤ members → Left left ≡ powered (length made) allowance
-        → (r .answer ≡ Accepted (storesAlone (allowance - left)))
+        → (r .answer ≡ Accepted (record { stores = allowance - left; skipped = skipped }))
         × (r .state ≡ committedState s (at taken (length taken - 1)) (s .number + members))
-        × (tablesOf mp′ pl′ nu′ us′ ≡ committedTables s (tablesOf mp pl nu us) (planOf [] written 0 count taken) (changeOf blocks news count))
+        × (tablesOf mp′ pl′ nu′ us′ ≡ committedTables s (tablesOf mp pl nu us) (planOf [] written 0 count taken 0) (changeOf blocks news count))
         → after r (memory im′ mp′ pl′ nu′ us′) ≡ performed allowance action (memory im mp pl nu us)
     unfolding planAction committedTables changedEntries memberPlace rank
     carried-whole mp′ pl′ nu′ us′ r left e2 e3 e4 e5 g m one e w =
@@ -95,7 +94,8 @@ stores-same which store store′ (suc n) h =
 module _ (s : State) (t : Tables) (plan : Plan) (change : Change) where
   pub action-plan : (b : List ℕ) (w : ℕ → Bool) (m d : ℕ) (p : List ℕ) → b ≡ plan .branches → w ≡ plan .written → m ≡ plan .members → d ≡ plan .dataSectors
       → p ≡ plan .places
-      → planAction s t (record { fold = false; branches = b; written = w; members = m; dataSectors = d; places = p }) change ≡ planAction s t plan change
+      → planAction s t (record { fold = false; branches = b; written = w; members = m; dataSectors = d; places = p; skipped = plan .skipped }) change
+      ≡ planAction s t plan change
   unfolding planAction commitStores dataStore memberStore member memberPlace rank committedTables changedEntries
   action-plan b w m d p e1 e2 e3 e4 e5 = rw (e1, e2, e3, e4, e5) refl
 
@@ -117,7 +117,7 @@ module _ (s : State) (t : Tables) (plan : Plan) where
       } in
       record {
         stores = datas ++ storesBelow (plan .written) members (piecesFor (s .geometry .l));
-        cost = storesAlone;
+        cost = bill plan;
         answer = Accepted;
         state = committedState s (memberPlace plan (plan .members - 1)) (s .number + plan .members);
         tables = record {

@@ -1,6 +1,6 @@
 -- From the checks and the plan to what storing and settling rely on, and from the arrays to the action of the definition.
 use Prim.Native.Nat.{ℕ, suc, _+_, _-_, _≤_, _<_, _^_}
-use mathlib.Core.Path.{_≡_, refl, sym, _∙_, ap, subst}
+use mathlib.Core.Path.{_≡_, refl, sym, _∙_, ap, ap₂, subst}
 use mathlib.Core.Logic.{_⊎_, ⊎-elim}
 use mathlib.Core.Bool.{Bool, true, false, not}
 use mathlib.Core.List.{List, [], _++_}
@@ -12,20 +12,24 @@ use borrow.Author.Tests.{eq-eqb, ne-eqb}
 use Rattle.laws.proofs.Filling.{zeros-get}
 use Rattle.state.specs.declared.State.{State}
 use Rattle.geometry.specs.Geometry.{piecesFor, pieceOf}
-use Rattle.layout.specs.Bounded.{at, countBelow, isZero, listFrom}
+use Rattle.layout.specs.Bounded.{at, countBelow, isZero, listFrom, always}
 use Rattle.layout.specs.MapSector.{View}
 use Rattle.layout.specs.Entry.{isEmpty, sectorOf, stored, entryFor}
-use Rattle.volume.specs.Tables.{bitAt, memory, sectorAt, tablesOf, usedBy, freeSectors}
+use Rattle.volume.specs.Tables.{Memory, bitAt, memory, sectorAt, tablesOf, usedBy, freeSectors}
+use Rattle.volume.specs.Store.{storesBelow, Action, performed}
 use Rattle.volume.specs.Placing.{base, placeOf}
-use Rattle.volume.specs.Commit.{Plan, touches, branchesFor, planned, planAction, commitAction}
+use Rattle.volume.specs.Commit.{Plan, touches, branchesFor, planned, rank, memberPlace, changedEntries, committedTables, member, dataStore, memberStore, commitStores, bill, planAction, commitAction}
 use Rattle.answer.specs.declared.Verdict.the-variants.{Pass}
 use Rattle.volume.specs.Refusals.{judged}
 use Rattle.volume.specs.Calls.{viewOf, commitChecks, writeChange, dropChange}
-use Rattle.laws.proofs.Bounded.{or-r, cond-true, cond-false, tabled-at, tabled-past, anyBelow-is, count-before, count-le, length-listFrom, listFrom-at}
+use Rattle.laws.proofs.Bounded.{or-r, cond-true, cond-false, tabled-at, tabled-past, anyBelow-is, count-before, count-le, count-always, length-listFrom, listFrom-at}
 use Rattle.laws.proofs.Codec.{entry-sector, entry-full}
 use Rattle.laws.proofs.Names.{sound}
 use Rattle.laws.proofs.Placing.{base-chooses, place-below, place-low}
 use Rattle.laws.proofs.Sizes.{Fits, fits}
+use Rattle.laws.proofs.Stores.{below-length}
+use Rattle.power.specs.Power.{made}
+use Rattle.power.proofs.Performing.{performed-cost}
 use Rattle.pieces.specs.Arrays.{flagged, planOf, changeOf, Settling, Planning}
 use Rattle.plan.proofs.PlanLaws.{listing-any}
 use Rattle.commit.specs.Commit.{changeWith, changeBy}
@@ -99,8 +103,8 @@ module _ (s : State) (im mp pl nu us : List ℕ) (head : ℕ) (blocks : List ℕ
       let least = fit .least in
       sound (s .geometry) (tablesOf mp pl nu us) (s .tail) (s .number) (p .sound-tables) .used 0 (omega arith)
 
-  module _ (first members : ℕ) (bs written taken ts : List ℕ) (g : Planning the-plan first members bs written count taken)
-      (slice : ts ≡ take (count + members) taken) where
+  module _ (first members : ℕ) (bs written taken ts : List ℕ) (skipped allowance : ℕ)
+      (g : Planning the-plan first members bs written count taken skipped allowance) (slice : ts ≡ take (count + members) taken) where
     pub some-members : 1 ≤ members
     some-members = let e = g .members-are in let h = members-some in omega arith
 
@@ -216,9 +220,22 @@ module _ (s : State) (im mp pl nu us : List ℕ) (head : ℕ) (blocks : List ℕ
       unfolding planned
       plan-any content entry = rw branches-any refl
 
+      -- The plan in the arrays, with what is skipped for every number of stores.
+      abbrev billed : Plan
+      billed =
+          record {
+            fold = false;
+            branches = take first bs;
+            written = flagged written;
+            members = members;
+            dataSectors = count;
+            places = ts;
+            skipped = the-plan .skipped;
+          }
+
       action-any : (content : ℕ → List ℕ) (entry : ℕ → ℕ → ℕ) → ((i : ℕ) → i < count → stored (sectorAt bytes i) ≡ content i)
           → ((i : ℕ) → i < length blocks → at news i ≡ entry i (at ts i))
-          → planAction s (tablesOf mp pl nu us) (planOf (take first bs) written members count ts) (changeWith blocks bytes news count)
+          → planAction s (tablesOf mp pl nu us) billed (changeWith blocks bytes news count)
           ≡ commitAction base s (tablesOf mp pl nu us) view head (record { blocks = blocks; dataSectors = count; content = content; entry = entry })
       unfolding commitAction planAction
       action-any content entry same new =
@@ -228,7 +245,7 @@ module _ (s : State) (im mp pl nu us : List ℕ) (head : ℕ) (blocks : List ℕ
           (λ i h. new i h ∙ ap (λ (xs : List ℕ). entry i (at xs i)) here)
           ∙ ap (λ (q : Plan). planAction s (tablesOf mp pl nu us) q (record { blocks = blocks; dataSectors = count; content = content; entry = entry })) (plan-any content entry)
 
-      pub commit-action : planAction s (tablesOf mp pl nu us) (planOf (take first bs) written members count ts) (changeWith blocks bytes news count)
+      commit-action : planAction s (tablesOf mp pl nu us) billed (changeWith blocks bytes news count)
           ≡ commitAction base s (tablesOf mp pl nu us) view head (changeBy blocks bytes count)
       unfolding writeChange dropChange
       commit-action =
@@ -242,3 +259,29 @@ module _ (s : State) (im mp pl nu us : List ℕ) (head : ℕ) (blocks : List ℕ
           ∙ ap (λ (k : ℕ). commitAction base s (tablesOf mp pl nu us) view head (record { blocks = blocks; dataSectors = k; content = λ i. stored (sectorAt bytes i); entry = λ i place. entryFor (sectorAt bytes i) place })) z
           ∙ ap (commitAction base s (tablesOf mp pl nu us) view head) (sym (cond-false (isZero count) (dropChange blocks) (writeChange blocks bytes) (ne-eqb count 0 (λ (y : count ≡ 0). omega arith)))))
           how
+
+      -- The bill of the stores that are made is the plan's.
+      module _ (m : Memory) where
+        abbrev carried : Action
+        carried = planAction s (tablesOf mp pl nu us) (planOf (take first bs) written members count ts skipped) (changeWith blocks bytes news count)
+
+        stores-counted : length (carried .stores) ≡ count + members
+        unfolding planAction commitStores
+        stores-counted =
+            let plan = planOf (take first bs) written members count ts skipped in
+            let change = changeWith blocks bytes news count in
+            let datas = dataStore plan change in
+            let maps = memberStore s (tablesOf mp pl nu us) plan change in
+            length-append (storesBelow always datas count) (storesBelow (flagged written) maps (piecesFor (s .geometry .l)))
+            ∙ ap₂ (λ (x y : ℕ). x + y) (below-length always datas count ∙ count-always count) (below-length (flagged written) maps (piecesFor (s .geometry .l)) ∙ sym members-counted)
+
+        bill-kept : performed allowance carried m ≡ performed allowance (planAction s (tablesOf mp pl nu us) billed (changeWith blocks bytes news count)) m
+        unfolding planAction commitStores dataStore memberStore member memberPlace rank committedTables changedEntries
+        bill-kept =
+            let made-are = made (length (carried .stores)) allowance in
+            performed-cost allowance carried (bill billed) m
+            (ap (λ (x : ℕ). record { stores = made-are; skipped = x })
+            (g .skipped-are ∙ ap (λ (k : ℕ). (the-plan .skipped) (made k allowance)) (sym stores-counted)))
+
+        pub commit-done : performed allowance carried m ≡ performed allowance (commitAction base s (tablesOf mp pl nu us) view head (changeBy blocks bytes count)) m
+        commit-done = bill-kept ∙ ap (λ (x : Action). performed allowance x m) commit-action

@@ -7,7 +7,6 @@ ghost use Prim.Native.Nat.{_+_, _-_, _*_, _≤_};
 ghost use lib.ListN.{length};
 ghost use lib.Dec.{ltb};
 ghost use Rattle.geometry.specs.Geometry.{sectorBytes, branchRoom, piecesFor, usedBytes, geometryFits};
-ghost use Rattle.answer.specs.Answer.{storesAlone};
 ghost use Rattle.answer.specs.declared.Answer.the-variants.{Accepted};
 ghost use Rattle.answer.specs.declared.Verdict.the-variants.{Pass};
 ghost use Rattle.state.specs.State.{committedState};
@@ -21,6 +20,7 @@ ghost use Rattle.volume.specs.Calls.{viewOf, commitChecks};
 ghost use Rattle.pieces.specs.Arrays.{flagged, planOf, changeOf, Settling};
 ghost use Rattle.commit.specs.Commit.{changeWith, changeBy};
 use answer::Answer;
+use answer::Cost;
 use geometry::Geometry;
 use power::allowance::Power;
 use state::Outcome;
@@ -48,6 +48,7 @@ fn finish(
     written: &[u8],
     members: u32,
     stores: u32,
+    skipped: u32,
 ) -> Outcome
     requires { ⌜ members ≡ countBelow (flagged (now written)) (piecesFor (s .geometry .l)) ⌝ }
     requires { ⌜ 1 ≤ members ⌝ }
@@ -58,7 +59,7 @@ fn finish(
     requires { ⌜ length (now used) ≡ usedBytes (s .geometry .n) ⌝ }
     requires { ⌜ consistent (s .geometry) (tablesOf (now map) (now places) (now numbers) (now used)) (s .tail) (s .number) ≡ true ⌝ }
     requires { ⌜ Settling (s .geometry) (s .number) (now blocks) (now news) (now taken) count (now written) ⌝ }
-    ensures { λ r. ⌜ (r .answer ≡ Accepted (storesAlone stores)) × (r .state ≡ committedState s (at (now (taken .entry)) (length (now (taken .entry)) - 1)) (s .number + members)) × (tablesOf (now (map .exit)) (now (places .exit)) (now (numbers .exit)) (now (used .exit)) ≡ committedTables s (tablesOf (now (map .entry)) (now (places .entry)) (now (numbers .entry)) (now (used .entry))) (planOf [] (now (written .entry)) 0 count (now (taken .entry))) (changeOf (now (blocks .entry)) (now (news .entry)) count)) ⌝ }
+    ensures { λ r. ⌜ (r .answer ≡ Accepted (record { stores = stores; skipped = skipped })) × (r .state ≡ committedState s (at (now (taken .entry)) (length (now (taken .entry)) - 1)) (s .number + members)) × (tablesOf (now (map .exit)) (now (places .exit)) (now (numbers .exit)) (now (used .exit)) ≡ committedTables s (tablesOf (now (map .entry)) (now (places .entry)) (now (numbers .entry)) (now (used .entry))) (planOf [] (now (written .entry)) 0 count (now (taken .entry)) 0) (changeOf (now (blocks .entry)) (now (news .entry)) count)) ⌝ }
 {
     settle::settle(
         s,
@@ -75,12 +76,12 @@ fn finish(
     let tail = last_of(taken);
     let number = s.number + members;
     Outcome {
-        answer: Answer::accepted(stores),
+        answer: Answer::Accepted(Cost { stores, skipped }),
         state: s.committed(tail, number),
     }
 }
 
-// Stores a planned commit, and changes the tables when all was stored.
+// Stores a planned commit, and changes the tables when all was stored. So many sectors were skipped for what is stored.
 fn carry_out(
     s: State,
     image: &mut [u8],
@@ -96,6 +97,7 @@ fn carry_out(
     branches: &[u32],
     written: &[u8],
     members: u32,
+    skipped: u32,
     allowance: u32,
 ) -> Outcome
     requires { ⌜ geometryFits (s .geometry) ≡ true ⌝ }
@@ -110,7 +112,7 @@ fn carry_out(
     requires { ⌜ 1 ≤ members ⌝ }
     requires { ⌜ length (now branches) ≤ branchRoom ⌝ }
     requires { ⌜ length (now bytes) ≡ sectorBytes * count ⌝ }
-    ensures { λ r. ⌜ after r (memory (now (image .exit)) (now (map .exit)) (now (places .exit)) (now (numbers .exit)) (now (used .exit))) ≡ performed allowance (planAction s (tablesOf (now (map .entry)) (now (places .entry)) (now (numbers .entry)) (now (used .entry))) (planOf (now (branches .entry)) (now (written .entry)) members count (now (taken .entry))) (changeWith (now (blocks .entry)) (now (bytes .entry)) (now (news .entry)) count)) (memory (now (image .entry)) (now (map .entry)) (now (places .entry)) (now (numbers .entry)) (now (used .entry))) ⌝ }
+    ensures { λ r. ⌜ after r (memory (now (image .exit)) (now (map .exit)) (now (places .exit)) (now (numbers .exit)) (now (used .exit))) ≡ performed allowance (planAction s (tablesOf (now (map .entry)) (now (places .entry)) (now (numbers .entry)) (now (used .entry))) (planOf (now (branches .entry)) (now (written .entry)) members count (now (taken .entry)) skipped) (changeWith (now (blocks .entry)) (now (bytes .entry)) (now (news .entry)) count)) (memory (now (image .entry)) (now (map .entry)) (now (places .entry)) (now (numbers .entry)) (now (used .entry))) ⌝ }
 {
     let power = store::store(
         s,
@@ -128,7 +130,10 @@ fn carry_out(
     );
     match power {
         Power::Failed => Outcome {
-            answer: Answer::power_failed(allowance),
+            answer: Answer::PowerFailed(Cost {
+                stores: allowance,
+                skipped,
+            }),
             state: s.cut(),
         },
         Power::Left(left) => finish(
@@ -144,6 +149,7 @@ fn carry_out(
             written,
             members,
             allowance - left,
+            skipped,
         ),
     }
 }
@@ -171,7 +177,7 @@ pub fn commit(
     let mut branches = [0u32; Geometry::FOLDING_BRANCHES];
     let mut taken = [0u32; Geometry::COMMIT_SECTORS];
     let mut news = [0u32; Geometry::COMMIT_BLOCKS];
-    let sizes = plan::plan(
+    let planned = plan::plan(
         s,
         image,
         places,
@@ -183,9 +189,10 @@ pub fn commit(
         &mut written,
         &mut branches,
         &mut taken,
+        allowance,
     );
-    let members = sizes.members;
-    let first = sizes.branches;
+    let members = planned.members;
+    let first = planned.branches;
     let total = (count + members) as usize;
     let sectors = &taken[..total];
     entries::entries_for(bytes, sectors, count as usize, &mut news);
@@ -204,6 +211,7 @@ pub fn commit(
         &branches[..first],
         &written,
         members,
+        planned.skipped,
         allowance,
     )
 }

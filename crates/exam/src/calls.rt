@@ -43,7 +43,7 @@ fn say_read(
     let answer = done.answer;
     say::say_count(b"read ", block);
     if answer.number() != 0 {
-        say::say_refusal(answer);
+        say::say_refusal(Call::Read, answer);
         return done;
     }
     say::say(b": accepted; ");
@@ -122,7 +122,7 @@ fn show(
     let answer = done.answer;
     say::say(b"show");
     if answer.number() != 0 {
-        say::say_refusal(answer);
+        say::say_refusal(Call::Show, answer);
         return done;
     }
     say::say_count(

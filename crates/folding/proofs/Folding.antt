@@ -38,7 +38,7 @@ listed24 =
       first = 1;
       last = 45;
       says = record {
-        result = record { answer = 0; stores = 46; way = 0; reads = 0; tail = 93; number = 70; phase = 0 };
+        result = record { answer = 0; stores = 46; skipped = 48; way = 0; reads = 0; tail = 93; number = 70; phase = 0 };
         first = 71 ∷ 48 ∷ 1 ∷ 0 ∷ 47 ∷ 45 ∷ 43 ∷ 41 ∷ 39 ∷ 37 ∷ 35 ∷ 33 ∷ 31 ∷ 29 ∷ 27 ∷ 25 ∷ 23 ∷ 21 ∷ 19 ∷ 17 ∷ 15 ∷ 13 ∷ 11 ∷ 9 ∷ 7 ∷ 5 ∷ 3 ∷ 1 ∷ [];
         last = 93 ∷ 70 ∷ 45 ∷ 1 ∷ 92 ∷ [];
       };
@@ -53,7 +53,7 @@ folded25 =
       first = 0;
       last = 48;
       says = record {
-        result = record { answer = 0; stores = 73; way = 0; reads = 0; tail = 122; number = 98; phase = 0 };
+        result = record { answer = 0; stores = 73; skipped = 50; way = 0; reads = 0; tail = 122; number = 98; phase = 0 };
         first = 74 ∷ 50 ∷ 0 ∷ 0 ∷ [];
         last = 122 ∷ 98 ∷ 48 ∷ 1 ∷ 121 ∷ [];
       };

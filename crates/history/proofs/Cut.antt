@@ -20,7 +20,7 @@ use Rattle.answer.specs.declared.Loss.{Loss}
 use Rattle.answer.specs.declared.Loss.the-variants.{NoLog, DamagedLog}
 use Rattle.answer.specs.declared.Verdict.{Verdict}
 use Rattle.answer.specs.declared.Verdict.the-variants.{Pass, Refuse}
-use Rattle.answer.specs.Answer.{storesAlone, isRefusal, costOf}
+use Rattle.answer.specs.Answer.{isRefusal, costOf}
 use Rattle.layout.specs.Bounded.{isZero}
 use Rattle.layout.specs.MapSector.{View}
 use Rattle.layout.specs.ParkRecord.{Parked, parkedIn}
@@ -43,14 +43,14 @@ pub record CutThere (allowance : ℕ) (stores : List Store) (m : Memory) (r : Af
   pub counts : costOf (r .outcome .answer) .stores ≡ length (take allowance stores)
   pub makes : r .memory .image ≡ applied (take allowance stores) (m .image)
 
-module _ (allowance : ℕ) (a : Action) (m : Memory) (alone : (k : ℕ) → (a .cost) k ≡ storesAlone k)
+module _ (allowance : ℕ) (a : Action) (m : Memory) (counted : (k : ℕ) → (a .cost) k .stores ≡ k)
     (charges : (c : Cost) → costOf ((a .answer) c) ≡ c) where
   pub performed-there : CutThere allowance (a .stores) m (performed allowance a m)
   performed-there =
       ⊎-elim (λ (h : allowance < length (a .stores)).
       subst (CutThere allowance (a .stores) m) (sym (performed-cut allowance a m h))
       (record {
-        counts = ap (λ (c : Cost). c .stores) (alone allowance) ∙ sym (length-take-le allowance (a .stores) (omega arith));
+        counts = counted allowance ∙ sym (length-take-le allowance (a .stores) (omega arith));
         makes = refl;
       }))
       (λ (h : length (a .stores) ≤ allowance).
@@ -58,7 +58,7 @@ module _ (allowance : ℕ) (a : Action) (m : Memory) (alone : (k : ℕ) → (a .
       subst (CutThere allowance (a .stores) m) (sym (performed-whole allowance a m h))
       (record {
         counts =
-            ap (λ (c : Cost). c .stores) (charges ((a .cost) (length (a .stores))) ∙ alone (length (a .stores)))
+            ap (λ (c : Cost). c .stores) (charges ((a .cost) (length (a .stores)))) ∙ counted (length (a .stores))
             ∙ ap length (sym all);
         makes = ap (λ (ss : List Store). applied ss (m .image)) (sym all);
       })) (lt? allowance (length (a .stores)))

@@ -11,7 +11,7 @@ use lib.Seq.{getD-set-same, getD-set-other}
 use lib.ListN.{List·getD-eq-default}
 use lib.Dec.{ltb, eqb}
 use borrow.Author.Tests.{ltb-true, ltb-false, eqb-true, eqb-false, eq-eqb, ne-eqb}
-use Rattle.layout.specs.Bounded.{at, allBelow, anyBelow, countBelow, best, all, elem, distinct, gathered, listFrom, tabled, updated, updates}
+use Rattle.layout.specs.Bounded.{at, allBelow, anyBelow, countBelow, best, all, elem, distinct, gathered, listFrom, tabled, updated, updates, always}
 
 -- Deciding.
 
@@ -230,6 +230,11 @@ module _ (test : ℕ → Bool) where
       ⊎-elim (λ (z : test n ≡ true).
       ⊎-elim (λ (y : j ≡ countBelow test n). (n, omega arith, z, sym y)) lower (suc-cases (rw (count-hit n z) at h)))
       (λ (z : test n ≡ false). lower (rw (count-miss n z) at h)) (bool? (test n))
+
+pub count-always : (n : ℕ) → countBelow always n ≡ n
+unfolding countBelow
+count-always zero = refl
+count-always (suc n) = ap suc (count-always n)
 
 -- Two tests compared.
 

@@ -9,15 +9,15 @@ use native.Mathlib.Omega.{arith}
 use lib.Dec.{eqb, ltb}
 use borrow.Author.Tests.{lt-ltb, le-ltb, eq-eqb, ne-eqb}
 use Rattle.volume.specs.Tables.{freeSectors}
-use Rattle.volume.specs.Placing.{Rules, sectorAfter, firstFree, base, placedUpTo, placeOf}
+use Rattle.volume.specs.Placing.{Rules, sectorAfter, foundAt, passedOver, firstFree, base, placedUpTo, placeOf}
 use Rattle.laws.proofs.Bounded.{bool?, lt?, eq?, clash, cond-true, cond-false, or-l, or-r, not-of, count-near, count-some, suc-cases}
 
 -- What is asked of a choice of place, and of the limits.
 pub record Choosing (rules : Rules) : Type 0 where
   pub below : (n : ℕ) (isUsed : ℕ → Bool) (start k : ℕ) → start < n → isUsed 0 ≡ true → k < n → isUsed k ≡ false
-      → (rules .choose) n isUsed start < n
+      → (rules .choose) n isUsed start .sector < n
   pub free : (n : ℕ) (isUsed : ℕ → Bool) (start k : ℕ) → start < n → isUsed 0 ≡ true → k < n → isUsed k ≡ false
-      → isUsed ((rules .choose) n isUsed start) ≡ false
+      → isUsed ((rules .choose) n isUsed start .sector) ≡ false
   pub next : (n k : ℕ) → 1 < n → k < n → (rules .next) n k < n
   pub some : 1 ≤ rules .branchLimit
   pub few : rules .branchLimit ≤ 24
@@ -56,16 +56,18 @@ module _ (n : ℕ) (isUsed : ℕ → Bool) (used0 : isUsed 0 ≡ true) (free : �
       ⊎-elim (λ (z : suc k < n). rw (cond-true (ltb (suc k) n) (suc k) 1 (lt-ltb (suc k) n z)) z)
       (λ (z : n ≤ suc k). rw (cond-false (ltb (suc k) n) (suc k) 1 (le-ltb (suc k) n z)) (omega arith)) (lt? (suc k) n)
 
-  finds : (steps k : ℕ) → k < n → Ahead steps k → (firstFree n isUsed steps k < n) × (isUsed (firstFree n isUsed steps k) ≡ false)
+  finds : (steps k : ℕ) → k < n → Ahead steps k
+      → (firstFree n isUsed steps k .sector < n) × (isUsed (firstFree n isUsed steps k .sector) ≡ false)
   unfolding firstFree Ahead
   finds zero k h a = ⊎-elim (λ w. absurd (let x = w .0 in let y = w .1 in omega arith)) (λ w. absurd (let y = w .1 in omega arith)) a
   finds (suc steps) k h a =
       ⊎-elim (λ (z : isUsed k ≡ true).
-      rw (cond-true (isUsed k) (firstFree n isUsed steps (sectorAfter n k)) k z)
+      rw (cond-true (isUsed k) (passedOver (firstFree n isUsed steps (sectorAfter n k))) (foundAt k) z)
       (finds steps (sectorAfter n k) (after-below k) (ahead-after steps k h z a)))
-      (λ (z : isUsed k ≡ false). rw (cond-false (isUsed k) (firstFree n isUsed steps (sectorAfter n k)) k z) (h, z)) (bool? (isUsed k))
+      (λ (z : isUsed k ≡ false). rw (cond-false (isUsed k) (passedOver (firstFree n isUsed steps (sectorAfter n k))) (foundAt k) z) (h, z))
+      (bool? (isUsed k))
 
-  found : (start : ℕ) → start < n → (firstFree n isUsed n start < n) × (isUsed (firstFree n isUsed n start) ≡ false)
+  found : (start : ℕ) → start < n → (firstFree n isUsed n start .sector < n) × (isUsed (firstFree n isUsed n start .sector) ≡ false)
   unfolding Ahead
   found start h =
       finds n start h

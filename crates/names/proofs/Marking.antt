@@ -17,7 +17,7 @@ use Rattle.volume.specs.Tables.{bitAt, namedBy, usedBy}
 use Rattle.layout.specs.Entry.{isEmpty, sectorOf}
 use Rattle.names.specs.Marked.{withEntries, marked}
 use Rattle.laws.proofs.Lists.{within-below}
-use Rattle.laws.proofs.Bounded.{bool?, lt?, eq?, and-l, and-r, not-of, all-elem, allBelow-at, count-hit, count-miss, count-same, gathered-hit, gathered-miss}
+use Rattle.laws.proofs.Bounded.{bool?, lt?, eq?, and-l, and-r, not-of, all-elem, allBelow-at, count-hit, count-miss, count-always, count-same, gathered-hit, gathered-miss}
 
 pub not-false : (b : Bool) → not b ≡ false → b ≡ true
 not-false true e = refl
@@ -152,11 +152,6 @@ gathered-length test value others (suc m) =
     let none = count-miss test m z in
     let same = ap length (gathered-miss test value others m z) in
     omega arith) (bool? (test m))
-
-count-always : (m : ℕ) → countBelow always m ≡ m
-unfolding countBelow
-count-always zero = refl
-count-always (suc m) = ap suc (count-always m)
 
 not-not : (a : Bool) → not (not a) ≡ a
 not-not true = refl

@@ -14,6 +14,7 @@ use Rattle.layout.specs.Entry.{isEmpty, sectorOf, stored}
 use Rattle.volume.specs.Tables.{sectorAt}
 use Rattle.volume.specs.Store.{Store}
 use Rattle.volume.specs.Commit.{Change, Plan}
+use Rattle.power.specs.Power.{made}
 
 -- A piece is flagged by 1.
 unfoldable pub flagged : List ℕ → ℕ → Bool
@@ -30,10 +31,10 @@ pub record Live (g : Geometry) (image : ℕ → List ℕ) (place : ℕ → ℕ) 
   pub signed : (q : ℕ) → q < pieces → valid g (image (place q)) (wordsOf (image (place q))) ≡ true
   pub piece : (q : ℕ) → q < pieces → at (wordsOf (image (place q))) 4 ≡ q
 
--- The plan: the first member's branches, the flags of the pieces written, the counts, and the sectors taken. Whether it folds
--- is not asked any more.
-abbrev pub planOf : List ℕ → List ℕ → ℕ → ℕ → List ℕ → Plan
-planOf branches written members dataSectors places =
+-- The plan: the first member's branches, the flags of the pieces written, the counts, the sectors taken, and how many sectors
+-- were skipped for those of them that are stored. Whether it folds is not asked any more.
+abbrev pub planOf : List ℕ → List ℕ → ℕ → ℕ → List ℕ → ℕ → Plan
+planOf branches written members dataSectors places skipped =
     record {
       fold = false;
       branches = branches;
@@ -41,6 +42,7 @@ planOf branches written members dataSectors places =
       members = members;
       dataSectors = dataSectors;
       places = places;
+      skipped = λ _. skipped;
     }
 
 -- The change, with the new entry of each named block.
@@ -74,10 +76,11 @@ pub record Settling (g : Geometry) (number : ℕ) (blocks entries taken : List �
   pub taken-all : dataSectors + countBelow (flagged written) (piecesFor (g .l)) ≡ length taken
   pub numbers : number + countBelow (flagged written) (piecesFor (g .l)) < 2 ^ 32
 
--- The plan, as it stands in the arrays.
-pub record Planning (plan : Plan) (count members : ℕ) (branches written : List ℕ) (dataSectors : ℕ) (taken : List ℕ) : Type 0 where
+-- The plan, as it stands in the arrays; so many stores are allowed.
+pub record Planning (plan : Plan) (count members : ℕ) (branches written : List ℕ) (dataSectors : ℕ) (taken : List ℕ) (skipped allowance : ℕ) : Type 0 where
   pub members-are : members ≡ plan .members
   pub branches-are : take count branches ≡ plan .branches
   pub few : count ≤ branchRoom
   pub written-are : flagged written ≡ plan .written
   pub taken-are : take (dataSectors + members) taken ≡ plan .places
+  pub skipped-are : skipped ≡ (plan .skipped) (made (dataSectors + members) allowance)

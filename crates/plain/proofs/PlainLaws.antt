@@ -7,7 +7,6 @@ use Rattle.state.specs.declared.State.{State}
 use Rattle.state.specs.declared.Phase.{Phase}
 use Rattle.state.specs.declared.Phase.the-variants.{Running, Parked, Cut}
 use Rattle.state.specs.declared.Outcome.{Outcome}
-use Rattle.answer.specs.declared.Cost.{Cost}
 use Rattle.answer.specs.declared.Answer.{Answer}
 use Rattle.answer.specs.Answer.{isRefusal, numberOf, costOf, wayOf, readsOf}
 use Rattle.plain.specs.declared.CState.{CState}
@@ -42,14 +41,15 @@ module _ (c : CState) (answer : Answer) (s : State) (b : Bool) (f : b ≡ isRefu
   unfolding stateLeft
   left-other r q e = rw (sym f ∙ e) q
 
-pub result-is : (c : CState) (o : Outcome) (answer : ℕ) (cost : Cost) (way read : ℕ) (left : CState)
-    → answer ≡ numberOf (o .answer) → cost ≡ costOf (o .answer) → way ≡ wayOf (o .answer) → read ≡ readsOf (o .answer)
-    → left ≡ stateLeft c (o .answer) (o .state)
-    → joined answer cost way read left ≡ resultOf c o
+pub result-is : (c : CState) (o : Outcome) (answer stores skipped way read : ℕ) (left : CState)
+    → answer ≡ numberOf (o .answer) → stores ≡ costOf (o .answer) .stores → skipped ≡ costOf (o .answer) .skipped
+    → way ≡ wayOf (o .answer) → read ≡ readsOf (o .answer) → left ≡ stateLeft c (o .answer) (o .state)
+    → joined answer (record { stores = stores; skipped = skipped }) way read left ≡ resultOf c o
 unfolding resultOf
-result-is c o answer cost way read left a b d e f =
-    ap (λ (x : ℕ). joined x cost way read left) a
-    ∙ ap (λ (x : Cost). joined (numberOf (o .answer)) x way read left) b
+result-is c o answer stores skipped way read left a b k d e f =
+    ap (λ (x : ℕ). joined x (record { stores = stores; skipped = skipped }) way read left) a
+    ∙ ap (λ (x : ℕ). joined (numberOf (o .answer)) (record { stores = x; skipped = skipped }) way read left) b
+    ∙ ap (λ (x : ℕ). joined (numberOf (o .answer)) (record { stores = costOf (o .answer) .stores; skipped = x }) way read left) k
     ∙ ap (λ (x : ℕ). joined (numberOf (o .answer)) (costOf (o .answer)) x read left) d
     ∙ ap (λ (x : ℕ). joined (numberOf (o .answer)) (costOf (o .answer)) (wayOf (o .answer)) x left) e
     ∙ ap (joined (numberOf (o .answer)) (costOf (o .answer)) (wayOf (o .answer)) (readsOf (o .answer))) f

@@ -38,6 +38,7 @@ joined answer cost way read left =
     record {
       answer = answer;
       stores = cost .stores;
+      skipped = cost .skipped;
       way = way;
       read = read;
       n = left .n;

@@ -18,12 +18,13 @@ pub struct CState {
     pub phase: u32,
 }
 
-// What a call hands back: its answer (0, or the number of the refusal), the stores it made, how a recovery found the log
-// (1 walk, 2 scan) and the sectors it read, and the state.
+// What a call hands back: its answer (0, or the number of the refusal), the stores it made and the used sectors that the
+// searches for them passed over, how a recovery found the log (1 walk, 2 scan) and the sectors it read, and the state.
 #[repr(C)]
 pub struct CResult {
     pub answer: u32,
     pub stores: u32,
+    pub skipped: u32,
     pub way: u32,
     pub read: u32,
     pub n: u32,
@@ -99,13 +100,15 @@ pub fn result_of(c: CState, o: Outcome) -> CResult
 {
     let given = o.answer;
     let answer = given.number();
-    let cost = given.cost();
+    let stores = given.stores();
+    let skipped = given.skipped();
     let way = given.way();
     let read = given.sectors_read();
     let left = state_left(c, given, o.state);
     CResult {
         answer,
-        stores: cost.stores,
+        stores,
+        skipped,
         way,
         read,
         n: left.n,

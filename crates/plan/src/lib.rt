@@ -10,18 +10,26 @@ ghost use Rattle.geometry.specs.Geometry.{sectorBytes, piecesFor, usedBytes, ge
 ghost use Rattle.geometry.specs.SizeClasses.{smallSectors};
 ghost use Rattle.layout.specs.Bounded.{at, listFrom, countBelow};
 ghost use Rattle.volume.specs.Tables.{bitAt, sectorAt, tablesOf};
-ghost use Rattle.volume.specs.Placing.{base, placeOf};
+ghost use Rattle.volume.specs.Placing.{base, placeOf, skippedBy};
 ghost use Rattle.volume.specs.Commit.{planned};
 ghost use Rattle.volume.specs.Calls.{viewOf};
+ghost use Rattle.power.specs.Power.{made};
 ghost use Rattle.pieces.specs.Arrays.{flagged, changeOf, Live, Planning};
 ghost use Rattle.plan.specs.Untouched.{Untouched};
 use geometry::Geometry;
 use state::State;
 
 // How many branches the first member has, and how many members there are.
-pub struct Sizes {
+struct Sizes {
+    branches: usize,
+    members: u32,
+}
+
+// The same, and how many used sectors the searches for the sectors that will be stored passed over.
+pub struct Planned {
     pub branches: usize,
     pub members: u32,
+    pub skipped: u32,
 }
 
 // A copy of the used map, in which the places can be marked.
@@ -49,58 +57,90 @@ fn fold(written: &mut [u8], pieces: u32, listed: usize) -> usize
     0
 }
 
-// The sectors that a commit takes, searched in a copy of the used map.
-fn take_in(used: &[u8], g: Geometry, head: u32, count: usize, taken: &mut [u32], marks: &mut [u8])
+// The sectors that a commit takes, searched in a copy of the used map; answers what was skipped for those that will be stored.
+fn take_in(
+    used: &[u8],
+    g: Geometry,
+    head: u32,
+    count: usize,
+    taken: &mut [u32],
+    allowance: u32,
+    marks: &mut [u8],
+) -> u32
     requires { ⌜ geometryFits g ≡ true ⌝ }
     requires { ⌜ length (now used) ≡ usedBytes (g .n) ⌝ }
     requires { ⌜ head < g .n ⌝ }
     requires { ⌜ count ≤ length (now taken) ⌝ }
+    requires { ⌜ count ≤ commitSectors ⌝ }
     requires { ⌜ length (now used) ≤ length (now marks) ⌝ }
     requires { ⌜ now marks ≡ replicate (length (now marks)) 0 ⌝ }
-    ensures { λ _. ⌜ take count (now (taken .exit)) ≡ listFrom (placeOf base (g .n) (bitAt (now (used .entry))) head) 0 count ⌝ }
+    ensures { λ r. ⌜ (take count (now (taken .exit)) ≡ listFrom (placeOf base (g .n) (bitAt (now (used .entry))) head) 0 count) × (r ≡ skippedBy base (g .n) (bitAt (now (used .entry))) head (made count allowance)) ⌝ }
 {
     copy_used(used, marks);
-    placing::find_places(marks, g.n, head, count, taken);
+    placing::find_places(marks, g.n, head, count, taken, allowance)
 }
 
 // The same of a small volume, in a copy that is cleared sooner.
-fn take_few(used: &[u8], g: Geometry, head: u32, count: usize, taken: &mut [u32])
+fn take_few(
+    used: &[u8],
+    g: Geometry,
+    head: u32,
+    count: usize,
+    taken: &mut [u32],
+    allowance: u32,
+) -> u32
     requires { ⌜ g .n ≤ smallSectors ⌝ }
     requires { ⌜ geometryFits g ≡ true ⌝ }
     requires { ⌜ length (now used) ≡ usedBytes (g .n) ⌝ }
     requires { ⌜ head < g .n ⌝ }
     requires { ⌜ count ≤ length (now taken) ⌝ }
-    ensures { λ _. ⌜ take count (now (taken .exit)) ≡ listFrom (placeOf base (g .n) (bitAt (now (used .entry))) head) 0 count ⌝ }
+    requires { ⌜ count ≤ commitSectors ⌝ }
+    ensures { λ r. ⌜ (take count (now (taken .exit)) ≡ listFrom (placeOf base (g .n) (bitAt (now (used .entry))) head) 0 count) × (r ≡ skippedBy base (g .n) (bitAt (now (used .entry))) head (made count allowance)) ⌝ }
 {
     let mut marks = [0u8; Geometry::SMALL_USED_BYTES];
-    take_in(used, g, head, count, taken, &mut marks);
+    take_in(used, g, head, count, taken, allowance, &mut marks)
 }
 
 // The same for a volume of any size.
-fn take_any(used: &[u8], g: Geometry, head: u32, count: usize, taken: &mut [u32])
+fn take_any(
+    used: &[u8],
+    g: Geometry,
+    head: u32,
+    count: usize,
+    taken: &mut [u32],
+    allowance: u32,
+) -> u32
     requires { ⌜ geometryFits g ≡ true ⌝ }
     requires { ⌜ length (now used) ≡ usedBytes (g .n) ⌝ }
     requires { ⌜ head < g .n ⌝ }
     requires { ⌜ count ≤ length (now taken) ⌝ }
-    ensures { λ _. ⌜ take count (now (taken .exit)) ≡ listFrom (placeOf base (g .n) (bitAt (now (used .entry))) head) 0 count ⌝ }
+    requires { ⌜ count ≤ commitSectors ⌝ }
+    ensures { λ r. ⌜ (take count (now (taken .exit)) ≡ listFrom (placeOf base (g .n) (bitAt (now (used .entry))) head) 0 count) × (r ≡ skippedBy base (g .n) (bitAt (now (used .entry))) head (made count allowance)) ⌝ }
 {
     let mut marks = [0u8; Geometry::MOST_USED_BYTES];
-    take_in(used, g, head, count, taken, &mut marks);
+    take_in(used, g, head, count, taken, allowance, &mut marks)
 }
 
 // The same, by the size of the volume.
-fn take_sectors(used: &[u8], g: Geometry, head: u32, count: usize, taken: &mut [u32])
+fn take_sectors(
+    used: &[u8],
+    g: Geometry,
+    head: u32,
+    count: usize,
+    taken: &mut [u32],
+    allowance: u32,
+) -> u32
     requires { ⌜ geometryFits g ≡ true ⌝ }
     requires { ⌜ length (now used) ≡ usedBytes (g .n) ⌝ }
     requires { ⌜ head < g .n ⌝ }
     requires { ⌜ count ≤ length (now taken) ⌝ }
-    ensures { λ _. ⌜ take count (now (taken .exit)) ≡ listFrom (placeOf base (g .n) (bitAt (now (used .entry))) head) 0 count ⌝ }
+    requires { ⌜ count ≤ commitSectors ⌝ }
+    ensures { λ r. ⌜ (take count (now (taken .exit)) ≡ listFrom (placeOf base (g .n) (bitAt (now (used .entry))) head) 0 count) × (r ≡ skippedBy base (g .n) (bitAt (now (used .entry))) head (made count allowance)) ⌝ }
 {
     if g.n <= Geometry::SMALL {
-        take_few(used, g, head, count, taken);
-        return;
+        return take_few(used, g, head, count, taken, allowance);
     }
-    take_any(used, g, head, count, taken);
+    take_any(used, g, head, count, taken, allowance)
 }
 
 // Flags the pieces of the named blocks, and lists the branches to the others.
@@ -149,7 +189,7 @@ fn count_members(written: &mut [u8], pieces: u32, listed: usize) -> Sizes
     }
 }
 
-// Plans a commit of the named blocks with so many data sectors.
+// Plans a commit of the named blocks with so many data sectors. The allowance says only how far what was skipped is counted.
 pub fn plan(
     s: State,
     image: &[u8],
@@ -162,7 +202,8 @@ pub fn plan(
     written: &mut [u8],
     branches: &mut [u32],
     taken: &mut [u32],
-) -> Sizes
+    allowance: u32,
+) -> Planned
     requires { ⌜ geometryFits (s .geometry) ≡ true ⌝ }
     requires { ⌜ length (now image) ≡ sectorBytes * s .geometry .n ⌝ }
     requires { ⌜ length (now places) ≡ piecesFor (s .geometry .l) ⌝ }
@@ -176,11 +217,16 @@ pub fn plan(
     requires { ⌜ now written ≡ replicate mostPieces 0 ⌝ }
     requires { ⌜ length (now branches) ≡ foldingBranches ⌝ }
     requires { ⌜ length (now taken) ≡ commitSectors ⌝ }
-    ensures { λ r. ⌜ Planning (planned base s (tablesOf [] (now (places .entry)) (now (numbers .entry)) (now (used .entry))) (viewOf (s .geometry) (sectorAt (now (image .entry)))) head (changeOf (now (blocks .entry)) [] count)) (r .branches) (r .members) (now (branches .exit)) (now (written .exit)) count (now (taken .exit)) ⌝ }
+    ensures { λ r. ⌜ Planning (planned base s (tablesOf [] (now (places .entry)) (now (numbers .entry)) (now (used .entry))) (viewOf (s .geometry) (sectorAt (now (image .entry)))) head (changeOf (now (blocks .entry)) [] count)) (r .branches) (r .members) (now (branches .exit)) (now (written .exit)) count (now (taken .exit)) (r .skipped) allowance ⌝ }
 {
     let g = s.geometry;
     let listed = list_untouched(s, image, places, numbers, blocks, written, branches);
     let sizes = count_members(written, Geometry::pieces_for(g.l), listed);
-    take_sectors(used, g, head, (count + sizes.members) as usize, taken);
-    sizes
+    let total = (count + sizes.members) as usize;
+    let skipped = take_sectors(used, g, head, total, taken, allowance);
+    Planned {
+        branches: sizes.branches,
+        members: sizes.members,
+        skipped,
+    }
 }

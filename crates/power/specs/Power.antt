@@ -7,3 +7,7 @@ use Rattle.power.specs.declared.allowance.Power.the-variants.{Left, Fail
 
 unfoldable pub powered : ℕ → ℕ → Power
 powered needed allowance = cond (ltb allowance needed) Failed (Left (allowance - needed))
+
+-- How many of the needed stores are made.
+abbrev pub made : ℕ → ℕ → ℕ
+made needed allowance = cond (ltb allowance needed) allowance needed

@@ -97,7 +97,9 @@ fn commit(b: &mut [u32; board::SIZE], writes: bool) {
     let n = board::get(b, board::STATE_N, 0);
     let l = board::get(b, board::STATE_L, 0);
     changes::plan(b, n, l, writes);
-    if journal::perform(b) {
+    let whole = journal::perform(b);
+    journal::put_skipped(b);
+    if whole {
         keep_made(b);
         put_tail(b);
     } else {
@@ -203,7 +205,7 @@ fn refusal(b: &mut [u32; board::SIZE], call: u32) -> u32 {
 // Performs the call that stands on the board, and leaves its answer there.
 pub fn perform(b: &mut [u32; board::SIZE]) {
     let call = board::get(b, board::CALL, 0);
-    board::fill(b, board::ANSWER, 4, 0);
+    board::fill(b, board::ANSWER, board::ANSWER_WORDS, 0);
     board::put(b, board::LISTED, 0, 0);
     board::put(b, board::FILLED, 0, 0);
     let refused = refusal(b, call);

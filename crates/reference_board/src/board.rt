@@ -50,22 +50,26 @@ pub const STORES: u32 = 17;
 pub const WAY: u32 = 18;
 // The sectors read.
 pub const READS: u32 = 19;
+// Of a write or a drop, the used sectors that the searches for the stores made passed over.
+pub const SKIPPED: u32 = 20;
+// How many words the answer has.
+pub const ANSWER_WORDS: u32 = 5;
 // Within a call, the stores that are listed so far.
-pub const LISTED: u32 = 20;
+pub const LISTED: u32 = 21;
 // Within a commit: branches of the first member, where the next search begins, members made, and the last one's sector.
-pub const BRANCH_COUNT: u32 = 21;
+pub const BRANCH_COUNT: u32 = 22;
 
-pub const NEXT: u32 = 22;
+pub const NEXT: u32 = 23;
 
-pub const MEMBERS: u32 = 23;
+pub const MEMBERS: u32 = 24;
 
-pub const LAST_PLACE: u32 = 24;
+pub const LAST_PLACE: u32 = 25;
 // Within a recovery, the tail that was found and its number.
-pub const FOUND_TAIL: u32 = 25;
+pub const FOUND_TAIL: u32 = 26;
 
-pub const FOUND_NUMBER: u32 = 26;
+pub const FOUND_NUMBER: u32 = 27;
 // Within a call, the stores listed so far that are not of zeros.
-pub const FILLED: u32 = 27;
+pub const FILLED: u32 = 28;
 // The blocks that a call names; a read's is the first.
 pub const BLOCKS: u32 = 64;
 // The words of a write's blocks, 128 for each.
@@ -108,14 +112,21 @@ pub const DONE: u32 = WAITING + P_MOST;
 pub const LIST_PLACES: u32 = DONE + P_MOST;
 
 pub const LIST_WORDS: u32 = LIST_PLACES + N_MOST + P_MOST;
+// Of each store of a commit, the used sectors that the search for its place passed over.
+pub const LIST_SKIPPED: u32 = LIST_WORDS + N_MOST + P_MOST;
 // Sectors of words: the first stays zero, then one for each store that is not of zeros, at most those of a commit.
-pub const LIST: u32 = LIST_WORDS + N_MOST + P_MOST;
+pub const LIST: u32 = LIST_SKIPPED + COUNT_MOST + P_MOST;
 // The words of a board.
 pub const SIZE: usize = LIST as usize + (1 + COUNT_MOST as usize + P_MOST as usize) * 128;
 
 // The sum, with wrapping.
 pub fn plus(x: u32, y: u32) -> u32 {
     std::num::wrapping_add_u32(x, y)
+}
+
+// The difference, with wrapping.
+pub fn minus(x: u32, y: u32) -> u32 {
+    std::num::wrapping_sub_u32(x, y)
 }
 
 // The bytes of so many sectors, with wrapping.

@@ -35,7 +35,7 @@ pub fn put_last(b: &mut [u32; board::SIZE], i: u32, x: u32) {
 // Word 1 balances the sum.
 pub fn balance(b: &mut [u32; board::SIZE]) {
     let sum = board::sum(b, board::LIST, last(b));
-    put_last(b, 1, std::num::wrapping_sub_u32(0, sum));
+    put_last(b, 1, board::minus(0, sum));
 }
 
 // Lists a data sector: the words of the i-th block lent, the first byte complemented where they begin with the map mark.
@@ -119,4 +119,19 @@ pub fn perform(b: &mut [u32; board::SIZE]) -> bool {
     board::put(b, board::ANSWER, 0, 10);
     board::put(b, board::STORES, 0, allowed);
     false
+}
+
+// The sectors passed over for the first so many stores of a commit.
+fn skipped_for(b: &[u32; board::SIZE], made: u32) -> u32 {
+    let mut skipped = 0u32;
+    for j in 0..made {
+        skipped = board::plus(skipped, board::get(b, board::LIST_SKIPPED, j));
+    }
+    skipped
+}
+
+// Of a commit whose stores are made, as many as were allowed: what was passed over for these.
+pub fn put_skipped(b: &mut [u32; board::SIZE]) {
+    let skipped = skipped_for(b, board::get(b, board::STORES, 0));
+    board::put(b, board::SKIPPED, 0, skipped);
 }

@@ -36,10 +36,21 @@ fn nearer(best: u32, k: u32, from: u32) -> u32 {
     best
 }
 
-// Takes the next free sector. It stays taken to the end of the commit, and nothing is freed before that.
+// The sectors that a search from `from` leaves behind before it comes to k, the first free one: all of them used. One that goes on at 1 passes
+// those from `from` to n - 1 and those from 1 to k - 1; to sector 0 comes only one that begins there.
+fn passed(from: u32, k: u32, n: u32) -> u32 {
+    if k >= from {
+        return k - from;
+    }
+    board::plus(board::minus(n, from), board::minus(k, 1))
+}
+
+// Takes the next free sector, for the store that is listed next. It stays taken to the end of the commit, and nothing is freed before that.
 pub fn take(b: &mut [u32; board::SIZE], n: u32) -> u32 {
     let from = board::get(b, board::NEXT, 0);
     let k = nearest(b, from, n);
+    let store = board::get(b, board::LISTED, 0);
+    board::put(b, board::LIST_SKIPPED, store, passed(from, k, n));
     board::put(b, board::plus(board::MADE, board::USED), k, 1);
     board::put(b, board::NEXT, 0, after(k, n));
     k

@@ -33,7 +33,7 @@ flipped =
       block = 5;
       sector = 6;
       says = record {
-        result = record { answer = 0; stores = 0; way = 2; reads = 12; tail = 7; number = 4; phase = 0 };
+        result = record { answer = 0; stores = 0; skipped = 0; way = 2; reads = 12; tail = 7; number = 4; phase = 0 };
         free = 1 ∷ 4 ∷ 5 ∷ 8 ∷ 9 ∷ 10 ∷ 11 ∷ [];
         live = (7 ∷ 4 ∷ 0 ∷ 1 ∷ 3 ∷ []) ∷ (2 ∷ 2 ∷ 1 ∷ 0 ∷ 1 ∷ []) ∷ (3 ∷ 3 ∷ 2 ∷ 1 ∷ 2 ∷ []) ∷ [];
         entries = (5 ∷ 2147483654 ∷ []) ∷ [];
@@ -52,7 +52,7 @@ noRoom =
       block = 4;
       sector = 4;
       says = record {
-        result = record { answer = 6; stores = 0; way = 0; reads = 0; tail = 3; number = 3; phase = 0 };
+        result = record { answer = 6; stores = 0; skipped = 0; way = 0; reads = 0; tail = 3; number = 3; phase = 0 };
         free = 4 ∷ 5 ∷ 6 ∷ 7 ∷ 8 ∷ 9 ∷ 10 ∷ 11 ∷ [];
         live = (1 ∷ 1 ∷ 0 ∷ 0 ∷ []) ∷ (2 ∷ 2 ∷ 1 ∷ 0 ∷ 1 ∷ []) ∷ (3 ∷ 3 ∷ 2 ∷ 1 ∷ 2 ∷ []) ∷ [];
         entries = [];
@@ -71,7 +71,7 @@ lastNumbers =
       block = 0;
       sector = 2;
       says = record {
-        result = record { answer = 0; stores = 2; way = 0; reads = 0; tail = 3; number = 4294967040; phase = 0 };
+        result = record { answer = 0; stores = 2; skipped = 0; way = 0; reads = 0; tail = 3; number = 4294967040; phase = 0 };
         free = 1 ∷ [];
         live = (3 ∷ 4294967040 ∷ 0 ∷ 1 ∷ []) ∷ [];
         entries = (0 ∷ 2 ∷ []) ∷ [];
@@ -90,7 +90,7 @@ pieceMissing =
       block = 0;
       sector = 1;
       says = record {
-        result = record { answer = 9; stores = 0; way = 0; reads = 0; tail = 0; number = 0; phase = 2 };
+        result = record { answer = 9; stores = 0; skipped = 0; way = 0; reads = 0; tail = 0; number = 0; phase = 2 };
         free = 0 ∷ 1 ∷ 2 ∷ 3 ∷ 4 ∷ 5 ∷ 6 ∷ 7 ∷ 8 ∷ 9 ∷ 10 ∷ 11 ∷ [];
         live = (0 ∷ []) ∷ (0 ∷ []) ∷ (0 ∷ []) ∷ [];
         entries = [];
@@ -109,7 +109,7 @@ parkLonger =
       block = 5;
       sector = 0;
       says = record {
-        result = record { answer = 0; stores = 1; way = 2; reads = 12; tail = 9; number = 5; phase = 0 };
+        result = record { answer = 0; stores = 1; skipped = 0; way = 2; reads = 12; tail = 9; number = 5; phase = 0 };
         free = 1 ∷ 2 ∷ 4 ∷ 5 ∷ 10 ∷ 11 ∷ [];
         live = (8 ∷ 4 ∷ 0 ∷ 0 ∷ 3 ∷ []) ∷ (9 ∷ 5 ∷ 1 ∷ 1 ∷ 8 ∷ []) ∷ (3 ∷ 3 ∷ 2 ∷ 1 ∷ 2 ∷ []) ∷ [];
         entries = (5 ∷ 6 ∷ []) ∷ (100 ∷ 7 ∷ []) ∷ [];
@@ -128,7 +128,7 @@ parkUnbalanced =
       block = 5;
       sector = 0;
       says = record {
-        result = record { answer = 0; stores = 1; way = 2; reads = 12; tail = 9; number = 5; phase = 0 };
+        result = record { answer = 0; stores = 1; skipped = 0; way = 2; reads = 12; tail = 9; number = 5; phase = 0 };
         free = 1 ∷ 2 ∷ 4 ∷ 5 ∷ 10 ∷ 11 ∷ [];
         live = (8 ∷ 4 ∷ 0 ∷ 0 ∷ 3 ∷ []) ∷ (9 ∷ 5 ∷ 1 ∷ 1 ∷ 8 ∷ []) ∷ (3 ∷ 3 ∷ 2 ∷ 1 ∷ 2 ∷ []) ∷ [];
         entries = (5 ∷ 6 ∷ []) ∷ (100 ∷ 7 ∷ []) ∷ [];

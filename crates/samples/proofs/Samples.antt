@@ -12,7 +12,7 @@ case1 =
       block = 0;
       sector = 2;
       says = record {
-        result = record { answer = 0; stores = 5; way = 0; reads = 0; tail = 1; number = 1; phase = 0 };
+        result = record { answer = 0; stores = 5; skipped = 0; way = 0; reads = 0; tail = 1; number = 1; phase = 0 };
         free = 2 ∷ 3 ∷ [];
         live = (1 ∷ 1 ∷ 0 ∷ 1 ∷ []) ∷ [];
         entries = [];
@@ -23,7 +23,7 @@ case1 =
       };
     }
 
--- 2. Then write block 0, head 2: data 2, map 3, number 2; free 1.
+-- 2. Then write block 0, head 2: data 2, map 3, number 2; free 1; none skipped.
 case2 : Row
 case2 =
     record {
@@ -31,7 +31,7 @@ case2 =
       block = 0;
       sector = 2;
       says = record {
-        result = record { answer = 0; stores = 2; way = 0; reads = 0; tail = 3; number = 2; phase = 0 };
+        result = record { answer = 0; stores = 2; skipped = 0; way = 0; reads = 0; tail = 3; number = 2; phase = 0 };
         free = 1 ∷ [];
         live = (3 ∷ 2 ∷ 0 ∷ 1 ∷ []) ∷ [];
         entries = (0 ∷ 2 ∷ []) ∷ [];
@@ -50,7 +50,7 @@ case3 =
       block = 1;
       sector = 2;
       says = record {
-        result = record { answer = 6; stores = 0; way = 0; reads = 0; tail = 3; number = 2; phase = 0 };
+        result = record { answer = 6; stores = 0; skipped = 0; way = 0; reads = 0; tail = 3; number = 2; phase = 0 };
         free = 1 ∷ [];
         live = (3 ∷ 2 ∷ 0 ∷ 1 ∷ []) ∷ [];
         entries = (0 ∷ 2 ∷ []) ∷ [];
@@ -61,7 +61,7 @@ case3 =
       };
     }
 
--- 4. Drop block 0 after case 2, head 0: map 1, number 3; free 2, 3.
+-- 4. Drop block 0 after case 2, head 0: map 1, number 3; free 2, 3; sector 0 skipped.
 case4 : Row
 case4 =
     record {
@@ -69,7 +69,7 @@ case4 =
       block = 0;
       sector = 2;
       says = record {
-        result = record { answer = 0; stores = 1; way = 0; reads = 0; tail = 1; number = 3; phase = 0 };
+        result = record { answer = 0; stores = 1; skipped = 1; way = 0; reads = 0; tail = 1; number = 3; phase = 0 };
         free = 2 ∷ 3 ∷ [];
         live = (1 ∷ 3 ∷ 0 ∷ 1 ∷ []) ∷ [];
         entries = [];
@@ -88,7 +88,7 @@ case5 =
       block = 0;
       sector = 2;
       says = record {
-        result = record { answer = 0; stores = 0; way = 2; reads = 4; tail = 1; number = 1; phase = 0 };
+        result = record { answer = 0; stores = 0; skipped = 0; way = 2; reads = 4; tail = 1; number = 1; phase = 0 };
         free = 2 ∷ 3 ∷ [];
         live = (1 ∷ 1 ∷ 0 ∷ 1 ∷ []) ∷ [];
         entries = [];
@@ -108,7 +108,7 @@ case6 =
       block = 5;
       sector = 6;
       says = record {
-        result = record { answer = 0; stores = 4; way = 0; reads = 0; tail = 9; number = 5; phase = 0 };
+        result = record { answer = 0; stores = 4; skipped = 0; way = 0; reads = 0; tail = 9; number = 5; phase = 0 };
         free = 1 ∷ 2 ∷ 4 ∷ 5 ∷ 10 ∷ 11 ∷ [];
         live = (8 ∷ 4 ∷ 0 ∷ 0 ∷ 3 ∷ []) ∷ (9 ∷ 5 ∷ 1 ∷ 1 ∷ 8 ∷ []) ∷ (3 ∷ 3 ∷ 2 ∷ 1 ∷ 2 ∷ []) ∷ [];
         entries = (5 ∷ 6 ∷ []) ∷ (100 ∷ 7 ∷ []) ∷ [];
@@ -127,7 +127,7 @@ case7 =
       block = 100;
       sector = 0;
       says = record {
-        result = record { answer = 0; stores = 1; way = 1; reads = 5; tail = 9; number = 5; phase = 0 };
+        result = record { answer = 0; stores = 1; skipped = 0; way = 1; reads = 5; tail = 9; number = 5; phase = 0 };
         free = 1 ∷ 2 ∷ 4 ∷ 5 ∷ 10 ∷ 11 ∷ [];
         live = (8 ∷ 4 ∷ 0 ∷ 0 ∷ 3 ∷ []) ∷ (9 ∷ 5 ∷ 1 ∷ 1 ∷ 8 ∷ []) ∷ (3 ∷ 3 ∷ 2 ∷ 1 ∷ 2 ∷ []) ∷ [];
         entries = (5 ∷ 6 ∷ []) ∷ (100 ∷ 7 ∷ []) ∷ [];
@@ -146,7 +146,7 @@ case8 =
       block = 5;
       sector = 8;
       says = record {
-        result = record { answer = 0; stores = 1; way = 2; reads = 12; tail = 3; number = 3; phase = 0 };
+        result = record { answer = 0; stores = 1; skipped = 0; way = 2; reads = 12; tail = 3; number = 3; phase = 0 };
         free = 4 ∷ 5 ∷ 6 ∷ 7 ∷ 8 ∷ 9 ∷ 10 ∷ 11 ∷ [];
         live = (1 ∷ 1 ∷ 0 ∷ 0 ∷ []) ∷ (2 ∷ 2 ∷ 1 ∷ 0 ∷ 1 ∷ []) ∷ (3 ∷ 3 ∷ 2 ∷ 1 ∷ 2 ∷ []) ∷ [];
         entries = [];
@@ -157,7 +157,7 @@ case8 =
       };
     }
 
--- 9. After case 6, write 5, head 0: data 1, map 2, number 6, branches 9, 3.
+-- 9. After case 6, write 5, head 0: data 1, map 2, number 6, branches 9, 3; sector 0 skipped.
 case9 : Row
 case9 =
     record {
@@ -165,7 +165,7 @@ case9 =
       block = 5;
       sector = 1;
       says = record {
-        result = record { answer = 0; stores = 2; way = 0; reads = 0; tail = 2; number = 6; phase = 0 };
+        result = record { answer = 0; stores = 2; skipped = 1; way = 0; reads = 0; tail = 2; number = 6; phase = 0 };
         free = 4 ∷ 5 ∷ 6 ∷ 8 ∷ 10 ∷ 11 ∷ [];
         live = (2 ∷ 6 ∷ 0 ∷ 1 ∷ 9 ∷ 3 ∷ []) ∷ (9 ∷ 5 ∷ 1 ∷ 1 ∷ 8 ∷ []) ∷ (3 ∷ 3 ∷ 2 ∷ 1 ∷ 2 ∷ []) ∷ [];
         entries = (5 ∷ 1 ∷ []) ∷ (100 ∷ 7 ∷ []) ∷ [];
@@ -176,7 +176,7 @@ case9 =
       };
     }
 
--- 10. Again, head 0: data 4, map 5, number 7, branches 9, 3.
+-- 10. Again, head 0: data 4, map 5, number 7, branches 9, 3; 0 to 3 skipped.
 case10 : Row
 case10 =
     record {
@@ -184,7 +184,7 @@ case10 =
       block = 5;
       sector = 4;
       says = record {
-        result = record { answer = 0; stores = 2; way = 0; reads = 0; tail = 5; number = 7; phase = 0 };
+        result = record { answer = 0; stores = 2; skipped = 4; way = 0; reads = 0; tail = 5; number = 7; phase = 0 };
         free = 1 ∷ 2 ∷ 6 ∷ 8 ∷ 10 ∷ 11 ∷ [];
         live = (5 ∷ 7 ∷ 0 ∷ 1 ∷ 9 ∷ 3 ∷ []) ∷ (9 ∷ 5 ∷ 1 ∷ 1 ∷ 8 ∷ []) ∷ (3 ∷ 3 ∷ 2 ∷ 1 ∷ 2 ∷ []) ∷ [];
         entries = (5 ∷ 4 ∷ []) ∷ (100 ∷ 7 ∷ []) ∷ [];

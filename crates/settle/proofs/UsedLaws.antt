@@ -268,7 +268,7 @@ pub settled-tables : (s : State) (mp pl nu us blocks news taken written : List �
     (namedBy (s .geometry .l) (updates (at mp) (at blocks) (at news) (length blocks))
     (λ p. cond (flagged written p) (at taken (count + countBelow (flagged written) p)) (at pl p)))
     → _≡_ {A = Tables} (record { entry = entry; place = place; number = number; isUsed = bits })
-    (committedTables s (tablesOf mp pl nu us) (planOf [] written 0 count taken) (changeOf blocks news count))
+    (committedTables s (tablesOf mp pl nu us) (planOf [] written 0 count taken 0) (changeOf blocks news count))
 unfolding committedTables changedEntries memberPlace rank
 settled-tables s mp pl nu us blocks news taken written count entry place number bits e f g h =
     ap (λ (x : ℕ → ℕ). record { entry = x; place = place; number = number; isUsed = bits }) e
@@ -334,7 +334,7 @@ pub settled : (s : State) (mp pl nu us blocks news taken written : List ℕ) (co
     without (without (bitAt us) (λ i. not (isEmpty (at mp (at blocks i)))) (λ i. sectorOf (at mp (at blocks i))) (length blocks)) (flagged written) (at pl) (length pl) k
     || anyBelow (λ i. eqb k (at taken i)) (length taken))
     → _≡_ {A = Tables} (record { entry = entry; place = place; number = number; isUsed = bits })
-    (committedTables s (tablesOf mp pl nu us) (planOf [] written 0 count taken) (changeOf blocks news count))
+    (committedTables s (tablesOf mp pl nu us) (planOf [] written 0 count taken 0) (changeOf blocks news count))
 settled s mp pl nu us blocks news taken written count f p u k d entry place number bits e q h b =
     let least = fits (s .geometry) f .least in
     let some : 1 ≤ s .geometry .n = omega arith in

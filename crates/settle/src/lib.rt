@@ -154,7 +154,7 @@ pub fn settle(
     requires { ⌜ length (now used) ≡ usedBytes (s .geometry .n) ⌝ }
     requires { ⌜ consistent (s .geometry) (tablesOf (now map) (now places) (now numbers) (now used)) (s .tail) (s .number) ≡ true ⌝ }
     requires { ⌜ Settling (s .geometry) (s .number) (now blocks) (now news) (now taken) count (now written) ⌝ }
-    ensures { λ _. ⌜ tablesOf (now (map .exit)) (now (places .exit)) (now (numbers .exit)) (now (used .exit)) ≡ committedTables s (tablesOf (now (map .entry)) (now (places .entry)) (now (numbers .entry)) (now (used .entry))) (planOf [] (now (written .entry)) 0 count (now (taken .entry))) (changeOf (now (blocks .entry)) (now (news .entry)) count) ⌝ }
+    ensures { λ _. ⌜ tablesOf (now (map .exit)) (now (places .exit)) (now (numbers .exit)) (now (used .exit)) ≡ committedTables s (tablesOf (now (map .entry)) (now (places .entry)) (now (numbers .entry)) (now (used .entry))) (planOf [] (now (written .entry)) 0 count (now (taken .entry)) 0) (changeOf (now (blocks .entry)) (now (news .entry)) count) ⌝ }
 {
     change_used(used, map, places, blocks, taken, written);
     change_map(map, blocks, news);

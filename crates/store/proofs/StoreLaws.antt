@@ -63,7 +63,7 @@ module _ (l number p members j count : ℕ) (branches taken : List ℕ) (es fs :
 
 module _ (s : State) (map blocks news taken branches written : List ℕ) (count members : ℕ) where
   abbrev pub stores : ℕ → Store
-  stores = memberStore s (tablesOf map [] [] []) (planOf branches written members count taken) (changeOf blocks news count)
+  stores = memberStore s (tablesOf map [] [] []) (planOf branches written members count taken 0) (changeOf blocks news count)
 
   -- The member that was stored, by its rank.
   pub member-stored : (p j : ℕ) (image image′ : ℕ → List ℕ) → j ≡ countBelow (flagged written) p

@@ -110,7 +110,7 @@ fn store_members(
 ) -> Power
     requires { ⌜ length (now image) ≡ sectorBytes * s .geometry .n ⌝ }
     requires { ⌜ Ready s (now map) (now blocks) (now news) (now taken) count (now branches) (now written) members ⌝ }
-    ensures { λ r. ⌜ (r ≡ powered (countBelow (flagged (now (written .entry))) (piecesFor (s .geometry .l))) allowance) × (sectorAt (now (image .exit)) ≡ applied (take allowance (storesBelow (flagged (now (written .entry))) (memberStore s (tablesOf (now (map .entry)) [] [] []) (planOf (now (branches .entry)) (now (written .entry)) members count (now (taken .entry))) (changeOf (now (blocks .entry)) (now (news .entry)) count)) (piecesFor (s .geometry .l)))) (sectorAt (now (image .entry)))) ⌝ }
+    ensures { λ r. ⌜ (r ≡ powered (countBelow (flagged (now (written .entry))) (piecesFor (s .geometry .l))) allowance) × (sectorAt (now (image .exit)) ≡ applied (take allowance (storesBelow (flagged (now (written .entry))) (memberStore s (tablesOf (now (map .entry)) [] [] []) (planOf (now (branches .entry)) (now (written .entry)) members count (now (taken .entry)) 0) (changeOf (now (blocks .entry)) (now (news .entry)) count)) (piecesFor (s .geometry .l)))) (sectorAt (now (image .entry)))) ⌝ }
 {
     let pieces = Geometry::pieces_for(s.geometry.l);
     let mut left = allowance;
@@ -164,7 +164,7 @@ pub fn store(
     requires { ⌜ length (now image) ≡ sectorBytes * s .geometry .n ⌝ }
     requires { ⌜ Ready s (now map) (now blocks) (now news) (now taken) count (now branches) (now written) members ⌝ }
     requires { ⌜ length (now bytes) ≡ sectorBytes * count ⌝ }
-    ensures { λ r. ⌜ (r ≡ powered (length (storesBelow always (blockStore (now (taken .entry)) (now (bytes .entry))) count ++ storesBelow (flagged (now (written .entry))) (memberStore s (tablesOf (now (map .entry)) [] [] []) (planOf (now (branches .entry)) (now (written .entry)) members count (now (taken .entry))) (changeOf (now (blocks .entry)) (now (news .entry)) count)) (piecesFor (s .geometry .l)))) allowance) × (sectorAt (now (image .exit)) ≡ applied (take allowance (storesBelow always (blockStore (now (taken .entry)) (now (bytes .entry))) count ++ storesBelow (flagged (now (written .entry))) (memberStore s (tablesOf (now (map .entry)) [] [] []) (planOf (now (branches .entry)) (now (written .entry)) members count (now (taken .entry))) (changeOf (now (blocks .entry)) (now (news .entry)) count)) (piecesFor (s .geometry .l)))) (sectorAt (now (image .entry)))) ⌝ }
+    ensures { λ r. ⌜ (r ≡ powered (length (storesBelow always (blockStore (now (taken .entry)) (now (bytes .entry))) count ++ storesBelow (flagged (now (written .entry))) (memberStore s (tablesOf (now (map .entry)) [] [] []) (planOf (now (branches .entry)) (now (written .entry)) members count (now (taken .entry)) 0) (changeOf (now (blocks .entry)) (now (news .entry)) count)) (piecesFor (s .geometry .l)))) allowance) × (sectorAt (now (image .exit)) ≡ applied (take allowance (storesBelow always (blockStore (now (taken .entry)) (now (bytes .entry))) count ++ storesBelow (flagged (now (written .entry))) (memberStore s (tablesOf (now (map .entry)) [] [] []) (planOf (now (branches .entry)) (now (written .entry)) members count (now (taken .entry)) 0) (changeOf (now (blocks .entry)) (now (news .entry)) count)) (piecesFor (s .geometry .l)))) (sectorAt (now (image .entry)))) ⌝ }
 {
     let stored = store_data(image, s.geometry.n, taken, bytes, count, allowance);
     match stored {

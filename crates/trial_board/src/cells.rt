@@ -66,14 +66,14 @@ pub const SEEDS: u32 = board::CALLER + 40;
 // The plain disk: a seed for each block.
 pub const DISK: u32 = board::CALLER + 160;
 
-// What may differ, beside what the comparison of both finds (1 to 11).
-pub const PLAIN_DISK: u32 = 12;
+// What may differ, beside what the comparison of both finds (1 to 12).
+pub const PLAIN_DISK: u32 = 13;
 
-pub const CUT_ANSWER: u32 = 13;
+pub const CUT_ANSWER: u32 = 14;
 
-pub const NOT_RECOVERED: u32 = 14;
+pub const NOT_RECOVERED: u32 = 15;
 
-pub const SAMPLE: u32 = 15;
+pub const SAMPLE: u32 = 16;
 
 pub fn get(b: &[u32; board::SIZE], cell: u32) -> u32 {
     board::get(b, cell, 0)

@@ -237,15 +237,17 @@ fn same_state(s: State, b: &[u32; board::SIZE]) -> bool {
     phase_number(phase) == board::get(b, board::PHASE, 0)
 }
 
-// What differs between two answers: 1 the answer, 2 the stores, 3 the way, 4 the sectors read, 5 the state; 0 nothing.
+// What differs between two answers: 1 the answer, 2 the stores, 12 the sectors skipped, 3 the way, 4 the sectors read, 5 the state; 0 nothing.
 pub fn answer_differs(done: Outcome, b: &[u32; board::SIZE]) -> u32 {
     let answer = done.answer;
     if answer.number() != board::get(b, board::ANSWER, 0) {
         return 1;
     }
-    let cost = answer.cost();
-    if cost.stores != board::get(b, board::STORES, 0) {
+    if answer.stores() != board::get(b, board::STORES, 0) {
         return 2;
+    }
+    if answer.skipped() != board::get(b, board::SKIPPED, 0) {
+        return 12;
     }
     if answer.way() != board::get(b, board::WAY, 0) {
         return 3;

@@ -30,9 +30,10 @@ fn say_what(what: u32) {
         9 => say::say(b"the live numbers differ"),
         10 => say::say(b"the used maps differ"),
         11 => say::say(b"the bytes read differ"),
-        12 => say::say(b"a block is not the plain disk's"),
-        13 => say::say(b"a cut call did not make its stores and answer 10"),
-        14 => say::say(b"a recovery was not accepted"),
+        12 => say::say(b"the sectors skipped differ"),
+        13 => say::say(b"a block is not the plain disk's"),
+        14 => say::say(b"a cut call did not make its stores and answer 10"),
+        15 => say::say(b"a recovery was not accepted"),
         _ => say::say(b"a fact of the script does not hold, or a line is not of a known form"),
     }
 }

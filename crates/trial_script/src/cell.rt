@@ -13,6 +13,9 @@ pub fn cell_of(name: &[u8]) -> u32 {
     if tokens::is_word(name, b"made") {
         return board::STORES;
     }
+    if tokens::is_word(name, b"skipped") {
+        return board::SKIPPED;
+    }
     if tokens::is_word(name, b"way") {
         return board::WAY;
     }

@@ -9,7 +9,8 @@ use Rattle.layout.proofs.Conditions.{signed}
 use Rattle.volume.proofs.Rows.{Row, Table, gives, says, volumeA, volumeB, full, enough, writeBytes, write, drop, park, recover}
 use Rattle.volume.proofs.ByHand.{overwritten, blankAt, copied, signedAt, namingAt, parkedAt, numbered}
 
--- A search from the last sector goes on at 1, where 1 to 3 are used. Two stores are just enough.
+-- A search from the last sector goes on at 1, where 1 to 3 are used and skipped; sector 0 is not passed. Two stores are just
+-- enough.
 wraps : Row
 wraps =
     record {
@@ -17,7 +18,7 @@ wraps =
       block = 5;
       sector = 11;
       says = record {
-        result = record { answer = 0; stores = 2; way = 0; reads = 0; tail = 4; number = 4; phase = 0 };
+        result = record { answer = 0; stores = 2; skipped = 3; way = 0; reads = 0; tail = 4; number = 4; phase = 0 };
         free = 1 ∷ 5 ∷ 6 ∷ 7 ∷ 8 ∷ 9 ∷ 10 ∷ [];
         live = (4 ∷ 4 ∷ 0 ∷ 1 ∷ 3 ∷ []) ∷ (2 ∷ 2 ∷ 1 ∷ 0 ∷ 1 ∷ []) ∷ (3 ∷ 3 ∷ 2 ∷ 1 ∷ 2 ∷ []) ∷ [];
         entries = (5 ∷ 11 ∷ []) ∷ [];
@@ -28,15 +29,15 @@ wraps =
       };
     }
 
--- Sector 2 is listed, and sector 1 is not: sector 2 branches to it.
+-- Sector 2 is listed, and sector 1 is not: sector 2 branches to it. The search begins at sector 0, which is skipped with 1 to 3.
 reachedAlready : Row
 reachedAlready =
     record {
-      calls = write 4 (192 ∷ []) 7 enough ∷ [];
+      calls = write 0 (192 ∷ []) 7 enough ∷ [];
       block = 192;
       sector = 4;
       says = record {
-        result = record { answer = 0; stores = 2; way = 0; reads = 0; tail = 5; number = 4; phase = 0 };
+        result = record { answer = 0; stores = 2; skipped = 4; way = 0; reads = 0; tail = 5; number = 4; phase = 0 };
         free = 3 ∷ 6 ∷ 7 ∷ 8 ∷ 9 ∷ 10 ∷ 11 ∷ [];
         live = (1 ∷ 1 ∷ 0 ∷ 0 ∷ []) ∷ (2 ∷ 2 ∷ 1 ∷ 0 ∷ 1 ∷ []) ∷ (5 ∷ 4 ∷ 2 ∷ 1 ∷ 2 ∷ []) ∷ [];
         entries = (192 ∷ 4 ∷ []) ∷ [];
@@ -47,7 +48,8 @@ reachedAlready =
       };
     }
 
--- A superseded sector is not free in its own commit: the head stands on one, and data goes to 10, the map sector to 11.
+-- A superseded sector is not free in its own commit: the head stands on one, and data goes to 10, past the run 6 to 9, the map
+-- sector to 11.
 supersededLater : Row
 supersededLater =
     record {
@@ -55,7 +57,7 @@ supersededLater =
       block = 5;
       sector = 10;
       says = record {
-        result = record { answer = 0; stores = 2; way = 0; reads = 0; tail = 11; number = 6; phase = 0 };
+        result = record { answer = 0; stores = 2; skipped = 4; way = 0; reads = 0; tail = 11; number = 6; phase = 0 };
         free = 1 ∷ 2 ∷ 4 ∷ 5 ∷ 6 ∷ 8 ∷ [];
         live = (11 ∷ 6 ∷ 0 ∷ 1 ∷ 9 ∷ 3 ∷ []) ∷ (9 ∷ 5 ∷ 1 ∷ 1 ∷ 8 ∷ []) ∷ (3 ∷ 3 ∷ 2 ∷ 1 ∷ 2 ∷ []) ∷ [];
         entries = (5 ∷ 10 ∷ []) ∷ (100 ∷ 7 ∷ []) ∷ [];
@@ -74,7 +76,7 @@ higherBranch =
       block = 5;
       sector = 0;
       says = record {
-        result = record { answer = 0; stores = 1; way = 2; reads = 12; tail = 7; number = 10; phase = 0 };
+        result = record { answer = 0; stores = 1; skipped = 0; way = 2; reads = 12; tail = 7; number = 10; phase = 0 };
         free = 1 ∷ 2 ∷ 3 ∷ 4 ∷ 8 ∷ 9 ∷ 10 ∷ 11 ∷ [];
         live = (7 ∷ 10 ∷ 0 ∷ 1 ∷ 6 ∷ []) ∷ (6 ∷ 5 ∷ 1 ∷ 0 ∷ 5 ∷ []) ∷ (5 ∷ 7 ∷ 2 ∷ 0 ∷ []) ∷ [];
         entries = [];
@@ -93,7 +95,7 @@ roomExactly =
       block = 4;
       sector = 8;
       says = record {
-        result = record { answer = 0; stores = 6; way = 0; reads = 0; tail = 9; number = 4; phase = 0 };
+        result = record { answer = 0; stores = 6; skipped = 0; way = 0; reads = 0; tail = 9; number = 4; phase = 0 };
         free = 1 ∷ 10 ∷ 11 ∷ [];
         live = (9 ∷ 4 ∷ 0 ∷ 1 ∷ 3 ∷ []) ∷ (2 ∷ 2 ∷ 1 ∷ 0 ∷ 1 ∷ []) ∷ (3 ∷ 3 ∷ 2 ∷ 1 ∷ 2 ∷ []) ∷ [];
         entries = (0 ∷ 4 ∷ []) ∷ (1 ∷ 5 ∷ []) ∷ (2 ∷ 6 ∷ []) ∷ (3 ∷ 7 ∷ []) ∷ (4 ∷ 8 ∷ []) ∷ [];
@@ -112,7 +114,7 @@ bytesInOrder =
       block = 5;
       sector = 7;
       says = record {
-        result = record { answer = 0; stores = 4; way = 0; reads = 0; tail = 9; number = 5; phase = 0 };
+        result = record { answer = 0; stores = 4; skipped = 0; way = 0; reads = 0; tail = 9; number = 5; phase = 0 };
         free = 1 ∷ 2 ∷ 4 ∷ 5 ∷ 10 ∷ 11 ∷ [];
         live = (8 ∷ 4 ∷ 0 ∷ 0 ∷ 3 ∷ []) ∷ (9 ∷ 5 ∷ 1 ∷ 1 ∷ 8 ∷ []) ∷ (3 ∷ 3 ∷ 2 ∷ 1 ∷ 2 ∷ []) ∷ [];
         entries = (5 ∷ 6 ∷ []) ∷ (100 ∷ 7 ∷ []) ∷ [];
@@ -131,7 +133,7 @@ refusal1 =
       block = 0;
       sector = 4;
       says = record {
-        result = record { answer = 1; stores = 0; way = 0; reads = 0; tail = 3; number = 3; phase = 0 };
+        result = record { answer = 1; stores = 0; skipped = 0; way = 0; reads = 0; tail = 3; number = 3; phase = 0 };
         free = 4 ∷ 5 ∷ 6 ∷ 7 ∷ 8 ∷ 9 ∷ 10 ∷ 11 ∷ [];
         live = (1 ∷ 1 ∷ 0 ∷ 0 ∷ []) ∷ (2 ∷ 2 ∷ 1 ∷ 0 ∷ 1 ∷ []) ∷ (3 ∷ 3 ∷ 2 ∷ 1 ∷ 2 ∷ []) ∷ [];
         entries = [];
@@ -150,7 +152,7 @@ refusal2 =
       block = 0;
       sector = 4;
       says = record {
-        result = record { answer = 2; stores = 0; way = 0; reads = 0; tail = 3; number = 3; phase = 0 };
+        result = record { answer = 2; stores = 0; skipped = 0; way = 0; reads = 0; tail = 3; number = 3; phase = 0 };
         free = 4 ∷ 5 ∷ 6 ∷ 7 ∷ 8 ∷ 9 ∷ 10 ∷ 11 ∷ [];
         live = (1 ∷ 1 ∷ 0 ∷ 0 ∷ []) ∷ (2 ∷ 2 ∷ 1 ∷ 0 ∷ 1 ∷ []) ∷ (3 ∷ 3 ∷ 2 ∷ 1 ∷ 2 ∷ []) ∷ [];
         entries = [];
@@ -169,7 +171,7 @@ refusal3 =
       block = 0;
       sector = 4;
       says = record {
-        result = record { answer = 3; stores = 0; way = 0; reads = 0; tail = 3; number = 3; phase = 0 };
+        result = record { answer = 3; stores = 0; skipped = 0; way = 0; reads = 0; tail = 3; number = 3; phase = 0 };
         free = 4 ∷ 5 ∷ 6 ∷ 7 ∷ 8 ∷ 9 ∷ 10 ∷ 11 ∷ [];
         live = (1 ∷ 1 ∷ 0 ∷ 0 ∷ []) ∷ (2 ∷ 2 ∷ 1 ∷ 0 ∷ 1 ∷ []) ∷ (3 ∷ 3 ∷ 2 ∷ 1 ∷ 2 ∷ []) ∷ [];
         entries = [];
@@ -188,7 +190,7 @@ refusal4 =
       block = 0;
       sector = 0;
       says = record {
-        result = record { answer = 4; stores = 0; way = 0; reads = 0; tail = 3; number = 3; phase = 1 };
+        result = record { answer = 4; stores = 0; skipped = 0; way = 0; reads = 0; tail = 3; number = 3; phase = 1 };
         free = 4 ∷ 5 ∷ 6 ∷ 7 ∷ 8 ∷ 9 ∷ 10 ∷ 11 ∷ [];
         live = (1 ∷ 1 ∷ 0 ∷ 0 ∷ []) ∷ (2 ∷ 2 ∷ 1 ∷ 0 ∷ 1 ∷ []) ∷ (3 ∷ 3 ∷ 2 ∷ 1 ∷ 2 ∷ []) ∷ [];
         entries = [];
@@ -207,7 +209,7 @@ refusal5 =
       block = 0;
       sector = 2;
       says = record {
-        result = record { answer = 5; stores = 0; way = 0; reads = 0; tail = 3; number = 3; phase = 0 };
+        result = record { answer = 5; stores = 0; skipped = 0; way = 0; reads = 0; tail = 3; number = 3; phase = 0 };
         free = 4 ∷ 5 ∷ 6 ∷ 7 ∷ 8 ∷ 9 ∷ 10 ∷ 11 ∷ [];
         live = (1 ∷ 1 ∷ 0 ∷ 0 ∷ []) ∷ (2 ∷ []) ∷ (3 ∷ 3 ∷ 2 ∷ 1 ∷ 2 ∷ []) ∷ [];
         entries = [];
@@ -226,7 +228,7 @@ refusal7 =
       block = 0;
       sector = 2;
       says = record {
-        result = record { answer = 7; stores = 0; way = 0; reads = 0; tail = 1; number = 4294967040; phase = 0 };
+        result = record { answer = 7; stores = 0; skipped = 0; way = 0; reads = 0; tail = 1; number = 4294967040; phase = 0 };
         free = 2 ∷ 3 ∷ [];
         live = (1 ∷ 4294967040 ∷ 0 ∷ 1 ∷ []) ∷ [];
         entries = [];
@@ -245,7 +247,7 @@ refusal8 =
       block = 0;
       sector = 3;
       says = record {
-        result = record { answer = 8; stores = 0; way = 0; reads = 0; tail = 0; number = 0; phase = 2 };
+        result = record { answer = 8; stores = 0; skipped = 0; way = 0; reads = 0; tail = 0; number = 0; phase = 2 };
         free = 0 ∷ 1 ∷ 2 ∷ 3 ∷ 4 ∷ 5 ∷ 6 ∷ 7 ∷ 8 ∷ 9 ∷ 10 ∷ 11 ∷ [];
         live = (0 ∷ []) ∷ (0 ∷ []) ∷ (0 ∷ []) ∷ [];
         entries = [];
@@ -264,7 +266,7 @@ refusal9 =
       block = 0;
       sector = 0;
       says = record {
-        result = record { answer = 9; stores = 0; way = 0; reads = 0; tail = 0; number = 0; phase = 2 };
+        result = record { answer = 9; stores = 0; skipped = 0; way = 0; reads = 0; tail = 0; number = 0; phase = 2 };
         free = 0 ∷ 1 ∷ 2 ∷ 3 ∷ 4 ∷ 5 ∷ 6 ∷ 7 ∷ 8 ∷ 9 ∷ 10 ∷ 11 ∷ [];
         live = (0 ∷ []) ∷ (0 ∷ []) ∷ (0 ∷ []) ∷ [];
         entries = [];
@@ -275,15 +277,16 @@ refusal9 =
       };
     }
 
--- Data goes first: a write that is cut after one store has stored its block and no map sector.
+-- Data goes first: a write that is cut after one store has stored its block and no map sector. The search for the latter, which
+-- passes over 1 to 3, is not on the bill.
 dataFirst : Row
 dataFirst =
     record {
-      calls = write 4 (5 ∷ []) 9 1 ∷ [];
+      calls = write 11 (5 ∷ []) 9 1 ∷ [];
       block = 5;
-      sector = 4;
+      sector = 11;
       says = record {
-        result = record { answer = 10; stores = 1; way = 0; reads = 0; tail = 3; number = 3; phase = 2 };
+        result = record { answer = 10; stores = 1; skipped = 0; way = 0; reads = 0; tail = 3; number = 3; phase = 2 };
         free = 4 ∷ 5 ∷ 6 ∷ 7 ∷ 8 ∷ 9 ∷ 10 ∷ 11 ∷ [];
         live = (1 ∷ 1 ∷ 0 ∷ 0 ∷ []) ∷ (2 ∷ 2 ∷ 1 ∷ 0 ∷ 1 ∷ []) ∷ (3 ∷ 3 ∷ 2 ∷ 1 ∷ 2 ∷ []) ∷ [];
         entries = [];
@@ -294,7 +297,7 @@ dataFirst =
       };
     }
 
--- 10: a drop whose members go to 11, 4 and 5, cut after two stores.
+-- 10: a drop whose members go to 11, 4 and 5, cut after two stores; the second is found past 1 to 3.
 refusal10 : Row
 refusal10 =
     record {
@@ -302,7 +305,7 @@ refusal10 =
       block = 0;
       sector = 0;
       says = record {
-        result = record { answer = 10; stores = 2; way = 0; reads = 0; tail = 3; number = 3; phase = 2 };
+        result = record { answer = 10; stores = 2; skipped = 3; way = 0; reads = 0; tail = 3; number = 3; phase = 2 };
         free = 4 ∷ 5 ∷ 6 ∷ 7 ∷ 8 ∷ 9 ∷ 10 ∷ 11 ∷ [];
         live = (1 ∷ 1 ∷ 0 ∷ 0 ∷ []) ∷ (2 ∷ 2 ∷ 1 ∷ 0 ∷ 1 ∷ []) ∷ (3 ∷ 3 ∷ 2 ∷ 1 ∷ 2 ∷ []) ∷ [];
         entries = [];
@@ -321,7 +324,7 @@ recoveryCut =
       block = 0;
       sector = 4;
       says = record {
-        result = record { answer = 10; stores = 1; way = 0; reads = 0; tail = 0; number = 0; phase = 2 };
+        result = record { answer = 10; stores = 1; skipped = 0; way = 0; reads = 0; tail = 0; number = 0; phase = 2 };
         free = 0 ∷ 1 ∷ 2 ∷ 3 ∷ 4 ∷ 5 ∷ 6 ∷ 7 ∷ 8 ∷ 9 ∷ 10 ∷ 11 ∷ [];
         live = (0 ∷ []) ∷ (0 ∷ []) ∷ (0 ∷ []) ∷ [];
         entries = [];
@@ -340,7 +343,7 @@ recoveredAgain =
       block = 0;
       sector = 11;
       says = record {
-        result = record { answer = 0; stores = 1; way = 2; reads = 12; tail = 3; number = 3; phase = 0 };
+        result = record { answer = 0; stores = 1; skipped = 0; way = 2; reads = 12; tail = 3; number = 3; phase = 0 };
         free = 4 ∷ 5 ∷ 6 ∷ 7 ∷ 8 ∷ 9 ∷ 10 ∷ 11 ∷ [];
         live = (1 ∷ 1 ∷ 0 ∷ 0 ∷ []) ∷ (2 ∷ 2 ∷ 1 ∷ 0 ∷ 1 ∷ []) ∷ (3 ∷ 3 ∷ 2 ∷ 1 ∷ 2 ∷ []) ∷ [];
         entries = [];
@@ -359,7 +362,7 @@ newestFirst =
       block = 5;
       sector = 0;
       says = record {
-        result = record { answer = 0; stores = 1; way = 1; reads = 5; tail = 7; number = 10; phase = 0 };
+        result = record { answer = 0; stores = 1; skipped = 0; way = 1; reads = 5; tail = 7; number = 10; phase = 0 };
         free = 1 ∷ 2 ∷ 3 ∷ 5 ∷ 8 ∷ 9 ∷ 10 ∷ 11 ∷ [];
         live = (6 ∷ 8 ∷ 0 ∷ 0 ∷ 4 ∷ []) ∷ (4 ∷ 7 ∷ 1 ∷ 0 ∷ []) ∷ (7 ∷ 10 ∷ 2 ∷ 1 ∷ 6 ∷ 5 ∷ []) ∷ [];
         entries = [];
@@ -378,7 +381,7 @@ firstRead =
       block = 5;
       sector = 0;
       says = record {
-        result = record { answer = 0; stores = 1; way = 1; reads = 5; tail = 7; number = 10; phase = 0 };
+        result = record { answer = 0; stores = 1; skipped = 0; way = 1; reads = 5; tail = 7; number = 10; phase = 0 };
         free = 1 ∷ 2 ∷ 3 ∷ 4 ∷ 8 ∷ 9 ∷ 10 ∷ 11 ∷ [];
         live = (6 ∷ 8 ∷ 0 ∷ 0 ∷ []) ∷ (5 ∷ 6 ∷ 1 ∷ 0 ∷ []) ∷ (7 ∷ 10 ∷ 2 ∷ 1 ∷ 6 ∷ 5 ∷ 4 ∷ []) ∷ [];
         entries = [];
@@ -397,7 +400,7 @@ doneAlready =
       block = 5;
       sector = 0;
       says = record {
-        result = record { answer = 0; stores = 1; way = 1; reads = 5; tail = 7; number = 10; phase = 0 };
+        result = record { answer = 0; stores = 1; skipped = 0; way = 1; reads = 5; tail = 7; number = 10; phase = 0 };
         free = 1 ∷ 2 ∷ 3 ∷ 4 ∷ 8 ∷ 9 ∷ 10 ∷ 11 ∷ [];
         live = (6 ∷ 8 ∷ 0 ∷ 0 ∷ 4 ∷ []) ∷ (5 ∷ 6 ∷ 1 ∷ 0 ∷ []) ∷ (7 ∷ 10 ∷ 2 ∷ 1 ∷ 6 ∷ 5 ∷ []) ∷ [];
         entries = [];
@@ -416,7 +419,7 @@ memberParked =
       block = 5;
       sector = 7;
       says = record {
-        result = record { answer = 0; stores = 2; way = 2; reads = 12; tail = 3; number = 3; phase = 0 };
+        result = record { answer = 0; stores = 2; skipped = 0; way = 2; reads = 12; tail = 3; number = 3; phase = 0 };
         free = 4 ∷ 5 ∷ 6 ∷ 7 ∷ 8 ∷ 9 ∷ 10 ∷ 11 ∷ [];
         live = (1 ∷ 1 ∷ 0 ∷ 0 ∷ []) ∷ (2 ∷ 2 ∷ 1 ∷ 0 ∷ 1 ∷ []) ∷ (3 ∷ 3 ∷ 2 ∷ 1 ∷ 2 ∷ []) ∷ [];
         entries = [];
@@ -436,7 +439,7 @@ unsoundWalk =
       block = 5;
       sector = 0;
       says = record {
-        result = record { answer = 0; stores = 1; way = 2; reads = 12; tail = 7; number = 10; phase = 0 };
+        result = record { answer = 0; stores = 1; skipped = 0; way = 2; reads = 12; tail = 7; number = 10; phase = 0 };
         free = 1 ∷ 2 ∷ 3 ∷ 6 ∷ 8 ∷ 9 ∷ 10 ∷ 11 ∷ [];
         live = (5 ∷ 9 ∷ 0 ∷ 0 ∷ []) ∷ (4 ∷ 7 ∷ 1 ∷ 0 ∷ []) ∷ (7 ∷ 10 ∷ 2 ∷ 1 ∷ 6 ∷ 4 ∷ []) ∷ [];
         entries = [];
@@ -455,7 +458,7 @@ unsoundScan =
       block = 0;
       sector = 0;
       says = record {
-        result = record { answer = 9; stores = 0; way = 0; reads = 0; tail = 0; number = 0; phase = 2 };
+        result = record { answer = 9; stores = 0; skipped = 0; way = 0; reads = 0; tail = 0; number = 0; phase = 2 };
         free = 0 ∷ 1 ∷ 2 ∷ 3 ∷ 4 ∷ 5 ∷ 6 ∷ 7 ∷ 8 ∷ 9 ∷ 10 ∷ 11 ∷ [];
         live = (0 ∷ []) ∷ (0 ∷ []) ∷ (0 ∷ []) ∷ [];
         entries = [];
@@ -474,7 +477,7 @@ closingRecycled =
       block = 5;
       sector = 9;
       says = record {
-        result = record { answer = 0; stores = 0; way = 2; reads = 12; tail = 10; number = 7; phase = 0 };
+        result = record { answer = 0; stores = 0; skipped = 0; way = 2; reads = 12; tail = 10; number = 7; phase = 0 };
         free = 1 ∷ 2 ∷ 4 ∷ 5 ∷ 7 ∷ 11 ∷ [];
         live = (8 ∷ 4 ∷ 0 ∷ 0 ∷ 3 ∷ []) ∷ (10 ∷ 7 ∷ 1 ∷ 1 ∷ 8 ∷ []) ∷ (3 ∷ 3 ∷ 2 ∷ 1 ∷ 2 ∷ []) ∷ [];
         entries = (5 ∷ 6 ∷ []) ∷ (100 ∷ 9 ∷ []) ∷ [];
@@ -493,7 +496,7 @@ signedParkSector =
       block = 0;
       sector = 0;
       says = record {
-        result = record { answer = 0; stores = 1; way = 2; reads = 12; tail = 3; number = 3; phase = 0 };
+        result = record { answer = 0; stores = 1; skipped = 0; way = 2; reads = 12; tail = 3; number = 3; phase = 0 };
         free = 4 ∷ 5 ∷ 6 ∷ 7 ∷ 8 ∷ 9 ∷ 10 ∷ 11 ∷ [];
         live = (1 ∷ 1 ∷ 0 ∷ 0 ∷ []) ∷ (2 ∷ 2 ∷ 1 ∷ 0 ∷ 1 ∷ []) ∷ (3 ∷ 3 ∷ 2 ∷ 1 ∷ 2 ∷ []) ∷ [];
         entries = [];
@@ -512,7 +515,7 @@ formatCut =
       block = 0;
       sector = 3;
       says = record {
-        result = record { answer = 10; stores = 4; way = 0; reads = 0; tail = 0; number = 0; phase = 2 };
+        result = record { answer = 10; stores = 4; skipped = 0; way = 0; reads = 0; tail = 0; number = 0; phase = 2 };
         free = 0 ∷ 1 ∷ 2 ∷ 3 ∷ [];
         live = (0 ∷ []) ∷ [];
         entries = [];

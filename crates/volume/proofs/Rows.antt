@@ -21,7 +21,7 @@ use Rattle.volume.specs.Refusals.{applies, firstOf, judged}
 use Rattle.answer.specs.Answer.{numberOf, costOf, wayOf, readsOf}
 use Rattle.volume.specs.Store.{After, applied, storesBelow, performed}
 use Rattle.volume.specs.Format.{formatStores, formatTables, formatAction, imageFits, tablesFit, sizeChecks, formatOf}
-use Rattle.volume.specs.Placing.{firstFree, placedUpTo, placeOf}
+use Rattle.volume.specs.Placing.{firstFree, placedUpTo, placeOf, skippedBy}
 use Rattle.volume.specs.Commit.{touches, branchesIn, olderKey, listing, branchesFor, planned, rank, memberPlace, changedEntries, committedTables, member, dataStore, memberStore, commitStores, planAction, commitAction}
 use Rattle.volume.specs.Calls.{stateFits, blocksFit, tablesAgree, commitChecks, commitOf, writeChange, dropChange, roomFor, writeBy, dropBy, writeOf, dropOf, entryReadable, readChecks, blockOf, readJudged, readOf, parkChecks, parkAction, parkOf}
 use Rattle.volume.specs.Recover.{numberIn, pieceIn, entryIn, closingNumber, pieceNumber, tablesFrom, targetWaits, targetsRead, walkStep, walkedFor, walkFrom, branchCount, walkedLog, walkComplete}
@@ -96,6 +96,7 @@ outcomeOf f calls = run calls (formatted f)
 pub record Result : Type 0 where
   pub answer : ℕ
   pub stores : ℕ
+  pub skipped : ℕ
   pub way : ℕ
   pub reads : ℕ
   pub tail : ℕ
@@ -108,6 +109,7 @@ resultOf a =
     record {
       answer = numberOf answer;
       stores = costOf answer .stores;
+      skipped = costOf answer .skipped;
       way = wayOf answer;
       reads = readsOf answer;
       tail = a .outcome .state .tail;
@@ -163,7 +165,7 @@ unfolding updates gathered allBelow anyBelow countBelow best all elem distinct s
     startsWith balanced encoded branchesFit valid decoded complemented needsFlip stored entryFor restored parkRecord
     isParkRecord parkedIn sectorAt bitAt memory namedBy usedBy freeSectors consistent pieceEntries saysPiece liveValid
     applies firstOf judged applied storesBelow performed formatStores formatTables formatAction imageFits tablesFit
-    sizeChecks formatOf firstFree placedUpTo placeOf touches branchesIn olderKey listing branchesFor planned rank
+    sizeChecks formatOf firstFree placedUpTo placeOf skippedBy touches branchesIn olderKey listing branchesFor planned rank
     memberPlace changedEntries committedTables member dataStore memberStore commitStores planAction commitAction stateFits
     blocksFit tablesAgree commitChecks commitOf writeChange dropChange roomFor writeBy dropBy entryReadable readChecks
     blockOf readJudged readOf parkChecks parkAction parkOf numberIn pieceIn entryIn closingNumber pieceNumber tablesFrom

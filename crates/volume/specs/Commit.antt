@@ -7,14 +7,14 @@ use lib.ListN.{length}
 use lib.Dec.{eqb, ltb}
 use Rattle.state.specs.declared.State.{State}
 use Rattle.answer.specs.declared.Answer.the-variants.{Accepted}
-use Rattle.answer.specs.Answer.{storesAlone}
+use Rattle.answer.specs.declared.Cost.{Cost}
 use Rattle.layout.specs.Bounded.{at, anyBelow, countBelow, best, elem, isZero, listFrom, tabled, updates, always}
 use Rattle.geometry.specs.Geometry.{piecesFor, pieceOf}
 use Rattle.layout.specs.MapSector.{MapSector, View, encoded}
 use Rattle.volume.specs.Tables.{Tables, namedBy, usedBy, pieceEntries}
 use Rattle.state.specs.State.{committedState, cutState}
 use Rattle.volume.specs.Store.{Store, storesBelow, Action}
-use Rattle.volume.specs.Placing.{Rules, placeOf}
+use Rattle.volume.specs.Placing.{Rules, placeOf, skippedBy}
 
 -- What a commit does to the blocks it names: how many data sectors it stores and what stands in each, and the entry that
 -- the i-th named block gets, given the place of the i-th data sector.
@@ -59,8 +59,8 @@ branchesFor l t view number blocks =
     let remaining = tabled false pieces (λ q. not (touches blocks q)) in
     listing pieces t view remaining pieces (suc number) (λ _. false)
 
--- A planned commit: whether it folds, the first member's branches, the pieces written and how many, and the sectors taken,
--- in order: first the data sectors, then the members.
+-- A planned commit: whether it folds, the first member's branches, the pieces written and how many, the sectors taken, in
+-- order (first the data sectors, then the members), and how many used sectors the searches for the first so many passed over.
 pub record Plan : Type 0 where
   pub fold : Bool
   pub branches : List ℕ
@@ -68,6 +68,7 @@ pub record Plan : Type 0 where
   pub members : ℕ
   pub dataSectors : ℕ
   pub places : List ℕ
+  pub skipped : ℕ → ℕ
 
 -- If more than the limit would be listed, every piece is written and the first member has no branches.
 unfoldable pub planned : Rules → State → Tables → View → ℕ → Change → Plan
@@ -85,6 +86,7 @@ planned rules s t view head change =
       members = members;
       dataSectors = change .dataSectors;
       places = places;
+      skipped = skippedBy rules (s .geometry .n) (t .isUsed) head;
     }
 
 -- Members are the written pieces, ascending: how many come before a piece, and where a member goes. Data goes first.
@@ -139,12 +141,16 @@ commitStores s t plan change =
     storesBelow always (dataStore plan change) (change .dataSectors)
     ++ storesBelow (plan .written) (memberStore s t plan change) (piecesFor (s .geometry .l))
 
+-- The bill of a commit: its stores, and the sectors skipped to find their places.
+abbrev pub bill : Plan → ℕ → Cost
+bill plan stores = record { stores = stores; skipped = (plan .skipped) stores }
+
 -- What a planned commit does.
 unfoldable pub planAction : State → Tables → Plan → Change → Action
 planAction s t plan change =
     record {
       stores = commitStores s t plan change;
-      cost = storesAlone;
+      cost = bill plan;
       answer = Accepted;
       state = committedState s (memberPlace plan (plan .members - 1)) (s .number + plan .members);
       tables = committedTables s t plan change;

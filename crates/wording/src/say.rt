@@ -1,6 +1,5 @@
 // Answers on standard output.
 use answer::Answer;
-use answer::Cost;
 use answer::Loss;
 use answer::Refusal;
 use libc::STDOUT_FILENO;
@@ -85,31 +84,43 @@ fn loss_words(loss: Loss) {
     }
 }
 
-fn say_cost(cost: Cost) {
-    say_count(b"; stores ", cost.stores);
+// A write or a drop: the calls that search for free sectors.
+fn is_commit(call: Call) -> bool {
+    match call {
+        Call::Write => true,
+        Call::Drop => true,
+        _ => false,
+    }
 }
 
-fn power_words(cost: Cost) {
+fn say_cost(call: Call, answer: Answer) {
+    say_count(b"; stores ", answer.stores());
+    if is_commit(call) {
+        say_count(b"; skipped ", answer.skipped());
+    }
+}
+
+fn power_words(call: Call, answer: Answer) {
     say(b"power");
-    say_cost(cost);
+    say_cost(call, answer);
 }
 
 // Why a call was turned back. An accepted one has no words here.
-fn answer_words(answer: Answer) {
+fn answer_words(call: Call, answer: Answer) {
     match answer {
         Answer::Accepted(_) => {}
         Answer::Walked { read: _, cost: _ } => {}
         Answer::Scanned { read: _, cost: _ } => {}
         Answer::Refused(refusal) => refusal_words(refusal),
         Answer::Lost(loss) => loss_words(loss),
-        Answer::PowerFailed(cost) => power_words(cost),
+        Answer::PowerFailed(_) => power_words(call, answer),
     }
 }
 
-pub fn say_refusal(answer: Answer) {
+pub fn say_refusal(call: Call, answer: Answer) {
     say_count(b": refused ", answer.number());
     say(b", ");
-    answer_words(answer);
+    answer_words(call, answer);
     say(b"\n");
 }
 
@@ -144,14 +155,14 @@ pub fn say_name(call: Call) {
 fn say_acceptance(call: Call, answer: Answer, state: State) {
     say(b": accepted");
     match call {
-        Call::Park => say_cost(answer.cost()),
+        Call::Park => say_cost(call, answer),
         Call::Recover => {
             say_way(answer);
-            say_cost(answer.cost());
+            say_cost(call, answer);
             say_tail(state);
         }
         _ => {
-            say_cost(answer.cost());
+            say_cost(call, answer);
             say_tail(state);
         }
     }
@@ -165,7 +176,7 @@ pub fn say_answer(call: Call, answer: Answer, state: State) {
         say_acceptance(call, answer, state);
         return;
     }
-    say_refusal(answer);
+    say_refusal(call, answer);
 }
 
 fn say_data_trouble(trouble: Trouble) {

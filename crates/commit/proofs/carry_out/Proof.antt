@@ -1,5 +1,5 @@
 -- The stores end in a cut or are whole; the tables follow.
-use mathlib.Core.Path.{sym, _∙_}
+use mathlib.Core.Path.{refl, sym, _∙_}
 use native.Mathlib.Omega.{arith}
 use Rattle.laws.proofs.Sizes.{fits}
 use Rattle.power.proofs.Runs.{left-enough}
@@ -7,7 +7,6 @@ use Rattle.commit.proofs.CommitLaws.{carried-cut, carried-whole}
 use borrow.Author.Needs.{needs}
 use Rattle.commit.proofs.carry_out.Statement.{statement}
 use Rattle.commit.proofs.carry_out.Tie as tie
-use Rattle.answer.proofs.Answer.power_failed.Reads as power-failed-reads
 use Rattle.commit.proofs.finish.Reads as finish-reads
 use Rattle.state.proofs.State.cut.Reads as cut-reads
 use Rattle.store.proofs.store.Reads as store-reads
@@ -42,9 +41,6 @@ store-requires c κs =
 enum-told : tie.Need-enum-told
 enum-told c = search needs
 
-power-failed-requires : tie.Need-power-failed-requires
-power-failed-requires c κs = search needs
-
 cut-requires : tie.Need-cut-requires
 cut-requires c κs = search needs
 
@@ -71,13 +67,12 @@ same-length-2 c = search needs
 
 returns : tie.Need-returns
 returns c =
-    let the-power-failed = c .before .power-failed in
-    let the-store = c .before .before .before .before .before .before .store in
-    let a = c .before .before .before .before .before .before .before .before .before .before .before .before .before .before .before .before .before .before .before .before .args in
+    let the-store = c .before .before .before .before .before .store in
+    let a = c .before .before .before .before .before .before .before .before .before .before .before .before .before .before .before .before .before .before .before .args in
     carried-cut (a .s) (a .allowance) (a .image .now) (a .map .now) (a .places .now) (a .numbers .now) (a .used .now) _ (a .blocks .now)
-    (a .bytes .now) (a .news .now) (a .taken .now) (a .branches .now) (a .written .now) (a .count) (a .members) (the-store .kept .1 .0)
-    (the-store .ensures .1) (the-power-failed .result) (c .cut .result) (the-power-failed .ensures) (c .cut .ensures)
-    (sym (c .before .before .enum-told .given .1) ∙ the-store .ensures .0)
+    (a .bytes .now) (a .news .now) (a .taken .now) (a .branches .now) (a .written .now) (a .count) (a .members) (a .skipped) (the-store .kept .1 .0)
+    (the-store .ensures .1) _ (c .cut .result) refl (c .cut .ensures)
+    (sym (c .before .enum-told .given .1) ∙ the-store .ensures .0)
 
 same-length-3 : tie.Need-same-length-3
 same-length-3 c = search needs
@@ -101,7 +96,7 @@ returns-2 c =
     let s = c .before .before .before .before .before .before .before .before .before .before .before .before .before .before .before .before .before .before .store in
     let f = c .before .before .before .before .before .before .before .before .finish in
     carried-whole (a .s) (a .allowance) (a .image .now) (a .map .now) (a .places .now) (a .numbers .now) (a .used .now) _ (a .blocks .now)
-    (a .bytes .now) (a .news .now) (a .taken .now) (a .branches .now) (a .written .now) (a .count) (a .members) (s .kept .1 .0)
+    (a .bytes .now) (a .news .now) (a .taken .now) (a .branches .now) (a .written .now) (a .count) (a .members) (a .skipped) (s .kept .1 .0)
     (s .ensures .1) _ _ _ _ (f .result) _ (f .kept .1 .0) (f .kept .1 .1 .0) (f .kept .1 .1 .1 .0) (f .kept .1 .1 .1 .1 .0)
     (q .0) (q .1 .0) (q .1 .1 .0) (sym (c .before .before .before .before .before .before .before .before .before .before .before .before .before .before .power .given .1) ∙ s .ensures .0) (f .ensures)
 
@@ -111,7 +106,6 @@ carry-out-spec =
     (tie.spec
     store-requires
     enum-told
-    power-failed-requires
     cut-requires
     enum-known-power
     sub-finish

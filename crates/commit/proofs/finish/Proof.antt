@@ -1,10 +1,10 @@
 -- The tables are settled, and the tail is the last sector taken.
+use mathlib.Core.Path.{refl}
 use native.Mathlib.Omega.{arith}
 use Rattle.commit.proofs.CommitLaws.{some-taken, tail-is}
 use borrow.Author.Needs.{needs}
 use Rattle.commit.proofs.finish.Statement.{statement}
 use Rattle.commit.proofs.finish.Tie as tie
-use Rattle.answer.proofs.Answer.accepted.Reads as accepted-reads
 use Rattle.commit.proofs.last_of.Reads as last-of-reads
 use Rattle.settle.proofs.settle.Reads as settle-reads
 use Rattle.state.proofs.State.committed.Reads as committed-reads
@@ -21,9 +21,6 @@ add-number : tie.Need-add-number
 add-number c =
     let r = c .before .before .before .before .before .before .before .before .before .before .before .before .before .before .before .before .before .before .before .before .before .before .before .pre in
     omega arith
-
-accepted-requires : tie.Need-accepted-requires
-accepted-requires c κs = search needs
 
 committed-requires : tie.Need-committed-requires
 committed-requires c κs = search needs
@@ -42,8 +39,8 @@ same-length-4 c = search needs
 
 returns : tie.Need-returns
 returns c =
-    let a = c .before .before .before .before .before .before .before .before .before .before .before .before .before .before .before .before .before .before .before .before .before .before .before .before .before .args in
-    (c .before .accepted .ensures, tail-is (a .s) _ _ _ _ (c .committed .ensures) (c .before .before .before .last-of .ensures), c .before .before .before .before .before .before .before .before .before .before .before .before .settle .ensures)
+    let a = c .before .before .before .before .before .before .before .before .before .before .before .before .before .before .before .before .before .before .before .before .before .before .before .before .args in
+    (refl, tail-is (a .s) _ _ _ _ (c .committed .ensures) (c .before .before .last-of .ensures), c .before .before .before .before .before .before .before .before .before .before .before .settle .ensures)
 
 pub finish-spec : {M : Type 1} → statement M
 finish-spec =
@@ -52,7 +49,6 @@ finish-spec =
     settle-requires
     last-of-requires
     add-number
-    accepted-requires
     committed-requires
     same-length
     same-length-2

@@ -7,8 +7,11 @@ use Rattle.plain.proofs.result_of.Tie as tie
 number-requires : tie.Need-number-requires
 number-requires c κs = search needs
 
-cost-requires : tie.Need-cost-requires
-cost-requires c κs = search needs
+stores-requires : tie.Need-stores-requires
+stores-requires c κs = search needs
+
+skipped-requires : tie.Need-skipped-requires
+skipped-requires c κs = search needs
 
 way-requires : tie.Need-way-requires
 way-requires c κs = search needs
@@ -22,17 +25,19 @@ state-left-requires c κs = search needs
 returns : tie.Need-returns
 returns c =
     let the-way = c .before .before .way in
-    let the-cost = c .before .before .before .cost in
-    let the-number = c .before .before .before .before .number in
-    let the-args = c .before .before .before .before .before .args in
-    result-is (the-args .c) (the-args .o) _ _ _ _ (c .state-left .result) (the-number .ensures) (the-cost .ensures) (the-way .ensures) (c .before .sectors-read .ensures) (c .state-left .ensures)
+    let the-skipped = c .before .before .before .skipped in
+    let the-stores = c .before .before .before .before .stores in
+    let the-number = c .before .before .before .before .before .number in
+    let the-args = c .before .before .before .before .before .before .args in
+    result-is (the-args .c) (the-args .o) _ _ _ _ _ (c .state-left .result) (the-number .ensures) (the-stores .ensures) (the-skipped .ensures) (the-way .ensures) (c .before .sectors-read .ensures) (c .state-left .ensures)
 
 pub result-of-spec : {M : Type 1} → statement M
 result-of-spec =
     tie.close
     (tie.spec
     number-requires
-    cost-requires
+    stores-requires
+    skipped-requires
     way-requires
     sectors-read-requires
     state-left-requires

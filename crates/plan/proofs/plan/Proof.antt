@@ -25,18 +25,18 @@ count-members-requires c κs =
     let p = c .pieces-for .ensures in
     (pieces-few (a .s .geometry) f _ p, pieces-room (a .s .geometry) f _ _ p (c .before .before .before .before .before .before .list-untouched .ensures .flags))
 
-add-take-sectors : tie.Need-add-take-sectors
-add-take-sectors c =
+add-total : tie.Need-add-total
+add-total c =
     let k = c .before .before .before .before .before .before .before .before .before .before .before .before .before .before .before .before .before .before .before .before .before .before .pre .1 .1 .1 .1 .1 .1 .1 .0 in
     omega arith
 
-cast-take-sectors : tie.Need-cast-take-sectors
-cast-take-sectors c = search needs
+cast-total : tie.Need-cast-total
+cast-total c = search needs
 
 take-sectors-requires : tie.Need-take-sectors-requires
 take-sectors-requires c κs =
     let r = c .before .before .before .before .before .before .before .before .before .before .before .before .before .before .before .before .before .before .before .before .before .before .before .pre in
-    (r .0, (r .1 .1 .1 .1 .0, (r .1 .1 .1 .1 .1 .0, omega arith)))
+    (r .0, (r .1 .1 .1 .1 .0, (r .1 .1 .1 .1 .1 .0, (omega arith, omega arith))))
 
 same-length : tie.Need-same-length
 same-length c = search needs
@@ -53,7 +53,8 @@ returns c =
     let m = c .before .before .before .before .before .before .before .count-members .ensures in
     let pieces = c .before .before .before .before .before .before .before .before .pieces-for .ensures in
     let untouched = c .before .before .before .before .before .before .before .before .before .before .before .before .before .before .list-untouched .ensures in
-    planning _ _ _ _ _ _ _ _ _ _ _ _ _ _ _ _ (r .1 .1 .1 .1 .1 .1 .1 .1 .0) pieces (r .1 .1 .1 .0) untouched (m .0) (m .1) (m .2) (c .before .before .take-sectors .ensures)
+    let t = c .before .before .take-sectors .ensures in
+    planning _ _ _ _ _ _ _ _ _ _ _ _ _ _ _ _ (r .1 .1 .1 .1 .1 .1 .1 .1 .0) pieces (r .1 .1 .1 .0) untouched (m .0) (m .1) _ _ (m .2) (t .0) (t .1)
 
 pub plan-spec : {M : Type 1} → statement M
 plan-spec =
@@ -62,8 +63,8 @@ plan-spec =
     list-untouched-requires
     pieces-for-requires
     count-members-requires
-    add-take-sectors
-    cast-take-sectors
+    add-total
+    cast-total
     take-sectors-requires
     same-length
     same-length-2

@@ -13,7 +13,7 @@ take-in-requires : tie.Need-take-in-requires
 take-in-requires c κs =
     let q = c .before .before .before .before .pre in
     let a = c .before .before .before .before .args in
-    (q .0, (q .1 .0, (q .1 .1 .0, (q .1 .1 .1, (used-room (a .g) (q .0) _ _ (q .1 .0) refl, refl)))))
+    (q .0, (q .1 .0, (q .1 .1 .0, (q .1 .1 .1 .0, (q .1 .1 .1 .1, (used-room (a .g) (q .0) _ _ (q .1 .0) refl, refl))))))
 
 same-length : tie.Need-same-length
 same-length c = search needs

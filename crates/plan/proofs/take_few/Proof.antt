@@ -14,7 +14,7 @@ take-in-requires c κs =
     let small = p .0 in
     let q = p .1 in
     let long = q .1 .0 in
-    (q .0, (q .1 .0, (q .1 .1 .0, (q .1 .1 .1, (omega arith, refl)))))
+    (q .0, (q .1 .0, (q .1 .1 .0, (q .1 .1 .1 .0, (q .1 .1 .1 .1, (omega arith, refl))))))
 
 same-length : tie.Need-same-length
 same-length c = search needs
