@@ -11,7 +11,7 @@ use borrow.Author.Tests.{lt-ltb, le-ltb}
 use Rattle.layout.specs.Bounded.{updated}
 use Rattle.volume.specs.Tables.{bitAt}
 use Rattle.volume.specs.Placing.{Found, base, sectorAfter, foundAt, passedOver, firstFree, chosen, placedUpTo, placeOf, skippedBy}
-use Rattle.laws.proofs.Bounded.{bool?, lt?, cond-true, cond-false}
+use Rattle.laws.proofs.Bounded.{lt?, cond-true, cond-false}
 use Rattle.power.specs.Power.{made}
 use Rattle.bits.proofs.WordLaws.{bit, word-full}
 
@@ -37,16 +37,6 @@ pub further-twice : (a b : ℕ) (f : Found) → further a (further b f) ≡ furt
 further-twice a b f = ap (λ (x : ℕ). record { sector = f .sector; skipped = x }) (let q : a + (b + f .skipped) ≡ a + b + f .skipped = omega arith in q)
 
 module _ (n : ℕ) (isUsed : ℕ → Bool) where
-  -- A search passes over no more sectors than it looks at.
-  pub search-few : (steps k : ℕ) → firstFree n isUsed steps k .skipped ≤ steps
-  unfolding firstFree
-  search-few zero k = omega arith
-  search-few (suc steps) k =
-      let few = search-few steps (sectorAfter n k) in
-      let later = firstFree n isUsed steps (sectorAfter n k) in
-      ⊎-elim (λ (z : isUsed k ≡ true). rw (cond-true (isUsed k) (passedOver later) (foundAt k) z) (omega arith))
-      (λ (z : isUsed k ≡ false). rw (cond-false (isUsed k) (passedOver later) (foundAt k) z) (omega arith)) (bool? (isUsed k))
-
   pub search-ends : (steps k : ℕ) → steps ≡ 0 → firstFree n isUsed steps k ≡ foundAt k
   unfolding firstFree
   search-ends zero k e = refl

@@ -1,5 +1,5 @@
 -- What the checks and the plan give is what storing and settling ask for.
-use mathlib.Core.Path.{refl, sym, _∙_, ap}
+use mathlib.Core.Path.{refl, sym, _∙_}
 use native.Mathlib.Omega.{arith}
 use lib.Seq.{length-take-le}
 use Rattle.volume.specs.Tables.{memory}

@@ -1,6 +1,5 @@
 -- 65,536 bits are enough.
 use borrow.Author.Needs.{needs}
-use native.Mathlib.Omega.{arith}
 use mathlib.Core.Path.{refl}
 use Rattle.plan.proofs.PlanLaws.{used-room}
 use Rattle.plan.proofs.take_any.Statement.{statement}
