@@ -111,8 +111,10 @@ returns c =
     let the-carry-out = c .before .before .before .before .before .before .before .before .before .before .carry-out in
     let the-entries-for = c .before .before .before .before .before .before .before .before .before .before .before .before .before .before .before .before .before .before .before .before .entries-for in
     let the-plan = c .before .before .before .before .before .before .before .before .before .before .before .before .before .before .before .before .before .before .before .before .before .before .before .before .before .before .plan in
-    let the-pre = c .before .before .before .before .before .before .before .before .before .before .before .before .before .before .before .before .before .before .before .before .before .before .before .before .before .before .before .before .before .before .before .before .before .before .before .before .before .before .before .before .before .pre in
-    let a = c .before .before .before .before .before .before .before .before .before .before .before .before .before .before .before .before .before .before .before .before .before .before .before .before .before .before .before .before .before .before .before .before .before .before .before .before .before .before .before .before .before .args in
+    let middle = c .before .before .before .before .before .before .before .before .before .before .before .before .before .before .before .before .before .before .before .before in
+    let start = middle .before .before .before .before .before .before .before .before .before .before .before .before .before .before .before .before .before .before .before .before .before in
+    let the-pre = start .pre in
+    let a = start .args in
     the-carry-out .ensures
     ∙ commit-done _ _ _ _ _ _ _ _ _ (the-pre .0) (the-pre .1 .0) _ _ _ _ _ _ _ _ (the-plan .ensures) refl _ _ (the-entries-for .ensures)
     (memory (a .image .now) (a .map .now) (a .places .now) (a .numbers .now) (a .used .now))
