@@ -21,6 +21,9 @@ static uint32_t places[VLOG_PIECES(L)];
 static uint32_t numbers[VLOG_PIECES(L)];
 static uint8_t used[VLOG_USED_BYTES(N)];
 
+/* A disk of 4 tracks, 16 sectors each. While the head changes tracks, 2 sectors pass by. */
+static const vlog_settings settings = {L, 16, 4, 2};
+
 #define IMAGE image, sizeof image
 #define TABLES map, L, places, VLOG_PIECES(L), numbers, VLOG_PIECES(L), used, sizeof used
 
@@ -48,9 +51,11 @@ static void load(const char *name)
 /* Prints a result, and hands on its state. Any answer but the expected one ends the program. */
 static vlog_state told(const char *call, vlog_result r, uint32_t expected)
 {
-    printf("%-8s answers %u, %u stores, %u skipped; state: N %u, L %u, tail %u, number %u, phase %u", call,
-           (unsigned)r.answer, (unsigned)r.stores, (unsigned)r.skipped, (unsigned)r.n, (unsigned)r.l, (unsigned)r.tail,
-           (unsigned)r.number, (unsigned)r.phase);
+    printf("%-8s answers %u, %u stores, %u skipped; state: N %u, L %u, tail %u, number %u, phase %u, "
+           "%u tracks of %u, head switch %u",
+           call, (unsigned)r.answer, (unsigned)r.stores, (unsigned)r.skipped, (unsigned)r.n, (unsigned)r.l,
+           (unsigned)r.tail, (unsigned)r.number, (unsigned)r.phase, (unsigned)r.tracks, (unsigned)r.per_track,
+           (unsigned)r.head_switch);
     if (r.way)
         printf("; by a %s, %u sectors read", r.way == VLOG_WALK ? "walk" : "scan", (unsigned)r.read);
     printf("\n");
@@ -68,14 +73,14 @@ int main(int argc, char **argv)
     uint32_t block[1] = {7};
     uint8_t bytes[VLOG_SECTOR] = "Ann: meet at the old mill at nine.";
     uint8_t out[VLOG_SECTOR];
-    vlog_state s = {0, 0, 0, 0, 0};
+    vlog_state s = {0, 0, 0, 0, 0, 0, 0, 0};
 
-    s = told("format", vlog_format(s, IMAGE, TABLES, L, VLOG_NO_LIMIT), VLOG_ACCEPTED);
+    s = told("format", vlog_format(s, IMAGE, TABLES, settings, VLOG_NO_LIMIT), VLOG_ACCEPTED);
     s = told("write", vlog_write(s, IMAGE, TABLES, 10, block, 1, bytes, sizeof bytes, VLOG_NO_LIMIT), VLOG_ACCEPTED);
     save(name);
 
-    /* From the same head the two sectors just stored are in the way. The power fails: one store is made, where this
-     * write needs two. */
+    /* From the same head the two sectors just stored are in the way: sector 12 is next. The power fails: one store is
+     * made, where this write needs two. */
     strcpy((char *)bytes, "Bob: no, at ten.");
     s = told("write", vlog_write(s, IMAGE, TABLES, 10, block, 1, bytes, sizeof bytes, 1), VLOG_POWER_FAILED);
     save(name);
@@ -88,13 +93,13 @@ int main(int argc, char **argv)
     memset(numbers, 0, sizeof numbers);
     memset(used, 0, sizeof used);
     load(name);
-    s = told("recover", vlog_recover(s, IMAGE, TABLES, L, VLOG_NO_LIMIT), VLOG_ACCEPTED);
+    s = told("recover", vlog_recover(s, IMAGE, TABLES, settings, VLOG_NO_LIMIT), VLOG_ACCEPTED);
     s = told("read", vlog_read(s, IMAGE, TABLES, block[0], out, sizeof out), VLOG_ACCEPTED);
     printf("block %u: %s\n", (unsigned)block[0], (char *)out);
 
     /* Parked before it is put away, the volume is found by a walk. */
     s = told("park", vlog_park(s, IMAGE, TABLES, VLOG_NO_LIMIT), VLOG_ACCEPTED);
-    s = told("recover", vlog_recover(s, IMAGE, TABLES, L, VLOG_NO_LIMIT), VLOG_ACCEPTED);
+    s = told("recover", vlog_recover(s, IMAGE, TABLES, settings, VLOG_NO_LIMIT), VLOG_ACCEPTED);
     save(name);
     return 0;
 }

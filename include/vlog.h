@@ -5,6 +5,12 @@
  * A volume is an image of N sectors of 512 bytes. It shows L blocks of 512 bytes, numbered from 0. L is 1 to 24,576,
  * P is L / 96 rounded up, and N is 2P + 2 to 65,536.
  *
+ * The disk below it has tracks of equally many sectors, which turn under one head. Tracks hold consecutive sectors, from
+ * sector 0 on: 1 to 65,536 a track, and 1 to 256 tracks, which together hold N. While the head changes to another track,
+ * 0 to 255 sectors pass by: the head switch. These settings say where the sectors of a write or a drop go, and nothing
+ * else; a volume may be recovered with others than it was formatted with. A disk of which nothing is known is one track
+ * of N sectors, with a head switch of 0.
+ *
  * A call works on memory alone: the image and the tables that it is lent. All lengths are in elements:
  *
  *     image     512 * N bytes
@@ -20,10 +26,13 @@
  * A caller hands each call the state, and goes on with the state in the result. A state for the first format or recover
  * may hold anything: those two look at nothing in it.
  *
+ * Format and recover are given the settings, and the state keeps them. After 8, 9 or their own 10 it holds N and what was
+ * given, L and the settings; tail and number are 0 then.
+ *
  * A storing call is told how many sectors it may store (its allowance). With fewer than it needs it makes that many,
  * from the front, and answers 10, as if the power had failed there. VLOG_NO_LIMIT is always enough.
  *
- * Nothing is allocated. A recover takes up to 1.1 MB of stack, any other call up to 17 KB.
+ * Nothing is allocated. A recover takes up to 1.1 MB of stack, any other call up to 20 KB.
  */
 #ifndef VLOG_H
 #define VLOG_H
@@ -49,12 +58,15 @@ enum {
     VLOG_CUT = 2      /* format and recover */
 };
 
-/* Answers. The lowest number that applies is the one given. */
+/* Answers. The first that applies is the one given, in this order: 1, 11, then 2 to 10. */
 enum {
     VLOG_ACCEPTED = 0,
-    /* 1 to 7 change nothing: the state comes back as it was handed in, the image and the tables are as they were. */
+    /* 1 to 7 and 11 change nothing: the state comes back as it was handed in, the image and the tables are as they
+     * were. */
     VLOG_SIZE = 1,            /* N, L or the image's length: not in the ranges above, or the image is not 512 * N bytes
                                  of the state's N (for format and recover: not whole sectors) */
+    VLOG_WRONG_SETTINGS = 11, /* the settings, those given or, for the other calls, the state's: not in the ranges
+                                 above, or the tracks do not hold N sectors */
     VLOG_BUFFER_LENGTH = 2,   /* a table, the bytes or the 512 bytes of a read have the wrong length */
     VLOG_BLOCK_NUMBERS = 3,   /* expected: 1 to 64 strictly ascending numbers below L, and a head below N; for a read,
                                  a number below L */
@@ -79,35 +91,47 @@ typedef struct {
     uint32_t tail;   /* the sector of the newest map sector, */
     uint32_t number; /* and its number */
     uint32_t phase;
+    uint32_t per_track;   /* sectors a track, */
+    uint32_t tracks;      /* tracks, */
+    uint32_t head_switch; /* and the head switch, in sector times */
 } vlog_state;
+
+/* What a format or a recover is given. N is taken from the image's length. */
+typedef struct {
+    uint32_t l;
+    uint32_t per_track, tracks, head_switch;
+} vlog_settings;
 
 typedef struct {
     uint32_t answer;  /* 0, or the number of the refusal */
     uint32_t stores;  /* sectors stored; 0 on every refusal but 10 */
-    uint32_t skipped; /* of a write or a drop: used sectors that the searches for these passed over, else 0 */
+    uint32_t skipped; /* of a write or a drop: the sum of the delays to these, in sector times, else 0 */
     uint32_t way;     /* of an accepted recover: VLOG_WALK or VLOG_SCAN, else 0 */
     uint32_t read;    /* and the sectors that it read, else 0 */
-    uint32_t n, l, tail, number, phase; /* the state to go on with */
+    uint32_t n, l, tail, number, phase, per_track, tracks, head_switch; /* the state to go on with */
 } vlog_result;
 
 /* The state of a result. */
 static inline vlog_state vlog_state_of(vlog_result r)
 {
-    vlog_state s = {r.n, r.l, r.tail, r.number, r.phase};
+    vlog_state s = {r.n, r.l, r.tail, r.number, r.phase, r.per_track, r.tracks, r.head_switch};
     return s;
 }
 
-/* Makes an empty volume of l blocks in the image, with N + P stores. N is taken from the image's length. */
+/* Makes an empty volume of given.l blocks in the image, with N + P stores. */
 vlog_result vlog_format(vlog_state state,
                         uint8_t *image, size_t image_length,
                         uint32_t *map, size_t map_length,
                         uint32_t *places, size_t places_length,
                         uint32_t *numbers, size_t numbers_length,
                         uint8_t *used, size_t used_length,
-                        uint32_t l, uint32_t allowance);
+                        vlog_settings given, uint32_t allowance);
 
-/* Writes 1 to 64 blocks, all or none: 512 bytes for each number, in the order of the numbers. Free sectors are sought
- * from the head upwards: a sector below N, as the one nearest to a disk's arm. Used ones in the way are skipped. */
+/* Writes 1 to 64 blocks, all or none: 512 bytes for each number, in the order of the numbers. The head is the sector,
+ * below N, where the disk's head stands. Each store goes to the free sector of least delay, the lower number where two
+ * tie. The delay is the wait, in sector times, until the sector's position on its track comes under the head: on the
+ * head's own track at least 0, on another at least the head switch. The next search starts one position after the store,
+ * on its track. With one track that is upwards from the head and around. */
 vlog_result vlog_write(vlog_state state,
                        uint8_t *image, size_t image_length,
                        uint32_t *map, size_t map_length,
@@ -150,15 +174,15 @@ vlog_result vlog_park(vlog_state state,
                       const uint8_t *used, size_t used_length,
                       uint32_t allowance);
 
-/* Finds the log of a volume of l blocks in the image and fills the tables from it: by a walk if it was parked and the
- * walk finds all, otherwise by a scan of all sectors. */
+/* Finds the log of a volume of given.l blocks in the image and fills the tables from it: by a walk if it was parked and
+ * the walk finds all, otherwise by a scan of all sectors. */
 vlog_result vlog_recover(vlog_state state,
                          uint8_t *image, size_t image_length,
                          uint32_t *map, size_t map_length,
                          uint32_t *places, size_t places_length,
                          uint32_t *numbers, size_t numbers_length,
                          uint8_t *used, size_t used_length,
-                         uint32_t l, uint32_t allowance);
+                         vlog_settings given, uint32_t allowance);
 
 #ifdef __cplusplus
 }

@@ -3,7 +3,7 @@ use Prim.Native.Nat.{ℕ}
 use mathlib.Core.Bool.{Bool, true, false}
 use mathlib.Core.List.{List, [], _∷_, _++_}
 use Rattle.answer.specs.declared.Refusal.{Refusal}
-use Rattle.answer.specs.declared.Refusal.the-variants.{Size, BufferLength, BlockNumbers, WrongPhase, Inconsistent, NoRoom, NumbersUsedUp}
+use Rattle.answer.specs.declared.Refusal.the-variants.{Size, WrongSettings, BufferLength, BlockNumbers, WrongPhase, Inconsistent, NoRoom, NumbersUsedUp}
 use Rattle.answer.specs.declared.Loss.{Loss}
 use Rattle.answer.specs.declared.Loss.the-variants.{NoLog, DamagedLog}
 use Rattle.answer.specs.declared.Cost.{Cost}
@@ -13,7 +13,7 @@ use Rattle.answer.specs.declared.Answer.the-variants.{Accepted, Walked, 
 -- The order in which every call judges: of the refusals that apply, the first is returned. Sizes and lengths of what is lent come
 -- first, then the numbers that the caller hands in, and then how the volume stands.
 abbrev pub lengths : List Refusal
-lengths = Size ∷ BufferLength ∷ []
+lengths = Size ∷ WrongSettings ∷ BufferLength ∷ []
 
 abbrev pub named : List Refusal
 named = BlockNumbers ∷ []
@@ -26,6 +26,7 @@ order = lengths ++ named ++ standing
 
 abbrev pub refusalNumber : Refusal → ℕ
 refusalNumber Size = 1
+refusalNumber WrongSettings = 11
 refusalNumber BufferLength = 2
 refusalNumber BlockNumbers = 3
 refusalNumber WrongPhase = 4

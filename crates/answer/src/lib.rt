@@ -7,6 +7,8 @@ ghost use Rattle.answer.specs.Answer.{refusalNumber, lossNumber, storesA
 pub enum Refusal {
     // 1: N, L or the image's length is out of range, or not the state's.
     Size,
+    // 11: what the drive is made of is out of range, or its tracks do not hold N sectors.
+    WrongSettings,
     // 2: a lent buffer has the wrong length.
     BufferLength,
     // 3: count, order or range of the block numbers, or the head.
@@ -27,6 +29,7 @@ impl Refusal {
     {
         match self {
             Refusal::Size => 1,
+            Refusal::WrongSettings => 11,
             Refusal::BufferLength => 2,
             Refusal::BlockNumbers => 3,
             Refusal::WrongPhase => 4,
@@ -62,7 +65,7 @@ pub enum Verdict {
     Refuse(Refusal),
 }
 
-// What a call cost: the sectors it stored, and the used sectors that the searches for their places passed over.
+// What a call cost: the sectors it stored, and the sum of the delays to their places.
 pub struct Cost {
     pub stores: u32,
     pub skipped: u32,

@@ -4,13 +4,13 @@ ghost use Rattle.volume.specs.Tables.{memory};
 ghost use Rattle.volume.specs.Format.{formatOf};
 ghost use Rattle.volume.specs.Calls.{writeOf, dropOf, readOf, parkOf};
 ghost use Rattle.volume.specs.Recover.{recoverOf};
-ghost use Rattle.plain.specs.Plain.{stateOf};
+ghost use Rattle.plain.specs.Plain.{stateOf, settingsIn};
 ghost use Rattle.capi.specs.Handed.{handed, inNumbers, readHanded, readInNumbers};
-use geometry::Settings;
 use plain::CResult;
+use plain::CSettings;
 use plain::CState;
 
-// Makes an empty volume of l blocks in the image.
+// Makes an empty volume in the image, of what is given.
 #[no_mangle]
 pub extern "C" fn vlog_format(
     c: CState,
@@ -19,13 +19,13 @@ pub extern "C" fn vlog_format(
     places: &mut [u32],
     numbers: &mut [u32],
     used: &mut [u8],
-    l: u32,
+    given: CSettings,
     allowance: u32,
 ) -> CResult
-    ensures { λ r. ⌜ handed r (memory (now (image .exit)) (now (map .exit)) (now (places .exit)) (now (numbers .exit)) (now (used .exit))) ≡ inNumbers c (formatOf (stateOf c) (memory (now (image .entry)) (now (map .entry)) (now (places .entry)) (now (numbers .entry)) (now (used .entry))) (record { l = l }) allowance) ⌝ }
+    ensures { λ r. ⌜ handed r (memory (now (image .exit)) (now (map .exit)) (now (places .exit)) (now (numbers .exit)) (now (used .exit))) ≡ inNumbers c (formatOf (stateOf c) (memory (now (image .entry)) (now (map .entry)) (now (places .entry)) (now (numbers .entry)) (now (used .entry))) (settingsIn given) allowance) ⌝ }
 {
     let s = plain::state_of(c);
-    let settings = Settings { l };
+    let settings = plain::settings_of(given);
     let o = format::format(s, image, map, places, numbers, used, settings, allowance);
     plain::result_of(c, o)
 }
@@ -129,7 +129,7 @@ pub extern "C" fn vlog_park(
     plain::result_of(c, o)
 }
 
-// Finds the log of a volume of l blocks in the image.
+// Finds the log of a volume in the image.
 #[no_mangle]
 pub extern "C" fn vlog_recover(
     c: CState,
@@ -138,13 +138,13 @@ pub extern "C" fn vlog_recover(
     places: &mut [u32],
     numbers: &mut [u32],
     used: &mut [u8],
-    l: u32,
+    given: CSettings,
     allowance: u32,
 ) -> CResult
-    ensures { λ r. ⌜ handed r (memory (now (image .exit)) (now (map .exit)) (now (places .exit)) (now (numbers .exit)) (now (used .exit))) ≡ inNumbers c (recoverOf (stateOf c) (memory (now (image .entry)) (now (map .entry)) (now (places .entry)) (now (numbers .entry)) (now (used .entry))) (record { l = l }) allowance) ⌝ }
+    ensures { λ r. ⌜ handed r (memory (now (image .exit)) (now (map .exit)) (now (places .exit)) (now (numbers .exit)) (now (used .exit))) ≡ inNumbers c (recoverOf (stateOf c) (memory (now (image .entry)) (now (map .entry)) (now (places .entry)) (now (numbers .entry)) (now (used .entry))) (settingsIn given) allowance) ⌝ }
 {
     let s = plain::state_of(c);
-    let settings = Settings { l };
+    let settings = plain::settings_of(given);
     let o = recover::recover(s, image, map, places, numbers, used, settings, allowance);
     plain::result_of(c, o)
 }

@@ -11,9 +11,9 @@ use lib.Dec.{eqb}
 use borrow.Author.Tests.{eqb-true, eq-eqb, not-true, not-false}
 use Rattle.geometry.specs.declared.Geometry.{Geometry}
 use Rattle.geometry.specs.declared.Settings.{Settings}
-use Rattle.answer.specs.declared.Refusal.the-variants.{Size, BufferLength}
+use Rattle.answer.specs.declared.Refusal.the-variants.{Size, WrongSettings, BufferLength}
 use Rattle.answer.specs.declared.Verdict.the-variants.{Pass, Refuse}
-use Rattle.geometry.specs.Geometry.{piecesFor, usedBytes, geometryOf, geometryFits}
+use Rattle.geometry.specs.Geometry.{piecesFor, usedBytes, geometryOf, geometryFits, driveFits}
 use Rattle.layout.specs.Bounded.{isZero}
 use Rattle.volume.specs.Tables.{memory}
 use Rattle.volume.specs.Refusals.{applies, firstOf, judged}
@@ -42,19 +42,27 @@ module _ (settings : Settings) (image map places numbers used : ℕ) (b1 : Bool)
   pub fits-number : not b1 ≡ false → image / 512 ≤ 65536
   fits-number e = fits (geometryOf (image / 512) settings) (and-r (isZero (image % 512)) (geometryFits (geometryOf (image / 512) settings)) (sym f1 ∙ not-false b1 e)) .sectors
 
-  module _ (e1 : not b1 ≡ false) (g : Geometry) (q : g ≡ geometryOf (image / 512) settings) (b2 : Bool)
-      (f2 : b2 ≡ (eqb map (g .l) && eqb places (piecesFor (g .l)) && eqb numbers (piecesFor (g .l)) && eqb used (usedBytes (g .n)))) where
-    lengths-are : b2 ≡ tablesFit (lent image map places numbers used) (geometryOf (image / 512) settings)
-    unfolding tablesFit
-    lengths-are = f2 ∙ ap (tablesFit (lent image map places numbers used)) q
+  module _ (e1 : not b1 ≡ false) (g : Geometry) (q : g ≡ geometryOf (image / 512) settings) (bd : Bool) (fd : bd ≡ driveFits (g .n) (settings .drive)) where
+    settings-are : bd ≡ driveFits (image / 512) (settings .drive)
+    settings-are = fd ∙ ap (λ (x : Geometry). driveFits (x .n) (settings .drive)) q
 
-    pub lengths-refused : not b2 ≡ true → Refuse BufferLength ≡ judged (sizeChecks (lent image map places numbers used) settings)
+    pub settings-refused : not bd ≡ true → Refuse WrongSettings ≡ judged (sizeChecks (lent image map places numbers used) settings)
     unfolding judged firstOf applies sizeChecks imageFits
-    lengths-refused e = rw (sym f1 ∙ not-false b1 e1, sym lengths-are ∙ not-true b2 e) refl
+    settings-refused e = rw (sym f1 ∙ not-false b1 e1, sym settings-are ∙ not-true bd e) refl
 
-    pub size-passes : not b2 ≡ false → Pass ≡ judged (sizeChecks (lent image map places numbers used) settings)
-    unfolding judged firstOf applies sizeChecks imageFits
-    size-passes e = rw (sym f1 ∙ not-false b1 e1, sym lengths-are ∙ not-false b2 e) refl
+    module _ (ed : not bd ≡ false) (b2 : Bool)
+        (f2 : b2 ≡ (eqb map (g .l) && eqb places (piecesFor (g .l)) && eqb numbers (piecesFor (g .l)) && eqb used (usedBytes (g .n)))) where
+      lengths-are : b2 ≡ tablesFit (lent image map places numbers used) (geometryOf (image / 512) settings)
+      unfolding tablesFit
+      lengths-are = f2 ∙ ap (tablesFit (lent image map places numbers used)) q
+
+      pub lengths-refused : not b2 ≡ true → Refuse BufferLength ≡ judged (sizeChecks (lent image map places numbers used) settings)
+      unfolding judged firstOf applies sizeChecks imageFits
+      lengths-refused e = rw (sym f1 ∙ not-false b1 e1, sym settings-are ∙ not-false bd ed, sym lengths-are ∙ not-true b2 e) refl
+
+      pub size-passes : not b2 ≡ false → Pass ≡ judged (sizeChecks (lent image map places numbers used) settings)
+      unfolding judged firstOf applies sizeChecks imageFits
+      size-passes e = rw (sym f1 ∙ not-false b1 e1, sym settings-are ∙ not-false bd ed, sym lengths-are ∙ not-false b2 e) refl
 
 -- The checks look at the lengths alone.
 pub by-lengths : (im mp pl nu us : List ℕ) (settings : Settings)

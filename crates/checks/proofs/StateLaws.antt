@@ -6,10 +6,10 @@ use mathlib.Core.List.{List, _++_}
 use lib.ListN.{length}
 use lib.Dec.{eqb}
 use borrow.Author.Tests.{not-true, not-false}
-use Rattle.geometry.specs.Geometry.{piecesFor, usedBytes, geometryFits}
+use Rattle.geometry.specs.Geometry.{piecesFor, usedBytes, geometryFits, driveFits}
 use Rattle.state.specs.declared.State.{State}
 use Rattle.answer.specs.declared.Refusal.{Refusal}
-use Rattle.answer.specs.declared.Refusal.the-variants.{Size, BufferLength}
+use Rattle.answer.specs.declared.Refusal.the-variants.{Size, WrongSettings, BufferLength}
 use Rattle.answer.specs.declared.Verdict.{Verdict}
 use Rattle.answer.specs.declared.Verdict.the-variants.{Pass, Refuse}
 use Rattle.answer.specs.Answer.{lengths}
@@ -29,20 +29,25 @@ module _ (s : State) (image map places numbers used : ℕ) (own : Bool) (b1 : Bo
   unfolding stateFits firstOf applies
   state-refused e = rw (sym f1 ∙ not-true b1 e) refl
 
-  module _ (e1 : not b1 ≡ false) (b2 : Bool)
-      (f2 : b2 ≡ (eqb map (s .geometry .l) && eqb places (piecesFor (s .geometry .l)) && eqb numbers (piecesFor (s .geometry .l)) && eqb used (usedBytes (s .geometry .n)))) where
-    pub tables-refused : not b2 ≡ true → Refuse BufferLength ≡ verdict
-    unfolding stateFits tablesFit firstOf applies
-    tables-refused e = rw (sym f1 ∙ not-false b1 e1, sym f2 ∙ not-true b2 e) refl
+  module _ (e1 : not b1 ≡ false) (bd : Bool) (fd : bd ≡ driveFits (s .geometry .n) (s .drive)) where
+    pub settings-refused : not bd ≡ true → Refuse WrongSettings ≡ verdict
+    unfolding stateFits firstOf applies
+    settings-refused e = rw (sym f1 ∙ not-false b1 e1, sym fd ∙ not-true bd e) refl
 
-    module _ (e2 : not b2 ≡ false) where
-      pub own-refused : not own ≡ true → Refuse BufferLength ≡ verdict
+    module _ (ed : not bd ≡ false) (b2 : Bool)
+        (f2 : b2 ≡ (eqb map (s .geometry .l) && eqb places (piecesFor (s .geometry .l)) && eqb numbers (piecesFor (s .geometry .l)) && eqb used (usedBytes (s .geometry .n)))) where
+      pub tables-refused : not b2 ≡ true → Refuse BufferLength ≡ verdict
       unfolding stateFits tablesFit firstOf applies
-      own-refused e = rw (sym f1 ∙ not-false b1 e1, sym f2 ∙ not-false b2 e2, not-true own e) refl
+      tables-refused e = rw (sym f1 ∙ not-false b1 e1, sym fd ∙ not-false bd ed, sym f2 ∙ not-true b2 e) refl
 
-      pub lengths-fit : not own ≡ false → Pass ≡ verdict
-      unfolding stateFits tablesFit firstOf applies
-      lengths-fit e = rw (sym f1 ∙ not-false b1 e1, sym f2 ∙ not-false b2 e2, not-false own e) refl
+      module _ (e2 : not b2 ≡ false) where
+        pub own-refused : not own ≡ true → Refuse BufferLength ≡ verdict
+        unfolding stateFits tablesFit firstOf applies
+        own-refused e = rw (sym f1 ∙ not-false b1 e1, sym fd ∙ not-false bd ed, sym f2 ∙ not-false b2 e2, not-true own e) refl
+
+        pub lengths-fit : not own ≡ false → Pass ≡ verdict
+        unfolding stateFits tablesFit firstOf applies
+        lengths-fit e = rw (sym f1 ∙ not-false b1 e1, sym fd ∙ not-false bd ed, sym f2 ∙ not-false b2 e2, not-false own e) refl
 
 -- A call that begins with these: they refuse it, or the rest decides.
 module _ (s : State) (im mp pl nu us : List ℕ) (own : Bool) (rest : List Check) (v : Verdict)
@@ -63,6 +68,10 @@ module _ (s : State) (im mp pl nu us : List ℕ) (own : Bool) (rest : List Check
 
     clear : (r : Refusal) → isIn r lengths ≡ true → applies r checks ≡ false
     clear r i = first-clear r lengths checks (sym (sym e ∙ by-lengths)) i
+
+    pub drive-passed : driveFits (s .geometry .n) (s .drive) ≡ true
+    unfolding applies isIn
+    drive-passed = not-false (driveFits (s .geometry .n) (s .drive)) (clear WrongSettings refl)
 
     pub sizes-passed : stateFits s (memory im mp pl nu us) ≡ true
     unfolding applies isIn

@@ -1,4 +1,4 @@
-// The checks of sizes and lengths that the calls share: refusals 1 and 2.
+// The checks of sizes, settings and lengths that the calls share: refusals 1, 11 and 2.
 ghost use mathlib.Core.Path.{_≡_};
 ghost use mathlib.Core.Bool.{_&&_};
 ghost use Prim.Native.Nat.{_*_, _/_, _%_};
@@ -60,6 +60,10 @@ pub fn state_verdict(
         return Verdict::Refuse(Refusal::Size);
     }
     let g = s.geometry;
+    let drive = s.drive;
+    if !drive.fits(g.n) {
+        return Verdict::Refuse(Refusal::WrongSettings);
+    }
     if !tables_fit(g, map, places, numbers, used) {
         return Verdict::Refuse(Refusal::BufferLength);
     }
@@ -99,6 +103,10 @@ pub fn size_verdict(
         return Verdict::Refuse(Refusal::Size);
     }
     let g = settings.volume((image / Geometry::SECTOR) as u32);
+    let drive = settings.drive;
+    if !drive.fits(g.n) {
+        return Verdict::Refuse(Refusal::WrongSettings);
+    }
     if !tables_fit(g, map, places, numbers, used) {
         return Verdict::Refuse(Refusal::BufferLength);
     }

@@ -17,7 +17,8 @@ use Rattle.layout.specs.MapSector.{View}
 use Rattle.layout.specs.Entry.{isEmpty, sectorOf, stored, entryFor}
 use Rattle.volume.specs.Tables.{Memory, bitAt, memory, sectorAt, tablesOf, usedBy, freeSectors}
 use Rattle.volume.specs.Store.{storesBelow, Action, performed}
-use Rattle.volume.specs.Placing.{base, placeOf}
+use Rattle.tracks.specs.Placing.{leastDelay, placeOf}
+use Rattle.volume.specs.Rules.{base}
 use Rattle.volume.specs.Commit.{Plan, touches, branchesFor, planned, rank, memberPlace, changedEntries, committedTables, member, dataStore, memberStore, commitStores, bill, planAction, commitAction}
 use Rattle.answer.specs.declared.Verdict.the-variants.{Pass}
 use Rattle.volume.specs.Refusals.{judged}
@@ -69,7 +70,7 @@ module _ (s : State) (im mp pl nu us : List ℕ) (head : ℕ) (blocks : List ℕ
   unfolding planned
   members-are = refl
 
-  places-are : the-plan .places ≡ listFrom (placeOf base (s .geometry .n) (bitAt us) head) 0 (count + the-plan .members)
+  places-are : the-plan .places ≡ listFrom (placeOf (leastDelay (s .drive)) (s .geometry .n) (bitAt us) head) 0 (count + the-plan .members)
   unfolding planned
   places-are = refl
 
@@ -114,18 +115,18 @@ module _ (s : State) (im mp pl nu us : List ℕ) (head : ℕ) (blocks : List ℕ
     pub total-few : count + members ≤ 320
     total-few = let h = few-members in let k = few-data in let z = p .high in omega arith
 
-    ts-are : ts ≡ listFrom (placeOf base (s .geometry .n) (bitAt us) head) 0 (count + members)
+    ts-are : ts ≡ listFrom (placeOf (leastDelay (s .drive)) (s .geometry .n) (bitAt us) head) 0 (count + members)
     ts-are =
         slice ∙ g .taken-are ∙ places-are
-        ∙ ap (λ (k : ℕ). listFrom (placeOf base (s .geometry .n) (bitAt us) head) 0 (count + k)) (sym (g .members-are))
+        ∙ ap (λ (k : ℕ). listFrom (placeOf (leastDelay (s .drive)) (s .geometry .n) (bitAt us) head) 0 (count + k)) (sym (g .members-are))
 
     ts-length : length ts ≡ count + members
-    ts-length = ap length ts-are ∙ length-listFrom (placeOf base (s .geometry .n) (bitAt us) head) 0 (count + members)
+    ts-length = ap length ts-are ∙ length-listFrom (placeOf (leastDelay (s .drive)) (s .geometry .n) (bitAt us) head) 0 (count + members)
 
-    ts-at : (i : ℕ) → i < count + members → at ts i ≡ placeOf base (s .geometry .n) (bitAt us) head i
+    ts-at : (i : ℕ) → i < count + members → at ts i ≡ placeOf (leastDelay (s .drive)) (s .geometry .n) (bitAt us) head i
     ts-at i h =
-        ap (λ (xs : List ℕ). at xs i) ts-are ∙ listFrom-at (placeOf base (s .geometry .n) (bitAt us) head) 0 (count + members) i 0 h
-        ∙ ap (placeOf base (s .geometry .n) (bitAt us) head) (let e : 0 + i ≡ i = omega arith in e)
+        ap (λ (xs : List ℕ). at xs i) ts-are ∙ listFrom-at (placeOf (leastDelay (s .drive)) (s .geometry .n) (bitAt us) head) 0 (count + members) i 0 h
+        ∙ ap (placeOf (leastDelay (s .drive)) (s .geometry .n) (bitAt us) head) (let e : 0 + i ≡ i = omega arith in e)
 
     room : count + members ≤ freeSectors (s .geometry .n) (bitAt us)
     room = let e = g .members-are in let h = members-few in let r = p .room in omega arith
@@ -134,13 +135,13 @@ module _ (s : State) (im mp pl nu us : List ℕ) (head : ℕ) (blocks : List ℕ
     ts-below i h =
         let least = fit .least in
         subst (λ (x : ℕ). x < s .geometry .n) (sym (ts-at i h))
-        (place-below base base-chooses (s .geometry .n) (omega arith) (bitAt us) zero-used head (p .head-below) (count + members) room i h)
+        (place-below (leastDelay (s .drive)) (s .geometry .n) (base-chooses .places (s .geometry .n) (s .drive) (p .drive)) (bitAt us) zero-used head (p .head-below) (count + members) room i h)
 
     ts-low : (i : ℕ) → i < count + members → 1 ≤ at ts i
     ts-low i h =
         let least = fit .least in
         subst (λ (x : ℕ). 1 ≤ x) (sym (ts-at i h))
-        (place-low base base-chooses (s .geometry .n) (omega arith) (bitAt us) zero-used head (p .head-below) (count + members) room i h)
+        (place-low (leastDelay (s .drive)) (s .geometry .n) (base-chooses .places (s .geometry .n) (s .drive) (p .drive)) (bitAt us) zero-used head (p .head-below) (count + members) room i h)
 
     pub ts-word : (i : ℕ) → i < count → at ts i < 2 ^ 31
     ts-word i h = let z = ts-below i (omega arith) in let n = fit .sectors in omega arith

@@ -14,7 +14,7 @@ ghost use Rattle.layout.specs.Bounded.{at, countBelow};
 ghost use Rattle.volume.specs.Tables.{bitAt, sectorAt, memory, tablesOf, freeSectors, consistent};
 ghost use Rattle.volume.specs.Refusals.{judged};
 ghost use Rattle.volume.specs.Store.{after, performed};
-ghost use Rattle.volume.specs.Placing.{base};
+ghost use Rattle.volume.specs.Rules.{base};
 ghost use Rattle.volume.specs.Commit.{committedTables, planAction, commitAction};
 ghost use Rattle.volume.specs.Calls.{viewOf, commitChecks};
 ghost use Rattle.pieces.specs.Arrays.{flagged, planOf, changeOf, Settling};

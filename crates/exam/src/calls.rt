@@ -2,6 +2,7 @@
 ghost use Prim.Native.Nat.{_≤_, _*_};
 ghost use Rattle.geometry.specs.Geometry.{sectorBytes};
 use answer::Answer;
+use geometry::Drive;
 use geometry::Geometry;
 use paper::request;
 use paper::request::Call;
@@ -183,6 +184,7 @@ fn perform(
     r: Request,
     s: State,
     size: Geometry,
+    drive: Drive,
     image: &mut [u8],
     map: &mut [u32],
     places: &mut [u32],
@@ -210,11 +212,11 @@ fn perform(
                 places,
                 numbers,
                 used,
-                size.settings(),
+                size.settings(drive),
                 r.first,
                 blocks,
                 bytes,
-                r.stores,
+                r.stores(),
             );
             say_done(call, done);
             done
@@ -256,6 +258,7 @@ pub fn lend(
     r: Request,
     s: State,
     size: Geometry,
+    drive: Drive,
     image: &mut [u8],
     map: &mut [u32],
     places: &mut [u32],
@@ -274,6 +277,7 @@ pub fn lend(
         r,
         s,
         size,
+        drive,
         &mut image[..n],
         &mut map[..l],
         &mut places[..p],

@@ -1,8 +1,10 @@
 // The desk: it takes a line apart, lends the volume's parts to the call, and keeps the state.
 ghost use Rattle.line_reader.specs.Reader.{Placed};
 use crate::calls;
+use crate::given;
+use crate::given::Given;
+use geometry::Drive;
 use geometry::Geometry;
-use geometry::Settings;
 use line_reader::LINE;
 use line_reader::Reader;
 use line_reader::Standing;
@@ -16,6 +18,8 @@ use wording::say;
 
 pub struct Desk {
     pub state: State,
+    // The drive that the volume was formatted for: what a recover is not given is taken from it.
+    pub drive: Drive,
     // Whether there is a volume.
     pub open: bool,
     // Whether the paper is at its end, or a line was not understood.
@@ -43,8 +47,10 @@ fn counted(line: u32) -> u32 {
 
 impl Desk {
     pub fn opened() -> Desk {
+        let drive = given::one_track(0);
         Desk {
-            state: State::lost(Geometry { n: 0, l: 0 }),
+            state: State::lost(Geometry { n: 0, l: 0 }, drive),
+            drive,
             open: false,
             stopped: false,
             line: 0,
@@ -54,8 +60,10 @@ impl Desk {
     // The desk at the next line.
     fn moved(self) -> Desk {
         let state = self.state;
+        let drive = self.drive;
         Desk {
             state,
+            drive,
             open: self.open,
             stopped: self.stopped,
             line: counted(self.line),
@@ -64,37 +72,60 @@ impl Desk {
 
     fn stop(self) -> Desk {
         let state = self.state;
+        let drive = self.drive;
         Desk {
             state,
+            drive,
             open: self.open,
             stopped: true,
             line: self.line,
         }
     }
 
-    fn with(self, state: State, open: bool) -> Desk {
+    // After a format, which makes a volume for a drive, or none.
+    fn formatted(self, state: State, drive: Drive, open: bool) -> Desk {
         Desk {
             state,
+            drive,
             open,
+            stopped: self.stopped,
+            line: self.line,
+        }
+    }
+
+    // After any other call.
+    fn with(self, state: State) -> Desk {
+        let drive = self.drive;
+        Desk {
+            state,
+            drive,
+            open: self.open,
             stopped: self.stopped,
             line: self.line,
         }
     }
 }
 
-// The volume that a format asks for.
-fn asked(r: Request) -> Geometry {
-    let settings = Settings { l: r.first };
-    settings.volume(r.second)
+// What a line asks for.
+fn asked(desk: Desk, call: Call, r: Request) -> Given {
+    match call {
+        Call::Format => given::of_format(r),
+        _ => {
+            let there = desk.state.geometry;
+            let drive = desk.drive;
+            given::of_volume(r, there, drive)
+        }
+    }
 }
 
-// What stops a call whose line is understood: no volume, or one that is larger than the program holds.
-fn obstacle(desk: Desk, call: Call, r: Request) -> Trouble {
+// What stops a call whose line is understood: no volume, or one that would be accepted and is larger than the program holds.
+fn obstacle(desk: Desk, call: Call, given: Given) -> Trouble {
+    let size = given.size;
+    let drive = given.drive;
     match call {
         Call::Format => {
-            let g = asked(r);
-            if g.n > calls::HELD {
-                if g.fits() {
+            if given::is_too_large(size) {
+                if drive.fits(size.n) {
                     return Trouble::Sectors;
                 }
             }
@@ -109,26 +140,15 @@ fn obstacle(desk: Desk, call: Call, r: Request) -> Trouble {
     }
 }
 
-// The sectors and blocks to lend: those of the format, or of the volume that is there. None where they are out of range.
-fn lent(desk: Desk, call: Call, r: Request) -> Geometry {
-    match call {
-        Call::Format => asked(r),
-        _ => {
-            let g = desk.state.geometry;
-            g
-        }
-    }
-}
-
 // Whether a line is turned back, with the words for it.
-fn is_refused(desk: Desk, call: Call, r: Request, line: &[u8]) -> bool {
+fn is_refused(desk: Desk, call: Call, r: Request, given: Given, line: &[u8]) -> bool {
     let number = desk.line;
     if !r.is_fine() {
         let found = r.trouble;
         say::say_trouble(number, line, call, r.at, found);
         return true;
     }
-    let trouble = obstacle(desk, call, r);
+    let trouble = obstacle(desk, call, given);
     match trouble {
         Trouble::Fine => false,
         _ => {
@@ -138,11 +158,20 @@ fn is_refused(desk: Desk, call: Call, r: Request, line: &[u8]) -> bool {
     }
 }
 
+// Whether there is a volume after a format: none was made where its size or its settings are refused.
+fn has_volume(answer: u32) -> bool {
+    if answer == 1 {
+        return false;
+    }
+    answer != 11
+}
+
 // The volume's parts for a call, and the call.
 fn answer_request(
     desk: Desk,
     call: Call,
     r: Request,
+    given: Given,
     image: &mut [u8; IMAGE],
     map: &mut [u32; MAP],
     places: &mut [u32; PIECES],
@@ -151,13 +180,14 @@ fn answer_request(
     blocks: &[u32],
     bytes: &[u8],
 ) -> Desk {
-    let size = lent(desk, call, r);
     let state = desk.state;
+    let drive = given.drive;
     let left = calls::lend(
         call,
         r,
         state,
-        size,
+        given.size,
+        drive,
         image,
         map,
         places,
@@ -168,7 +198,10 @@ fn answer_request(
     );
     let answer = left.answer;
     let after = left.state;
-    desk.with(after, answer.number() != 1)
+    match call {
+        Call::Format => desk.formatted(after, drive, has_volume(answer.number())),
+        _ => desk.with(after),
+    }
 }
 
 // A line that asks for a call.
@@ -185,13 +218,15 @@ fn answer_call(
     let mut blocks = [0u32; request::MOST];
     let mut bytes = [0u8; request::MOST * Geometry::SECTOR];
     let r = request::request_of(line, call, &mut blocks, &mut bytes);
-    if is_refused(desk, call, r, line) {
+    let given = asked(desk, call, r);
+    if is_refused(desk, call, r, given, line) {
         return desk.stop();
     }
     answer_request(
         desk,
         call,
         r,
+        given::handed(given),
         image,
         map,
         places,

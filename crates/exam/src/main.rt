@@ -1,6 +1,7 @@
 // Answers a paper: each line of standard input is a call on a volume, and its answer is written on standard output.
 mod calls;
 mod desk;
+mod given;
 
 use desk::Desk;
 use line_reader::Reader;

@@ -43,7 +43,7 @@ fn make(
     allowance: u32,
 ) -> Outcome
     requires { ⌜ Pass ≡ judged (sizeChecks (memory (now image) (now map) (now places) (now numbers) (now used)) settings) ⌝ }
-    ensures { λ r. ⌜ after r (memory (now (image .exit)) (now (map .exit)) (now (places .exit)) (now (numbers .exit)) (now (used .exit))) ≡ performed allowance (formatAction (geometryOf (length (now (image .entry)) / sectorBytes) settings)) (memory (now (image .entry)) (now (map .entry)) (now (places .entry)) (now (numbers .entry)) (now (used .entry))) ⌝ }
+    ensures { λ r. ⌜ after r (memory (now (image .exit)) (now (map .exit)) (now (places .exit)) (now (numbers .exit)) (now (used .exit))) ≡ performed allowance (formatAction (geometryOf (length (now (image .entry)) / sectorBytes) settings) (settings .drive)) (memory (now (image .entry)) (now (map .entry)) (now (places .entry)) (now (numbers .entry)) (now (used .entry))) ⌝ }
 {
     let g = settings.volume((image.len() / Geometry::SECTOR) as u32);
     let pieces = Geometry::pieces_for(g.l);
@@ -53,7 +53,7 @@ fn make(
             lent::zero_tables(map, places, numbers, used);
             Outcome {
                 answer: Answer::power_failed(allowance),
-                state: State::lost(g),
+                state: State::lost(g, settings.drive),
             }
         }
         Power::Left(left) => {
@@ -61,7 +61,7 @@ fn make(
             let stores = allowance - left;
             Outcome {
                 answer: Answer::accepted(stores),
-                state: State::running(g, pieces, pieces),
+                state: State::running(g, settings.drive, pieces, pieces),
             }
         }
     }

@@ -68,25 +68,25 @@ format-runs g pieces allowance before image mid left p q e m f i =
 module _ (settings : Settings) (g : Geometry) (allowance : ℕ) (im mp pl nu us im′ mp′ pl′ nu′ us′ : List ℕ)
     (e1 : length im′ ≡ length im) (e2 : length mp′ ≡ length mp) (e3 : length pl′ ≡ length pl) (e4 : length nu′ ≡ length nu) (e5 : length us′ ≡ length us)
     (made : sectorAt im′ ≡ applied (take allowance (formatStores g)) (sectorAt im)) (asked : g ≡ geometryOf (length im / 512) settings) where
-  asked-performed : performed allowance (formatAction g) (memory im mp pl nu us) ≡ performed allowance (formatAction (geometryOf (length im / 512) settings)) (memory im mp pl nu us)
-  asked-performed = ap (λ (x : Geometry). performed allowance (formatAction x) (memory im mp pl nu us)) asked
+  asked-performed : performed allowance (formatAction g (settings .drive)) (memory im mp pl nu us) ≡ performed allowance (formatAction (geometryOf (length im / 512) settings) (settings .drive)) (memory im mp pl nu us)
+  asked-performed = ap (λ (x : Geometry). performed allowance (formatAction x (settings .drive)) (memory im mp pl nu us)) asked
 
-  pub format-cut : (x : Answer) (s : State) → x ≡ PowerFailed (storesAlone allowance) → s ≡ lostState g
+  pub format-cut : (x : Answer) (s : State) → x ≡ PowerFailed (storesAlone allowance) → s ≡ lostState g (settings .drive)
       → Failed ≡ powered (length (formatStores g)) allowance → tablesOf mp′ pl′ nu′ us′ ≡ zeroTables
-      → after (record { answer = x; state = s }) (memory im′ mp′ pl′ nu′ us′) ≡ performed allowance (formatAction (geometryOf (length im / 512) settings)) (memory im mp pl nu us)
+      → after (record { answer = x; state = s }) (memory im′ mp′ pl′ nu′ us′) ≡ performed allowance (formatAction (geometryOf (length im / 512) settings) (settings .drive)) (memory im mp pl nu us)
   unfolding formatAction memory
   format-cut x s p q e t =
-      call-cut allowance (formatAction g) (memory im mp pl nu us) (memory im′ mp′ pl′ nu′ us′) (sectorAt im′) made x s p q e
+      call-cut allowance (formatAction g (settings .drive)) (memory im mp pl nu us) (memory im′ mp′ pl′ nu′ us′) (sectorAt im′) made x s p q e
       (memory-left im mp pl nu us im′ mp′ pl′ nu′ us′ (sectorAt im′) zeroTables e1 e2 e3 e4 e5 refl t)
       ∙ asked-performed
 
-  pub format-whole : (x : Answer) (s : State) (pieces left : ℕ) → pieces ≡ piecesFor (g .l) → x ≡ Accepted (storesAlone (allowance - left)) → s ≡ freshState g pieces pieces
+  pub format-whole : (x : Answer) (s : State) (pieces left : ℕ) → pieces ≡ piecesFor (g .l) → x ≡ Accepted (storesAlone (allowance - left)) → s ≡ freshState g (settings .drive) pieces pieces
       → Left left ≡ powered (length (formatStores g)) allowance → tablesOf mp′ pl′ nu′ us′ ≡ formatTables (g .l)
-      → after (record { answer = x; state = s }) (memory im′ mp′ pl′ nu′ us′) ≡ performed allowance (formatAction (geometryOf (length im / 512) settings)) (memory im mp pl nu us)
+      → after (record { answer = x; state = s }) (memory im′ mp′ pl′ nu′ us′) ≡ performed allowance (formatAction (geometryOf (length im / 512) settings) (settings .drive)) (memory im mp pl nu us)
   unfolding formatAction memory
   format-whole x s pieces left k p q e t =
-      call-whole allowance (formatAction g) (memory im mp pl nu us) (memory im′ mp′ pl′ nu′ us′) (sectorAt im′) made x s left p
-      (q ∙ ap (λ (i : ℕ). freshState g i i) k) e
+      call-whole allowance (formatAction g (settings .drive)) (memory im mp pl nu us) (memory im′ mp′ pl′ nu′ us′) (sectorAt im′) made x s left p
+      (q ∙ ap (λ (i : ℕ). freshState g (settings .drive) i i) k) e
       (memory-left im mp pl nu us im′ mp′ pl′ nu′ us′ (sectorAt im′) (formatTables (g .l)) e1 e2 e3 e4 e5 refl t)
       ∙ asked-performed
 
@@ -95,12 +95,12 @@ pub format-refused : (s : State) (im mp pl nu us : List ℕ) (settings : Setting
     → after (record { answer = Refused r; state = s }) (memory im mp pl nu us) ≡ formatOf s (memory im mp pl nu us) settings allowance
 unfolding formatOf
 format-refused s im mp pl nu us settings allowance r e =
-    ap (λ (v : Verdict). unlessRefused v s (memory im mp pl nu us) (performed allowance (formatAction (volumeIn (memory im mp pl nu us) settings)) (memory im mp pl nu us))) e
+    ap (λ (v : Verdict). unlessRefused v s (memory im mp pl nu us) (performed allowance (formatAction (volumeIn (memory im mp pl nu us) settings) (settings .drive)) (memory im mp pl nu us))) e
 
 pub format-passed : (s : State) (im mp pl nu us : List ℕ) (settings : Settings) (allowance : ℕ) (r : After)
     → Pass ≡ judged (sizeChecks (memory im mp pl nu us) settings)
-    → r ≡ performed allowance (formatAction (geometryOf (length im / 512) settings)) (memory im mp pl nu us)
+    → r ≡ performed allowance (formatAction (geometryOf (length im / 512) settings) (settings .drive)) (memory im mp pl nu us)
     → r ≡ formatOf s (memory im mp pl nu us) settings allowance
 unfolding formatOf memory
 format-passed s im mp pl nu us settings allowance r e f =
-    f ∙ ap (λ (v : Verdict). unlessRefused v s (memory im mp pl nu us) (performed allowance (formatAction (volumeIn (memory im mp pl nu us) settings)) (memory im mp pl nu us))) e
+    f ∙ ap (λ (v : Verdict). unlessRefused v s (memory im mp pl nu us) (performed allowance (formatAction (volumeIn (memory im mp pl nu us) settings) (settings .drive)) (memory im mp pl nu us))) e

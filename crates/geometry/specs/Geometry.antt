@@ -1,8 +1,9 @@
 -- Document 01, "The volume": the sizes of a volume of N sectors that shows L blocks.
 use Prim.Native.Nat.{ℕ, _+_, _*_, _-_, _/_, _%_}
 use mathlib.Core.Bool.{Bool, _&&_}
-use lib.Dec.{leb}
+use lib.Dec.{eqb, leb}
 use Rattle.geometry.specs.declared.Geometry.{Geometry}
+use Rattle.geometry.specs.declared.Drive.{Drive}
 use Rattle.geometry.specs.declared.Settings.{Settings}
 
 -- low ≤ x ≤ high.
@@ -68,10 +69,28 @@ mostUsedBytes = usedBytes mostSectors
 abbrev pub geometryOf : ℕ → Settings → Geometry
 geometryOf n settings = record { n = n; l = settings .l }
 
--- What a recovery of a volume is given.
-abbrev pub settingsOf : Geometry → Settings
-settingsOf g = record { l = g .l }
+-- What a recovery of a volume on a drive is given.
+abbrev pub settingsOf : Geometry → Drive → Settings
+settingsOf g drive = record { l = g .l; drive = drive }
 
 -- L is 1 to 24,576; N is 2P + 2 to 65,536.
 abbrev pub geometryFits : Geometry → Bool
 geometryFits g = within 1 mostBlocks (g .l) && within (2 * piecesFor (g .l) + 2) mostSectors (g .n)
+
+-- Document 02, "Drives with tracks": sectors a track 1 to 65,536, tracks 1 to 256, head switch 0 to 255, and the tracks hold the N
+-- sectors.
+abbrev pub mostPerTrack : ℕ
+mostPerTrack = 65536
+
+abbrev pub mostTracks : ℕ
+mostTracks = 256
+
+abbrev pub longestSwitch : ℕ
+longestSwitch = 255
+
+abbrev pub driveFits : ℕ → Drive → Bool
+driveFits n d =
+    within 1 mostPerTrack (d .sectors)
+    && within 1 mostTracks (d .tracks)
+    && leb (d .switch) longestSwitch
+    && eqb (d .sectors * d .tracks) n

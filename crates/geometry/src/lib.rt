@@ -1,6 +1,7 @@
-// What a volume is, in one value that the state keeps and every call goes by; and what a format or a recovery is given of it.
+// What a volume is and what drive it stands on, which the state keeps and every call goes by; and what a format or a recovery is
+// given of both.
 ghost use mathlib.Core.Path.{_≡_};
-ghost use Rattle.geometry.specs.Geometry.{piecesFor, pieceOf, indexOf, usedBytes, geometryOf, settingsOf, geometryFits};
+ghost use Rattle.geometry.specs.Geometry.{piecesFor, pieceOf, indexOf, usedBytes, geometryOf, settingsOf, geometryFits, driveFits};
 
 // N sectors, of which the host sees L blocks through a map of P pieces.
 pub struct Geometry {
@@ -8,9 +9,18 @@ pub struct Geometry {
     pub l: u32,
 }
 
+// What the disk is made of: the sectors a track, the tracks, and how many sectors pass by while the head changes to another
+// track. It decides where a commit's sectors go, and nothing else.
+pub struct Drive {
+    pub sectors: u32,
+    pub tracks: u32,
+    pub switch: u32,
+}
+
 // What a format or a recovery is given. N comes from the image.
 pub struct Settings {
     pub l: u32,
+    pub drive: Drive,
 }
 
 impl Settings {
@@ -79,11 +89,11 @@ impl Geometry {
         block % Geometry::ENTRIES
     }
 
-    // What a recovery of this volume is given.
-    pub fn settings(self) -> Settings
-        ensures { λ r. ⌜ r ≡ settingsOf self ⌝ }
+    // What a recovery of this volume on that drive is given.
+    pub fn settings(self, drive: Drive) -> Settings
+        ensures { λ r. ⌜ r ≡ settingsOf self drive ⌝ }
     {
-        Settings { l: self.l }
+        Settings { l: self.l, drive }
     }
 
     // Bytes of the used map: one bit a sector.
@@ -111,5 +121,40 @@ impl Geometry {
             return false;
         }
         n <= Geometry::MOST_SECTORS
+    }
+}
+
+impl Drive {
+    // The most sectors a track and the most tracks, and the longest head switch.
+    pub const MOST_PER_TRACK: u32 = 65_536;
+
+    pub const MOST_TRACKS: u32 = 256;
+
+    pub const LONGEST_SWITCH: u32 = 255;
+
+    // Sectors a track are 1 to 65,536, tracks 1 to 256, the head switch 0 to 255, and the tracks hold n sectors. The ranges are
+    // judged first, so that the product is a number.
+    pub fn fits(self, n: u32) -> bool
+        ensures { λ r. ⌜ r ≡ driveFits n self ⌝ }
+    {
+        let sectors = self.sectors;
+        let tracks = self.tracks;
+        let switch = self.switch;
+        if sectors < 1 {
+            return false;
+        }
+        if Drive::MOST_PER_TRACK < sectors {
+            return false;
+        }
+        if tracks < 1 {
+            return false;
+        }
+        if Drive::MOST_TRACKS < tracks {
+            return false;
+        }
+        if Drive::LONGEST_SWITCH < switch {
+            return false;
+        }
+        sectors * tracks == n
     }
 }

@@ -11,11 +11,12 @@ use lib.ListN.{length, take}
 use lib.Dec.{ltb, eqb}
 use borrow.Author.Tests.{ltb-true, ltb-false, lt-ltb, eqb-true, eq-eqb}
 use Rattle.geometry.specs.declared.Geometry.{Geometry}
+use Rattle.geometry.specs.declared.Drive.{Drive}
 use Rattle.state.specs.declared.State.{State}
 use Rattle.answer.specs.declared.Refusal.{Refusal}
 use Rattle.answer.specs.declared.Refusal.the-variants.{BlockNumbers, WrongPhase}
 use Rattle.answer.specs.declared.Verdict.the-variants.{Pass}
-use Rattle.geometry.specs.Geometry.{within, piecesFor, settingsOf}
+use Rattle.geometry.specs.Geometry.{within, piecesFor, settingsOf, driveFits}
 use Rattle.state.specs.State.{freshState, isRunning, isReadable}
 use Rattle.layout.specs.Bounded.{at, updated, updates}
 use Rattle.layout.specs.MapSector.{MapSector}
@@ -25,7 +26,7 @@ use Rattle.volume.specs.Tables.{Tables, Memory, zeroTables, sectorAt, freeSecto
 use Rattle.volume.specs.Refusals.{applies, firstOf, judged}
 use Rattle.volume.specs.Store.{After, applied, performed, refused, after}
 use Rattle.volume.specs.Format.{sectorsIn, sizeChecks}
-use Rattle.volume.specs.Placing.{Rules}
+use Rattle.volume.specs.Rules.{Rules}
 use Rattle.volume.specs.Commit.{Change, commitAction}
 use Rattle.volume.specs.Calls.{viewOf, stateFits, commitChecks, commitOf, writeChange, dropChange, roomFor, writeBy, dropBy, entryReadable, readChecks, blockOf, readJudged, readOf, parkChecks, parkAction, parkOf}
 use Rattle.volume.specs.Recover.{Log, findingOf, imageView, recoveryAction, recovered, recoverOf}
@@ -57,21 +58,22 @@ module _ (rules : Rules) (law : Choosing rules) (g : Geometry) (fit : Fits g) wh
   -- Write and drop, of a volume that stands in any way.
   module _ (s : State) (m : Memory) (size : Sized g m) (disk : Disk) (stands : Standing g (record { state = s; memory = m }) disk)
       (head : ℕ) (change : Change) (values : ℕ → List ℕ) (bytesFit hasRoom : Bool)
-      (given : (tail number : ℕ) → s ≡ freshState g tail number → Settled g (m .image) (m .tables) tail number disk → m .image 0 ≡ blank
-      → CommitPassed rules (freshState g tail number) m head (change .blocks) bytesFit hasRoom
-      → Given rules (freshState g tail number) (m .tables) (m .image) disk head change values) where
+      (given : (drive : Drive) (tail number : ℕ) → s ≡ freshState g drive tail number
+      → Settled g (m .image) (m .tables) tail number disk → m .image 0 ≡ blank
+      → CommitPassed rules (freshState g drive tail number) m head (change .blocks) bytesFit hasRoom
+      → Given rules (freshState g drive tail number) (m .tables) (m .image) disk head change values) where
     abbrev changed : Disk
     changed = updates disk (at (change .blocks)) values (length (change .blocks))
 
     passed : (allowance : ℕ) → judged (commitChecks rules s m head (change .blocks) bytesFit hasRoom) ≡ Pass
         → Standing g (record { state = s; memory = m }) disk
         → Step g m (performed allowance (commitAction rules s (m .tables) (viewOf (s .geometry) (m .image)) head change) m) disk changed
-    passed allowance e (running tail number q settled unparked) =
+    passed allowance e (running drive tail number q settled unparked) =
         let c = commit-passed rules s m head (change .blocks) bytesFit hasRoom e in
-        let u = given tail number q settled unparked (subst (λ (x : State). CommitPassed rules x m head (change .blocks) bytesFit hasRoom) q c) in
+        let u = given drive tail number q settled unparked (subst (λ (x : State). CommitPassed rules x m head (change .blocks) bytesFit hasRoom) q c) in
         subst (λ (x : State). Step g m (performed allowance (commitAction rules x (m .tables) (viewOf (x .geometry) (m .image)) head change) m) disk changed)
-        (sym q) (commit-step rules law g fit m size tail number disk settled unparked head change values u allowance)
-    passed allowance e (parked tail number q settled) =
+        (sym q) (commit-step rules law g fit m size drive tail number disk settled unparked head change values u allowance)
+    passed allowance e (parked drive tail number q settled) =
         let c = commit-passed rules s m head (change .blocks) bytesFit hasRoom e in
         absurd (true≢false (sym (c .phase) ∙ ap (λ (x : State). isRunning (x .phase)) q))
     passed allowance e (cut q t tail number committed) =
@@ -87,10 +89,10 @@ module _ (rules : Rules) (law : Choosing rules) (g : Geometry) (fit : Fits g) wh
         (verdict? (judged (commitChecks rules s m head (change .blocks) bytesFit hasRoom)))
 
   module _ (s : State) (m : Memory) (size : Sized g m) (disk : Disk) (stands : Standing g (record { state = s; memory = m }) disk) where
-    room-fits : (blocks : List ℕ) (tail number : ℕ) → s ≡ freshState g tail number → roomFor s m blocks ≡ true
+    room-fits : (blocks : List ℕ) (drive : Drive) (tail number : ℕ) → s ≡ freshState g drive tail number → roomFor s m blocks ≡ true
         → length blocks + piecesFor (g .l) ≤ freeSectors (g .n) (m .tables .isUsed)
     unfolding roomFor
-    room-fits blocks tail number q e =
+    room-fits blocks drive tail number q e =
         let r = subst (λ (x : State). not (ltb (freeSectors (x .geometry .n) (m .tables .isUsed)) (length blocks + piecesFor (x .geometry .l))) ≡ true) q e in
         ltb-false (freeSectors (g .n) (m .tables .isUsed)) (length blocks + piecesFor (g .l))
         (not-of (ltb (freeSectors (g .n) (m .tables .isUsed)) (length blocks + piecesFor (g .l))) r)
@@ -100,9 +102,10 @@ module _ (rules : Rules) (law : Choosing rules) (g : Geometry) (fit : Fits g) wh
     unfolding writeBy putBlocks writeChange
     write-stands head blocks bytes allowance =
         commit-stands s m size disk stands head (writeChange blocks bytes) (sectorAt bytes) (eqb (length bytes) (512 * length blocks)) (roomFor s m blocks)
-        (λ tail number q settled unparked c.
+        (λ drive tail number q settled unparked c.
         record {
           fit = fit;
+          drive = c .drive;
           settled = settled;
           unparked = unparked;
           inside = c .named .inside;
@@ -117,7 +120,7 @@ module _ (rules : Rules) (law : Choosing rules) (g : Geometry) (fit : Fits g) wh
           back = λ i k h low high. restored-stored (sectorAt bytes i) k low high;
           gone = λ i k h b. absurd (omega arith);
           emptied = λ i h b. absurd (omega arith);
-          room = room-fits blocks tail number q (c .room);
+          room = room-fits blocks drive tail number q (c .room);
           numbers = c .numbers;
         })
         allowance
@@ -127,9 +130,10 @@ module _ (rules : Rules) (law : Choosing rules) (g : Geometry) (fit : Fits g) wh
     unfolding dropBy putBlocks dropChange
     drop-stands head blocks allowance =
         commit-stands s m size disk stands head (dropChange blocks) (λ _. blank) true true
-        (λ tail number q settled unparked c.
+        (λ drive tail number q settled unparked c.
         record {
           fit = fit;
+          drive = c .drive;
           settled = settled;
           unparked = unparked;
           inside = c .named .inside;
@@ -198,24 +202,24 @@ module _ (g : Geometry) (fit : Fits g) (s : State) (m : Memory) (size : Sized g 
   unfolding parkChecks applies
   park-running e = not-false (isRunning (s .phase)) (cleared WrongPhase _ e)
 
-  park-performed : (tail number allowance : ℕ) → Settled g (m .image) (m .tables) tail number disk
-      → Stays g (performed allowance (parkAction (freshState g tail number) m) m) disk
+  park-performed : (drive : Drive) (tail number allowance : ℕ) → Settled g (m .image) (m .tables) tail number disk
+      → Stays g (performed allowance (parkAction (freshState g drive tail number) m) m) disk
   unfolding parkAction applied
-  park-performed tail number zero settled =
-      subst (λ (r : After). Stays g r disk) (sym (performed-cut 0 (parkAction (freshState g tail number) m) m (omega arith)))
+  park-performed drive tail number zero settled =
+      subst (λ (r : After). Stays g r disk) (sym (performed-cut 0 (parkAction (freshState g drive tail number) m) m (omega arith)))
       (record { stands = cut refl (m .tables) tail number (settled .committed); sized = sized-with g m (m .image) (m .tables) size })
-  park-performed tail number (suc allowance) settled =
-      subst (λ (r : After). Stays g r disk) (sym (performed-whole (suc allowance) (parkAction (freshState g tail number) m) m (omega arith)))
+  park-performed drive tail number (suc allowance) settled =
+      subst (λ (r : After). Stays g r disk) (sym (performed-whole (suc allowance) (parkAction (freshState g drive tail number) m) m (omega arith)))
       (record {
-        stands = parked tail number refl (parked-settles g fit (m .image) (m .tables) tail number disk settled);
+        stands = parked drive tail number refl (parked-settles g fit (m .image) (m .tables) tail number disk settled);
         sized = sized-with g m (parkImage g fit (m .image) (m .tables) tail number disk settled) (m .tables) size;
       })
 
   park-passed : (allowance : ℕ) → judged (parkChecks s m) ≡ Pass → Standing g (record { state = s; memory = m }) disk
       → Stays g (performed allowance (parkAction s m) m) disk
-  park-passed allowance e (running tail number q settled unparked) =
-      subst (λ (x : State). Stays g (performed allowance (parkAction x m) m) disk) (sym q) (park-performed tail number allowance settled)
-  park-passed allowance e (parked tail number q settled) =
+  park-passed allowance e (running drive tail number q settled unparked) =
+      subst (λ (x : State). Stays g (performed allowance (parkAction x m) m) disk) (sym q) (park-performed drive tail number allowance settled)
+  park-passed allowance e (parked drive tail number q settled) =
       absurd (true≢false (sym (park-running e) ∙ ap (λ (x : State). isRunning (x .phase)) q))
   park-passed allowance e (cut q t tail number committed) = absurd (true≢false (sym (park-running e) ∙ ap isRunning q))
 
@@ -228,19 +232,19 @@ module _ (g : Geometry) (fit : Fits g) (s : State) (m : Memory) (size : Sized g 
   -- Some tables are committed, however the volume stands.
   pub committed-some : Standing g (record { state = s; memory = m }) disk
       → (t : Tables) × (tail : ℕ) × (number : ℕ) × Committed g (m .image) t tail number disk
-  committed-some (running tail number q settled unparked) = (m .tables, tail, number, settled .committed)
-  committed-some (parked tail number q settled) = (m .tables, tail, number, settled .committed)
+  committed-some (running drive tail number q settled unparked) = (m .tables, tail, number, settled .committed)
+  committed-some (parked drive tail number q settled) = (m .tables, tail, number, settled .committed)
   committed-some (cut q t tail number committed) = (t, tail, number, committed)
 
   pub sectors-is : sectorsIn m ≡ g .n
   sectors-is = ap (λ (x : ℕ). x / 512) (size .image) ∙ (let q : 512 * g .n / 512 ≡ g .n = omega arith in q)
 
-  recovery-performed : (t : Tables) (tail number allowance : ℕ) → Finds g (m .image) t tail number disk
-      → Stays g (recovered g allowance m (findingOf g (imageView g (m .image)) (m .image 0))) disk
+  recovery-performed : (drive : Drive) (t : Tables) (tail number allowance : ℕ) → Finds g (m .image) t tail number disk
+      → Stays g (recovered g drive allowance m (findingOf g (imageView g (m .image)) (m .image 0))) disk
   unfolding recovered
-  recovery-performed t tail number allowance f =
+  recovery-performed drive t tail number allowance f =
       let log : Log = record { tables = t; tail = tail; number = number } in
-      let action = recoveryAction g log (f .answer) (f .stores) in
+      let action = recoveryAction g drive log (f .answer) (f .stores) in
       rw (f .finding)
       (⊎-elim (λ (h : allowance < length (f .stores)).
       subst (λ (r : After). Stays g r disk) (sym (performed-cut allowance action m h))
@@ -250,17 +254,17 @@ module _ (g : Geometry) (fit : Fits g) (s : State) (m : Memory) (size : Sized g 
       }))
       (λ (h : length (f .stores) ≤ allowance).
       subst (λ (r : After). Stays g r disk) (sym (performed-whole allowance action m h))
-      (record { stands = running tail number refl (f .whole) (f .blanks); sized = sized-with g m (applied (f .stores) (m .image)) t size }))
+      (record { stands = running drive tail number refl (f .whole) (f .blanks); sized = sized-with g m (applied (f .stores) (m .image)) t size }))
       (lt? allowance (length (f .stores))))
 
-  pub recover-stays : (allowance : ℕ) → Stays g (recoverOf s m (settingsOf g) allowance) disk
+  pub recover-stays : (drive : Drive) (allowance : ℕ) → Stays g (recoverOf s m (settingsOf g drive) allowance) disk
   unfolding recoverOf
-  recover-stays allowance =
+  recover-stays drive allowance =
       let c = committed-some stands in
-      ⊎-elim (λ (e : judged (sizeChecks m (settingsOf g)) ≡ Pass).
+      ⊎-elim (λ (e : judged (sizeChecks m (settingsOf g drive)) ≡ Pass).
       rw (e, sectors-is)
-      (recovery-performed (c .0) (c .1) (c .2) allowance (recovers g (m .image) (c .0) (c .1) (c .2) disk fit (c .3))))
-      (λ v. rw (v .1) (refused-stays g s m (v .0) disk size stands)) (verdict? (judged (sizeChecks m (settingsOf g))))
+      (recovery-performed drive (c .0) (c .1) (c .2) allowance (recovers g (m .image) (c .0) (c .1) (c .2) disk fit (c .3))))
+      (λ v. rw (v .1) (refused-stays g s m (v .0) disk size stands)) (verdict? (judged (sizeChecks m (settingsOf g drive))))
 
   -- Reads.
 
@@ -290,9 +294,9 @@ module _ (g : Geometry) (fit : Fits g) (s : State) (m : Memory) (size : Sized g 
   )
 
   readable-block : (b : ℕ) → (isReadable (s .phase) ≡ true) × (b < s .geometry .l) → Standing g (record { state = s; memory = m }) disk → blockOf m b ≡ disk b
-  readable-block b r (running tail number q settled unparked) =
+  readable-block b r (running drive tail number q settled unparked) =
       block-is (m .tables) tail number settled refl b (subst (λ (x : State). b < x .geometry .l) q (r .1))
-  readable-block b r (parked tail number q settled) =
+  readable-block b r (parked drive tail number q settled) =
       block-is (m .tables) tail number settled refl b (subst (λ (x : State). b < x .geometry .l) q (r .1))
   readable-block b r (cut q t tail number committed) = absurd (true≢false (sym (r .0) ∙ ap isReadable q))
 
@@ -306,9 +310,9 @@ module _ (g : Geometry) (fit : Fits g) (s : State) (m : Memory) (size : Sized g 
       (λ v. clash (accepted (refused (v .0) s m)) (rw (v .1) at a) (refused-not (v .0) s m))
       (verdict? (judged (readChecks s m b (length out))))
 
--- A read of a running volume with its lengths right is accepted.
-module _ (g : Geometry) (fit : Fits g) (m : Memory) (size : Sized g m) (tail number : ℕ) (disk : Disk)
-    (settled : Settled g (m .image) (m .tables) tail number disk) where
+-- A read of a running volume with its lengths right and a drive that holds its sectors is accepted.
+module _ (g : Geometry) (fit : Fits g) (m : Memory) (size : Sized g m) (drive : Drive) (holds : driveFits (g .n) drive ≡ true)
+    (tail number : ℕ) (disk : Disk) (settled : Settled g (m .image) (m .tables) tail number disk) where
   entry-readable : (b : ℕ) → b < g .l → entryReadable (g .n) (m .tables .entry b) ≡ true
   unfolding entryReadable
   entry-readable b h =
@@ -319,12 +323,12 @@ module _ (g : Geometry) (fit : Fits g) (m : Memory) (size : Sized g m) (tail num
       (within-is 1 (g .n - 1) (sectorOf (m .tables .entry b)) (sound .low (block b) (h, z)) (sound .high (block b) (h, z))))
       (bool? (isEmpty (m .tables .entry b)))
 
-  state-fits : stateFits (freshState g tail number) m ≡ true
+  state-fits : stateFits (freshState g drive tail number) m ≡ true
   unfolding stateFits
   state-fits =
       rw (eq-eqb (m .lengths .image) (512 * g .n) (size .image), within-is 1 24576 (g .l) (fit .some) (fit .most))
       (within-is (2 * piecesFor (g .l) + 2) 65536 (g .n) (fit .least) (fit .sectors))
 
-  pub read-passes : (b : ℕ) (out : List ℕ) → b < g .l → length out ≡ 512 → judged (readChecks (freshState g tail number) m b (length out)) ≡ Pass
+  pub read-passes : (b : ℕ) (out : List ℕ) → b < g .l → length out ≡ 512 → judged (readChecks (freshState g drive tail number) m b (length out)) ≡ Pass
   unfolding readChecks judged firstOf applies
-  read-passes b out h len = rw (state-fits, size .tables, eq-eqb (length out) 512 len, lt-ltb b (g .l) h, entry-readable b h) refl
+  read-passes b out h len = rw (state-fits, holds, size .tables, eq-eqb (length out) 512 len, lt-ltb b (g .l) h, entry-readable b h) refl

@@ -10,8 +10,9 @@ use native.Mathlib.Omega.{arith}
 use lib.ListN.{length, take}
 use lib.Seq.{take-all, length-take-le}
 use Rattle.geometry.specs.declared.Geometry.{Geometry}
+use Rattle.geometry.specs.declared.Drive.{Drive}
 use Rattle.geometry.specs.declared.Settings.{Settings}
-use Rattle.geometry.specs.Geometry.{piecesFor}
+use Rattle.geometry.specs.Geometry.{piecesFor, settingsOf}
 use Rattle.state.specs.declared.State.{State}
 use Rattle.answer.specs.declared.Cost.{Cost}
 use Rattle.answer.specs.declared.Answer.{Answer}
@@ -28,7 +29,7 @@ use Rattle.volume.specs.Tables.{Memory}
 use Rattle.volume.specs.Refusals.{judged}
 use Rattle.volume.specs.Store.{Store, After, Action, applied, performed, unlessRefused}
 use Rattle.volume.specs.Format.{volumeIn, sizeChecks, formatStores, formatAction, formatOf}
-use Rattle.volume.specs.Placing.{Rules}
+use Rattle.volume.specs.Rules.{Rules}
 use Rattle.volume.specs.Commit.{Change, planAction, commitAction}
 use Rattle.volume.specs.Calls.{viewOf, commitChecks, commitOf, writeBy, dropBy, readChecks, readJudged, readOf, parkChecks, parkAction, parkOf}
 use Rattle.volume.specs.Recover.{Log, Finding, found, missing, branchCount, isBlank, parkSectorCleared, walkedLog, walkComplete, walkFinding, closedUpTo, scannedLog, scanDamaged, scanStores, scanFinding}
@@ -109,12 +110,12 @@ finding-charges g view sector0 (some parked) =
     let p = scan-charges g view sector0 in
     either-charges (walkStarts (g .n) parked (view (parked .tail))) (walkFinding g view sector0 log scan) scan (walk-charges g view sector0 log scan p) p
 
-recovered-there : (g : Geometry) (allowance : ℕ) (m : Memory) (f : Finding) → Charges f
-    → CutThere allowance (storesIn f) m (recovered g allowance m f)
+recovered-there : (g : Geometry) (drive : Drive) (allowance : ℕ) (m : Memory) (f : Finding) → Charges f
+    → CutThere allowance (storesIn f) m (recovered g drive allowance m f)
 unfolding recovered storesIn applied
-recovered-there g allowance m (found log answer stores) (charged p) =
-    performed-there allowance (recoveryAction g log answer stores) m (λ k. refl) p
-recovered-there g allowance m (missing loss) lost =
+recovered-there g drive allowance m (found log answer stores) (charged p) =
+    performed-there allowance (recoveryAction g drive log answer stores) m (λ k. refl) p
+recovered-there g drive allowance m (missing loss) lost =
     let none-made : take {A = Store} allowance [] ≡ [] = take-all {A = Store} allowance [] (omega arith) in
     record {
       counts = ap length (sym none-made);
@@ -136,25 +137,26 @@ read-there Pass s m block out = record { counts = refl; makes = refl }
 read-there (Refuse r) s m block out = record { counts = refl; makes = refl }
 
 -- Of every call of a history.
-pub cut-there : (rules : Rules) (settings : Settings) (w : World) (call : Call)
-    → isRefusal (made rules settings w call .outcome .answer) ≡ false
-    → CutThere (allowed call) (listed rules settings w call) (w .memory) (made rules settings w call)
+pub cut-there : (rules : Rules) (g : Geometry) (w : World) (call : Call)
+    → isRefusal (made rules g w call .outcome .answer) ≡ false
+    → CutThere (allowed call) (listed rules g w call) (w .memory) (made rules g w call)
 unfolding made listed allowed writeBy dropBy readOf parkOf parkAction recoverOf
-cut-there rules settings w (write head blocks bytes allowance) e = commit-there rules (w .state) (w .memory) head _ _ _ allowance e
-cut-there rules settings w (drop head blocks allowance) e = commit-there rules (w .state) (w .memory) head _ _ _ allowance e
-cut-there rules settings w (read block out) e = read-there (judged (readChecks (w .state) (w .memory) block (length out))) (w .state) (w .memory) block out
-cut-there rules settings w (park allowance) e =
+cut-there rules g w (write head blocks bytes allowance) e = commit-there rules (w .state) (w .memory) head _ _ _ allowance e
+cut-there rules g w (drop head blocks allowance) e = commit-there rules (w .state) (w .memory) head _ _ _ allowance e
+cut-there rules g w (read block out) e = read-there (judged (readChecks (w .state) (w .memory) block (length out))) (w .state) (w .memory) block out
+cut-there rules g w (park allowance) e =
     unless-there (judged (parkChecks (w .state) (w .memory))) (w .state) (w .memory) _ allowance _
     (performed-there allowance (parkAction (w .state) (w .memory)) (w .memory) (λ k. refl) (λ c. refl)) e
-cut-there rules settings w (recover allowance) e =
-    let g = volumeIn (w .memory) settings in
-    let view = imageView g (w .memory .image) in
+cut-there rules g w (recover drive allowance) e =
+    let settings = settingsOf g drive in
+    let volume = volumeIn (w .memory) settings in
+    let view = imageView volume (w .memory .image) in
     unless-there (judged (sizeChecks (w .memory) settings)) (w .state) (w .memory) _ allowance _
-    (recovered-there g allowance (w .memory) (findingOf g view (w .memory .image 0)) (finding-charges g view (w .memory .image 0) (parkedIn (w .memory .image 0)))) e
+    (recovered-there volume drive allowance (w .memory) (findingOf volume view (w .memory .image 0)) (finding-charges volume view (w .memory .image 0) (parkedIn (w .memory .image 0)))) e
 
 -- And of a format.
 pub format-there : (s : State) (m : Memory) (settings : Settings) (allowance : ℕ) → isRefusal (formatOf s m settings allowance .outcome .answer) ≡ false
     → CutThere allowance (formatStores (volumeIn m settings)) m (formatOf s m settings allowance)
 unfolding formatOf formatAction
 format-there s m settings allowance e =
-    unless-there (judged (sizeChecks m settings)) s m _ allowance _ (performed-there allowance (formatAction (volumeIn m settings)) m (λ k. refl) (λ c. refl)) e
+    unless-there (judged (sizeChecks m settings)) s m _ allowance _ (performed-there allowance (formatAction (volumeIn m settings) (settings .drive)) m (λ k. refl) (λ c. refl)) e

@@ -1,13 +1,15 @@
--- Demand 3, in one piece. For every N and L in range, any bytes the image, the tables and the state held before, a format that was
--- accepted, and every list of writes, drops, reads, parks and recoveries with any arguments and allowances, each of which gets
--- image, tables and state as the last one left them, refused and cut ones too:
+-- Demand 3, in one piece. For every N, L and drive in range, any bytes the image, the tables and the state held before, a format that
+-- was accepted, and every list of writes, drops, reads, parks and recoveries with any arguments, drives and allowances, each of which
+-- gets image, tables and state as the last one left them, refused and cut ones too:
 --   (a) each accepted read in the list gives its block as the plain disk then has it;
 --   (b) after each accepted commit the used map marks sector 0 and the live sectors and no other, so all it superseded is free, and
 --       from the tail, branch by branch to lower numbers, through live map sectors alone, each live map sector is reached;
---   (c) after the list, whatever tables and state then hold, a recovery of the image with that L and enough stores for its list is
---       accepted, and a read of each block below L, given what that recovery left, is accepted and gives the plain disk's block.
--- `Faithful` (specs/History) says this of a list. It is shown for any choice of place that answers a free sector whenever there is
--- one, any branch limit from 1 to 24 and any greatest number that leaves 256; the base is an instance.
+--   (c) after the list, whatever tables and state then hold, a recovery of the image with that L, any drive that holds the sectors and
+--       enough stores for its list is accepted, and a read of each block below L, given what that recovery left, is accepted and gives
+--       the plain disk's block.
+-- `Faithful` (specs/History) says this of a list. It is shown for any choice of place that, on every drive that holds the sectors,
+-- answers a free sector whenever there is one, any branch limit from 1 to 24 and any greatest number that leaves 256; the base is an
+-- instance.
 use Prim.Native.Nat.{ℕ, _+_, _*_, _/_, _%_, _≤_, _<_}
 use mathlib.Core.Path.{_≡_, refl, sym, _∙_, ap, subst}
 use mathlib.Core.Logic.{⊎-elim}
@@ -17,11 +19,12 @@ use native.Mathlib.Omega.{arith}
 use lib.ListN.{length}
 use borrow.Author.Tests.{eqb-true, eq-eqb}
 use Rattle.geometry.specs.declared.Geometry.{Geometry}
+use Rattle.geometry.specs.declared.Drive.{Drive}
 use Rattle.geometry.specs.declared.Settings.{Settings}
 use Rattle.state.specs.declared.State.{State}
 use Rattle.answer.specs.declared.Refusal.the-variants.{Size, BufferLength}
 use Rattle.answer.specs.declared.Verdict.the-variants.{Pass}
-use Rattle.geometry.specs.Geometry.{piecesFor, settingsOf, geometryFits}
+use Rattle.geometry.specs.Geometry.{piecesFor, settingsOf, geometryFits, driveFits}
 use Rattle.state.specs.State.{freshState}
 use Rattle.answer.specs.Answer.{storesAlone, numberOf}
 use Rattle.layout.specs.Bounded.{isZero}
@@ -29,7 +32,7 @@ use Rattle.volume.specs.Tables.{Tables, Memory}
 use Rattle.volume.specs.Refusals.{applies, firstOf, judged}
 use Rattle.volume.specs.Store.{After, applied, performed, refused, memoryWith, after}
 use Rattle.volume.specs.Format.{sectorsIn, volumeIn, imageFits, tablesFit, sizeChecks, formatStores, formatTables, formatAction, formatOf}
-use Rattle.volume.specs.Placing.{Rules, base}
+use Rattle.volume.specs.Rules.{Rules, base}
 use Rattle.volume.specs.Calls.{readOf, readJudged}
 use Rattle.volume.specs.Recover.{Log, recoveryAction, recovered, recoverOf}
 use Rattle.history.specs.History.{Call, write, drop, read, park, recover, World, made, worldOf, accepted, Disk, zeroDisk, diskAfter, Kept, storesIn, recoveryStores, Recovers, Faithful}
@@ -44,14 +47,15 @@ use Rattle.laws.proofs.Judged.{verdict?, cleared, not-false, performed-cut, per
 use Rattle.history.proofs.Steps.{refused-not, Standing, running, Sized, sized-with}
 use Rattle.history.proofs.Calls.{write-stands, drop-stands, park-stays, committed-some, recover-stays, read-world, block-is, read-gives, read-passes}
 
--- Where the lengths are right, neither 1 nor 2 applies to a recovery.
-size-passes : (g : Geometry) (m : Memory) → Fits g → Sized g m → judged (sizeChecks m (settingsOf g)) ≡ Pass
+-- Where the lengths are right and the drive holds the sectors, none of 1, 11 and 2 applies to a recovery.
+size-passes : (g : Geometry) (drive : Drive) (m : Memory) → Fits g → driveFits (g .n) drive ≡ true → Sized g m
+    → judged (sizeChecks m (settingsOf g drive)) ≡ Pass
 unfolding sizeChecks imageFits judged firstOf applies
-size-passes g m fit size =
+size-passes g drive m fit holds size =
     let whole : isZero (m .lengths .image % 512) ≡ true =
     eq-eqb (m .lengths .image % 512) 0 (ap (λ (x : ℕ). x % 512) (size .image) ∙ (let q : 512 * g .n % 512 ≡ 0 = omega arith in q)) in
     let at : sectorsIn m ≡ g .n = ap (λ (x : ℕ). x / 512) (size .image) ∙ (let q : 512 * g .n / 512 ≡ g .n = omega arith in q) in
-    rw (whole, at, within-is 1 24576 (g .l) (fit .some) (fit .most), within-is (2 * piecesFor (g .l) + 2) 65536 (g .n) (fit .least) (fit .sectors), size .tables) refl
+    rw (whole, at, within-is 1 24576 (g .l) (fit .some) (fit .most), within-is (2 * piecesFor (g .l) + 2) 65536 (g .n) (fit .least) (fit .sectors), holds, size .tables) refl
 
 -- (c): what any list leaves recovers.
 module _ (g : Geometry) (fit : Fits g) (m : Memory) (size : Sized g m)
@@ -59,41 +63,42 @@ module _ (g : Geometry) (fit : Fits g) (m : Memory) (size : Sized g m)
   finds : Finds g (m .image) t0 tail number disk
   finds = recovers g (m .image) t0 tail number disk fit c
 
-  abbrev left : After
-  left =
-      after (record { answer = (finds .answer) (storesAlone (length (finds .stores))); state = freshState g tail number })
+  abbrev left : Drive → After
+  left drive =
+      after (record { answer = (finds .answer) (storesAlone (length (finds .stores))); state = freshState g drive tail number })
       (memoryWith m (applied (finds .stores) (m .image)) t0)
 
   needed : length (recoveryStores g (m .image)) ≡ length (finds .stores)
   unfolding storesIn
   needed = ap (λ f. length (storesIn f)) (finds .finding)
 
-  recovery-is : (s : State) (t : Tables) (allowance : ℕ) → length (recoveryStores g (m .image)) ≤ allowance
-      → recoverOf s (memoryWith m (m .image) t) (settingsOf g) allowance ≡ left
+  recovery-is : (drive : Drive) → driveFits (g .n) drive ≡ true → (s : State) (t : Tables) (allowance : ℕ)
+      → length (recoveryStores g (m .image)) ≤ allowance
+      → recoverOf s (memoryWith m (m .image) t) (settingsOf g drive) allowance ≡ left drive
   unfolding recoverOf recovered
-  recovery-is s t allowance h =
+  recovery-is drive holds s t allowance h =
       let log : Log = record { tables = t0; tail = tail; number = number } in
       let at : sectorsIn (memoryWith m (m .image) t) ≡ g .n =
       ap (λ (x : ℕ). x / 512) (size .image) ∙ (let q : 512 * g .n / 512 ≡ g .n = omega arith in q) in
       let e = needed in
-      rw (size-passes g (memoryWith m (m .image) t) fit (sized-with g m (m .image) t size), at, finds .finding)
-      (performed-whole allowance (recoveryAction g log (finds .answer) (finds .stores)) (memoryWith m (m .image) t) (omega arith))
+      rw (size-passes g drive (memoryWith m (m .image) t) fit holds (sized-with g m (m .image) t size), at, finds .finding)
+      (performed-whole allowance (recoveryAction g drive log (finds .answer) (finds .stores)) (memoryWith m (m .image) t) (omega arith))
 
-  read-is : (b : ℕ) (out : List ℕ) → b < g .l → length out ≡ 512
-      → (numberOf (readOf (left .outcome .state) (left .memory) b out .outcome .answer) ≡ 0) × (readOf (left .outcome .state) (left .memory) b out .out ≡ disk b)
+  read-is : (drive : Drive) → driveFits (g .n) drive ≡ true → (b : ℕ) (out : List ℕ) → b < g .l → length out ≡ 512
+      → (numberOf (readOf (left drive .outcome .state) (left drive .memory) b out .outcome .answer) ≡ 0) × (readOf (left drive .outcome .state) (left drive .memory) b out .out ≡ disk b)
   unfolding readOf readJudged
-  read-is b out h len =
+  read-is drive holds b out h len =
       let w = finds .whole in
       let z = sized-with g m (applied (finds .stores) (m .image)) t0 size in
-      let p = read-passes g fit (left .memory) z tail number disk w b out h len in
-      let stands = running tail number refl w (finds .blanks) in
-      rw p (refl, block-is g fit (freshState g tail number) (left .memory) z disk stands t0 tail number w refl b h)
+      let p = read-passes g fit (left drive .memory) z drive holds tail number disk w b out h len in
+      let stands = running drive tail number refl w (finds .blanks) in
+      rw p (refl, block-is g fit (freshState g drive tail number) (left drive .memory) z disk stands t0 tail number w refl b h)
 
   recovers-all : Recovers g m disk
   recovers-all =
       record {
-        accepts = λ s t allowance h. rw (recovery-is s t allowance h, finds .accepts (storesAlone (length (finds .stores)))) refl;
-        reads = λ s t allowance h b out i len. rw (recovery-is s t allowance h) (read-is b out i len);
+        accepts = λ drive holds s t allowance h. rw (recovery-is drive holds s t allowance h, finds .accepts (storesAlone (length (finds .stores)))) refl;
+        reads = λ drive holds s t allowance h b out i len. rw (recovery-is drive holds s t allowance h) (read-is drive holds b out i len);
       }
 
 module _ (rules : Rules) (law : Choosing rules) (g : Geometry) (fit : Fits g) where
@@ -117,8 +122,8 @@ module _ (rules : Rules) (law : Choosing rules) (g : Geometry) (fit : Fits g) wh
   faithful (park allowance ∷ calls) w disk size stands =
       let step = park-stays g fit (w .state) (w .memory) size disk stands allowance in
       (tt, faithful calls _ _ (step .sized) (step .stands))
-  faithful (recover allowance ∷ calls) w disk size stands =
-      let step = recover-stays g fit (w .state) (w .memory) size disk stands allowance in
+  faithful (recover drive allowance ∷ calls) w disk size stands =
+      let step = recover-stays g fit (w .state) (w .memory) size disk stands drive allowance in
       (tt, faithful calls _ _ (step .sized) (step .stands))
 
 -- An accepted format.
@@ -146,7 +151,7 @@ module _ (s : State) (m : Memory) (settings : Settings) (allowance : ℕ) (ok : 
         tables = not-false (tablesFit m (volumeIn m settings)) (cleared BufferLength _ format-passes);
       }
 
-  performs : formatOf s m settings allowance ≡ performed allowance (formatAction (volumeIn m settings)) m
+  performs : formatOf s m settings allowance ≡ performed allowance (formatAction (volumeIn m settings) (settings .drive)) m
   unfolding formatOf
   performs = rw format-passes refl
 
@@ -154,15 +159,15 @@ module _ (s : State) (m : Memory) (settings : Settings) (allowance : ℕ) (ok : 
   unfolding formatAction
   enough =
       ⊎-elim (λ (h : allowance < length (formatStores (volumeIn m settings))).
-      absurd (true≢false (sym (rw (performs, performed-cut allowance (formatAction (volumeIn m settings)) m h) at ok))))
+      absurd (true≢false (sym (rw (performs, performed-cut allowance (formatAction (volumeIn m settings) (settings .drive)) m h) at ok))))
       (λ h. h) (lt? allowance (length (formatStores (volumeIn m settings))))
 
   format-world : Standing (volumeIn m settings) (worldOf (formatOf s m settings allowance)) zeroDisk × Sized (volumeIn m settings) (formatOf s m settings allowance .memory)
   unfolding formatAction
   format-world =
       let fit = fits (volumeIn m settings) format-fits in
-      rw (performs, performed-whole allowance (formatAction (volumeIn m settings)) m enough) (
-        running (piecesFor (settings .l)) (piecesFor (settings .l)) refl (format-settles (volumeIn m settings) fit (m .image)) (blank-0 (volumeIn m settings) fit (m .image)),
+      rw (performs, performed-whole allowance (formatAction (volumeIn m settings) (settings .drive)) m enough) (
+        running (settings .drive) (piecesFor (settings .l)) (piecesFor (settings .l)) refl (format-settles (volumeIn m settings) fit (m .image)) (blank-0 (volumeIn m settings) fit (m .image)),
         sized-with (volumeIn m settings) m (applied (formatStores (volumeIn m settings)) (m .image)) (formatTables (settings .l)) format-sized,
       )
 
@@ -174,7 +179,7 @@ histories rules law s m settings allowance ok calls =
     let w = format-world s m settings allowance ok in
     faithful rules law (volumeIn m settings) fit calls (worldOf (formatOf s m settings allowance)) zeroDisk (w .1) (w .0)
 
--- The base: the search of document 01, 24 branches, and 256 numbers left.
+-- The base: the choice of least delay, 24 branches, and 256 numbers left.
 pub base-histories : (s : State) (m : Memory) (settings : Settings) (allowance : ℕ) → accepted (formatOf s m settings allowance) ≡ true
     → (calls : List Call) → Faithful base (volumeIn m settings) calls (worldOf (formatOf s m settings allowance)) zeroDisk
 base-histories = histories base base-chooses

@@ -10,25 +10,27 @@ use lib.ListN.{length}
 use lib.Dec.{eqb}
 use borrow.Author.Tests.{eq-eqb}
 use Rattle.state.specs.declared.State.{State}
-use Rattle.geometry.specs.Geometry.{piecesFor, pieceOf}
+use Rattle.geometry.specs.Geometry.{piecesFor, pieceOf, driveFits}
 use Rattle.layout.specs.Bounded.{at, countBelow, elem}
 use Rattle.layout.specs.MapSector.{decoded}
 use Rattle.layout.specs.Entry.{blank, isEmpty, sectorOf, restored}
 use Rattle.volume.specs.Tables.{Tables, namedBy, usedBy, freeSectors}
-use Rattle.volume.specs.Placing.{Rules, placeOf}
+use Rattle.tracks.specs.Placing.{Choice, placeOf}
+use Rattle.volume.specs.Rules.{Rules}
 use Rattle.volume.specs.Commit.{Change, Plan, touches, branchesFor, planned, rank, memberPlace}
 use Rattle.volume.specs.Calls.{viewOf}
 use Rattle.history.specs.History.{Disk}
 use Rattle.laws.proofs.Bounded.{lt?, clash, or-r, tabled-at, tabled-past, listFrom-at, anyBelow-is, count-le, count-before}
 use Rattle.laws.proofs.Names.{Name, Named, sectorNamed, named-elem}
-use Rattle.laws.proofs.Placing.{Choosing, place-below, place-free, place-low, place-apart}
+use Rattle.laws.proofs.Placing.{Chooses, Choosing, place-below, place-free, place-low, place-apart}
 use Rattle.laws.proofs.Sizes.{Fits}
 use Rattle.history.proofs.Invariant.{Settled}
 
--- What a commit starts from: a running volume, a change that names blocks once, stores `dataSectors` blocks and empties the
--- others, room, and numbers enough. `after` is what the plain disk then has in the named blocks.
+-- What a commit starts from: a running volume on a drive that holds its sectors, a change that names blocks once, stores
+-- `dataSectors` blocks and empties the others, room, and numbers enough. `after` is what the plain disk then has in the named blocks.
 pub record Given (rules : Rules) (s : State) (t : Tables) (image : ℕ → List ℕ) (disk : Disk) (head : ℕ) (change : Change) (after : ℕ → List ℕ) : Type 0 where
   pub fit : Fits (s .geometry)
+  pub drive : driveFits (s .geometry .n) (s .drive) ≡ true
   pub settled : Settled (s .geometry) image t (s .tail) (s .number) disk
   pub unparked : image 0 ≡ blank
   pub inside : head < s .geometry .n
@@ -132,39 +134,42 @@ module _ (g : Start) where
   unfolding usedBy
   used0 = given .settled .committed .ground .used-all 0 ∙ refl
 
-  two : 1 < s .geometry .n
-  two = let f = given .fit .least in omega arith
+  abbrev choice : Choice
+  choice = (rules .placing) (s .drive)
 
-  pub place-is : (j : ℕ) → j < change .dataSectors + plan .members → at (plan .places) j ≡ placeOf rules (s .geometry .n) (t .isUsed) head j
+  chooses : Chooses (s .geometry .n) choice
+  chooses = law .places (s .geometry .n) (s .drive) (given .drive)
+
+  pub place-is : (j : ℕ) → j < change .dataSectors + plan .members → at (plan .places) j ≡ placeOf choice (s .geometry .n) (t .isUsed) head j
   unfolding plan planned
   place-is j h =
-      listFrom-at (placeOf rules (s .geometry .n) (t .isUsed) head) 0 (change .dataSectors + plan .members) j 0 h
-      ∙ ap (placeOf rules (s .geometry .n) (t .isUsed) head) (omega arith)
+      listFrom-at (placeOf choice (s .geometry .n) (t .isUsed) head) 0 (change .dataSectors + plan .members) j 0 h
+      ∙ ap (placeOf choice (s .geometry .n) (t .isUsed) head) (omega arith)
 
   pub at-below : (j : ℕ) → j < change .dataSectors + plan .members → at (plan .places) j < s .geometry .n
   at-below j h =
       rw (place-is j h)
-      (place-below rules law (s .geometry .n) two (t .isUsed) used0 head (given .inside) (change .dataSectors + plan .members) enough j h)
+      (place-below choice (s .geometry .n) chooses (t .isUsed) used0 head (given .inside) (change .dataSectors + plan .members) enough j h)
 
   pub at-free : (j : ℕ) → j < change .dataSectors + plan .members → t .isUsed (at (plan .places) j) ≡ false
   at-free j h =
       rw (place-is j h)
-      (place-free rules law (s .geometry .n) two (t .isUsed) used0 head (given .inside) (change .dataSectors + plan .members) enough j h)
+      (place-free choice (s .geometry .n) chooses (t .isUsed) used0 head (given .inside) (change .dataSectors + plan .members) enough j h)
 
   pub at-low : (j : ℕ) → j < change .dataSectors + plan .members → 1 ≤ at (plan .places) j
   at-low j h =
       rw (place-is j h)
-      (place-low rules law (s .geometry .n) two (t .isUsed) used0 head (given .inside) (change .dataSectors + plan .members) enough j h)
+      (place-low choice (s .geometry .n) chooses (t .isUsed) used0 head (given .inside) (change .dataSectors + plan .members) enough j h)
 
   pub at-once : (i j : ℕ) → i < change .dataSectors + plan .members → j < change .dataSectors + plan .members
       → at (plan .places) i ≡ at (plan .places) j → i ≡ j
   at-once i j g h e =
       let q = sym (place-is i g) ∙ e ∙ place-is j h in
       ⊎-elim (λ (y : i < j).
-      absurd (place-apart rules law (s .geometry .n) two (t .isUsed) used0 head (given .inside) (change .dataSectors + plan .members) enough i j y h q))
+      absurd (place-apart choice (s .geometry .n) chooses (t .isUsed) used0 head (given .inside) (change .dataSectors + plan .members) enough i j y h q))
       (λ (y : j ≤ i).
       ⊎-elim (λ (w : j < i).
-      absurd (place-apart rules law (s .geometry .n) two (t .isUsed) used0 head (given .inside) (change .dataSectors + plan .members) enough j i w g (sym q)))
+      absurd (place-apart choice (s .geometry .n) chooses (t .isUsed) used0 head (given .inside) (change .dataSectors + plan .members) enough j i w g (sym q)))
       (λ (w : i ≤ j). omega arith) (lt? j i))
       (lt? i j)
 

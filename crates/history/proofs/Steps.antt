@@ -9,6 +9,7 @@ use lib.ListN.{length, take}
 use lib.Dec.{eqb}
 use borrow.Author.Tests.{ne-eqb}
 use Rattle.geometry.specs.declared.Geometry.{Geometry}
+use Rattle.geometry.specs.declared.Drive.{Drive}
 use Rattle.state.specs.declared.State.{State}
 use Rattle.state.specs.declared.Phase.the-variants.{Cut}
 use Rattle.answer.specs.declared.Refusal.{Refusal}
@@ -19,7 +20,7 @@ use Rattle.layout.specs.Entry.{blank}
 use Rattle.volume.specs.Tables.{Tables, Memory, namedBy, usedBy}
 use Rattle.volume.specs.Store.{After, Action, applied, performed, refused, memoryWith, after}
 use Rattle.volume.specs.Format.{tablesFit}
-use Rattle.volume.specs.Placing.{Rules}
+use Rattle.volume.specs.Rules.{Rules}
 use Rattle.volume.specs.Commit.{Change, planAction, commitAction}
 use Rattle.volume.specs.Calls.{viewOf}
 use Rattle.volume.specs.Recover.{imageView, newestClosing}
@@ -40,11 +41,11 @@ use Rattle.laws.proofs.Judged.{refusal-some, performed-cut, performed-whole}
 pub refused-not : (r : Refusal) (s : State) (m : Memory) → accepted (refused r s m) ≡ false
 refused-not r s m = refusal-some r
 
--- How a volume stands.
+-- How a volume stands, on whatever drive its format or its last recovery was given.
 pub data Standing (g : Geometry) (w : World) (disk : Disk) : Type 0 where
-  running : (tail number : ℕ) → w .state ≡ freshState g tail number
+  running : (drive : Drive) (tail number : ℕ) → w .state ≡ freshState g drive tail number
       → Settled g (w .memory .image) (w .memory .tables) tail number disk → w .memory .image 0 ≡ blank → Standing g w disk
-  parked : (tail number : ℕ) → w .state ≡ parkedState (freshState g tail number)
+  parked : (drive : Drive) (tail number : ℕ) → w .state ≡ parkedState (freshState g drive tail number)
       → Settled g (w .memory .image) (w .memory .tables) tail number disk → Standing g w disk
   cut : w .state .phase ≡ Cut → (t : Tables) (tail number : ℕ) → Committed g (w .memory .image) t tail number disk → Standing g w disk
 
@@ -87,10 +88,10 @@ pub record Step (g : Geometry) (m : Memory) (r : After) (disk disk′ : Disk) : 
   pub sized : Sized g (r .memory)
 
 -- A running volume.
-module _ (rules : Rules) (law : Choosing rules) (g : Geometry) (fit : Fits g) (m : Memory) (size : Sized g m) (tail number : ℕ) (disk : Disk)
+module _ (rules : Rules) (law : Choosing rules) (g : Geometry) (fit : Fits g) (m : Memory) (size : Sized g m) (drive : Drive) (tail number : ℕ) (disk : Disk)
     (settled : Settled g (m .image) (m .tables) tail number disk) (unparked : m .image 0 ≡ blank) where
   abbrev s0 : State
-  s0 = freshState g tail number
+  s0 = freshState g drive tail number
 
   module _ (head : ℕ) (change : Change) (values : ℕ → List ℕ) (given : Given rules s0 (m .tables) (m .image) disk head change values) where
     abbrev start : Start
@@ -146,7 +147,7 @@ module _ (rules : Rules) (law : Choosing rules) (g : Geometry) (fit : Fits g) (m
         subst (λ (r : After). Step g m r disk changed) (sym (performed-whole allowance action m h))
         (record {
           kept = λ e. commit-kept;
-          stands = running (tail′ start) (number′ start) refl (whole-commit start) (whole-blank start);
+          stands = running drive (tail′ start) (number′ start) refl (whole-commit start) (whole-blank start);
           sized = sized-with g m (image′ start) (tables′ start) size;
         })
 

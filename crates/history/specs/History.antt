@@ -6,41 +6,42 @@ use mathlib.Core.List.{List, [], _∷_}
 use mathlib.Core.Option.{some}
 use lib.ListN.{length}
 use Rattle.geometry.specs.declared.Geometry.{Geometry}
-use Rattle.geometry.specs.declared.Settings.{Settings}
+use Rattle.geometry.specs.declared.Drive.{Drive}
 use Rattle.state.specs.declared.State.{State}
-use Rattle.geometry.specs.Geometry.{piecesFor, settingsOf}
+use Rattle.geometry.specs.Geometry.{piecesFor, settingsOf, driveFits}
 use Rattle.answer.specs.Answer.{numberOf}
 use Rattle.layout.specs.Bounded.{at, elem, isZero, updates}
 use Rattle.layout.specs.MapSector.{MapSector, View}
 use Rattle.layout.specs.Entry.{blank}
 use Rattle.volume.specs.Tables.{Tables, Memory, sectorAt, namedBy, usedBy}
 use Rattle.volume.specs.Store.{Store, After, after, memoryWith}
-use Rattle.volume.specs.Placing.{Rules}
+use Rattle.volume.specs.Rules.{Rules}
 use Rattle.volume.specs.Calls.{writeBy, dropBy, readOf, parkOf}
 use Rattle.volume.specs.Recover.{Finding, found, missing, imageView, newestClosing, closedUpTo, scanPlace, scannedLog, findingOf, recoverOf}
 
 -- A call of a list with all its arguments, right or wrong: head, block numbers, bytes and allowance; a read's own bytes.
--- Recover gets the settings of the format.
+-- Recover gets the L of the format, and a drive of its own.
 pub data Call : Type 0 where
   write : ℕ → List ℕ → List ℕ → ℕ → Call
   drop : ℕ → List ℕ → ℕ → Call
   read : ℕ → List ℕ → Call
   park : ℕ → Call
-  recover : ℕ → Call
+  recover : Drive → ℕ → Call
 
 -- What one call hands on to the next: the state, the image and the tables.
 pub record World : Type 0 where
   pub state : State
   pub memory : Memory
 
-unfoldable pub made : Rules → Settings → World → Call → After
-made rules settings w (write head blocks bytes allowance) = writeBy rules (w .state) (w .memory) head blocks bytes allowance
-made rules settings w (drop head blocks allowance) = dropBy rules (w .state) (w .memory) head blocks allowance
-made rules settings w (read block out) =
+-- What a call does on a volume that was formatted as g: a recovery takes from g what it must be given as the format was.
+unfoldable pub made : Rules → Geometry → World → Call → After
+made rules g w (write head blocks bytes allowance) = writeBy rules (w .state) (w .memory) head blocks bytes allowance
+made rules g w (drop head blocks allowance) = dropBy rules (w .state) (w .memory) head blocks allowance
+made rules g w (read block out) =
     let r = readOf (w .state) (w .memory) block out in
     after (r .outcome) (r .memory)
-made rules settings w (park allowance) = parkOf (w .state) (w .memory) allowance
-made rules settings w (recover allowance) = recoverOf (w .state) (w .memory) settings allowance
+made rules g w (park allowance) = parkOf (w .state) (w .memory) allowance
+made rules g w (recover drive allowance) = recoverOf (w .state) (w .memory) (settingsOf g drive) allowance
 
 abbrev pub worldOf : After → World
 worldOf a = record { state = a .outcome .state; memory = a .memory }
@@ -65,7 +66,7 @@ diskAfter (write head blocks bytes allowance) ok disk = cond ok (putBlocks disk 
 diskAfter (drop head blocks allowance) ok disk = cond ok (putBlocks disk blocks (λ _. blank)) disk
 diskAfter (read block out) ok disk = disk
 diskAfter (park allowance) ok disk = disk
-diskAfter (recover allowance) ok disk = disk
+diskAfter (recover drive allowance) ok disk = disk
 
 -- An image's live map sectors are those a scan of it takes, one a piece; its tail is the map sector numbered C.
 abbrev pub livePlace : ℕ → View → ℕ → ℕ
@@ -97,15 +98,15 @@ pub record CommitKept (g : Geometry) (before now : Memory) : Type 0 where
 -- What a call of a list keeps. (a) "An accepted read in the list gives its block as the plain disk then has it."
 unfoldable pub Kept : Rules → Geometry → World → Disk → Call → Type 0
 Kept rules g w disk (write head blocks bytes allowance) =
-    accepted (made rules (settingsOf g) w (write head blocks bytes allowance)) ≡ true
-    → CommitKept g (w .memory) (made rules (settingsOf g) w (write head blocks bytes allowance) .memory)
+    accepted (made rules g w (write head blocks bytes allowance)) ≡ true
+    → CommitKept g (w .memory) (made rules g w (write head blocks bytes allowance) .memory)
 Kept rules g w disk (drop head blocks allowance) =
-    accepted (made rules (settingsOf g) w (drop head blocks allowance)) ≡ true
-    → CommitKept g (w .memory) (made rules (settingsOf g) w (drop head blocks allowance) .memory)
+    accepted (made rules g w (drop head blocks allowance)) ≡ true
+    → CommitKept g (w .memory) (made rules g w (drop head blocks allowance) .memory)
 Kept rules g w disk (read block out) =
-    accepted (made rules (settingsOf g) w (read block out)) ≡ true → readOf (w .state) (w .memory) block out .out ≡ disk block
+    accepted (made rules g w (read block out)) ≡ true → readOf (w .state) (w .memory) block out .out ≡ disk block
 Kept rules g w disk (park allowance) = Unit {0}
-Kept rules g w disk (recover allowance) = Unit {0}
+Kept rules g w disk (recover drive allowance) = Unit {0}
 
 -- The list of stores of a recovery.
 unfoldable pub storesIn : Finding → List Store
@@ -115,17 +116,21 @@ storesIn (missing refusal) = []
 abbrev pub recoveryStores : Geometry → (ℕ → List ℕ) → List Store
 recoveryStores g image = storesIn (findingOf g (imageView g image) (image 0))
 
--- (c) "After the list, a recover of the image it left with that L, whatever tables and state then hold, ... with enough stores for
--- its list, is accepted, and a read of each block below L, given what that recover left, gives the plain disk's."
+-- (c) "After the list, a recover of the image it left with that L, whatever tables and state then hold, ... to which none of 1 to 7,
+-- nor any number later placed among them, applies, and with enough stores for its list, is accepted, and a read of each block below
+-- L, given what that recover left, gives the plain disk's." Document 02: "What comes back after a cut is promised for every setting":
+-- the drive is any that 11 does not apply to, the format's or another.
 pub record Recovers (g : Geometry) (m : Memory) (disk : Disk) : Type 0 where
-  pub accepts : (s : State) (t : Tables) (allowance : ℕ) → length (recoveryStores g (m .image)) ≤ allowance
-      → accepted (recoverOf s (memoryWith m (m .image) t) (settingsOf g) allowance) ≡ true
-  pub reads : (s : State) (t : Tables) (allowance : ℕ) → length (recoveryStores g (m .image)) ≤ allowance
+  pub accepts : (drive : Drive) → driveFits (g .n) drive ≡ true → (s : State) (t : Tables) (allowance : ℕ)
+      → length (recoveryStores g (m .image)) ≤ allowance
+      → accepted (recoverOf s (memoryWith m (m .image) t) (settingsOf g drive) allowance) ≡ true
+  pub reads : (drive : Drive) → driveFits (g .n) drive ≡ true → (s : State) (t : Tables) (allowance : ℕ)
+      → length (recoveryStores g (m .image)) ≤ allowance
       → (b : ℕ) (out : List ℕ) → b < g .l → length out ≡ 512
-      → (numberOf (readOf (recoverOf s (memoryWith m (m .image) t) (settingsOf g) allowance .outcome .state)
-      (recoverOf s (memoryWith m (m .image) t) (settingsOf g) allowance .memory) b out .outcome .answer) ≡ 0)
-      × (readOf (recoverOf s (memoryWith m (m .image) t) (settingsOf g) allowance .outcome .state)
-      (recoverOf s (memoryWith m (m .image) t) (settingsOf g) allowance .memory) b out .out ≡ disk b)
+      → (numberOf (readOf (recoverOf s (memoryWith m (m .image) t) (settingsOf g drive) allowance .outcome .state)
+      (recoverOf s (memoryWith m (m .image) t) (settingsOf g drive) allowance .memory) b out .outcome .answer) ≡ 0)
+      × (readOf (recoverOf s (memoryWith m (m .image) t) (settingsOf g drive) allowance .outcome .state)
+      (recoverOf s (memoryWith m (m .image) t) (settingsOf g drive) allowance .memory) b out .out ≡ disk b)
 
 -- Demand 3 of a list of calls: each call gets what the last one left, refused and cut ones too, and keeps what it must; and what the
 -- list leaves recovers.
@@ -133,4 +138,4 @@ unfoldable pub Faithful : Rules → Geometry → List Call → World → Disk �
 Faithful rules g [] w disk = Recovers g (w .memory) disk
 Faithful rules g (call ∷ calls) w disk =
     Kept rules g w disk call
-    × Faithful rules g calls (worldOf (made rules (settingsOf g) w call)) (diskAfter call (accepted (made rules (settingsOf g) w call)) disk)
+    × Faithful rules g calls (worldOf (made rules g w call)) (diskAfter call (accepted (made rules g w call)) disk)

@@ -2,11 +2,13 @@
 -- one equation, the `ensures` of its function. Nothing else is known here of the code.
 use Prim.Native.Nat.{ℕ, _≤_, _<_}
 use mathlib.Core.Path.{_≡_}
+use mathlib.Core.Bool.{true}
 use mathlib.Core.List.{List, [], _∷_}
 use lib.ListN.{length}
 use Rattle.geometry.specs.declared.Geometry.{Geometry}
+use Rattle.geometry.specs.declared.Drive.{Drive}
 use Rattle.geometry.specs.declared.Settings.{Settings}
-use Rattle.geometry.specs.Geometry.{settingsOf}
+use Rattle.geometry.specs.Geometry.{settingsOf, driveFits}
 use Rattle.state.specs.declared.State.{State}
 use Rattle.state.specs.declared.Outcome.{Outcome}
 use Rattle.answer.specs.Answer.{numberOf}
@@ -42,22 +44,22 @@ isAccepted r = numberOf (r .outcome .answer) ≡ 0
 abbrev pub FormatMeets : State → Buffers → Settings → ℕ → Seen → Type 0
 FormatMeets s b settings allowance r = after (r .outcome) (heldIn (r .buffers)) ≡ formatOf s (heldIn b) settings allowance
 
--- The promises of the other calls. A read is lent all but its own bytes shared, so that the buffers stay.
-unfoldable pub Meets : Settings → State → Buffers → Call → Seen → Type 0
-Meets settings s b (write head blocks bytes allowance) r =
+-- The promises of the other calls of a volume. A read is lent all but its own bytes shared, so that the buffers stay.
+unfoldable pub Meets : Geometry → State → Buffers → Call → Seen → Type 0
+Meets g s b (write head blocks bytes allowance) r =
     after (r .outcome) (heldIn (r .buffers)) ≡ writeOf s (heldIn b) head blocks bytes allowance
-Meets settings s b (drop head blocks allowance) r = after (r .outcome) (heldIn (r .buffers)) ≡ dropOf s (heldIn b) head blocks allowance
-Meets settings s b (read block out) r =
+Meets g s b (drop head blocks allowance) r = after (r .outcome) (heldIn (r .buffers)) ≡ dropOf s (heldIn b) head blocks allowance
+Meets g s b (read block out) r =
     (record { outcome = r .outcome; memory = heldIn b; out = r .out } ≡ readOf s (heldIn b) block out) × (r .buffers ≡ b)
-Meets settings s b (park allowance) r = after (r .outcome) (heldIn (r .buffers)) ≡ parkOf s (heldIn b) allowance
-Meets settings s b (recover allowance) r = after (r .outcome) (heldIn (r .buffers)) ≡ recoverOf s (heldIn b) settings allowance
+Meets g s b (park allowance) r = after (r .outcome) (heldIn (r .buffers)) ≡ parkOf s (heldIn b) allowance
+Meets g s b (recover drive allowance) r = after (r .outcome) (heldIn (r .buffers)) ≡ recoverOf s (heldIn b) (settingsOf g drive) allowance
 
 -- A run: each call gets state and buffers as the last one left them, refused and cut ones too, and meets its promise.
-unfoldable pub Run : Settings → State → Buffers → List Call → List Seen → Type 0
-Run settings s b [] [] = Unit {0}
-Run settings s b [] (r ∷ rs) = ⊥
-Run settings s b (call ∷ calls) [] = ⊥
-Run settings s b (call ∷ calls) (r ∷ rs) = Meets settings s b call r × Run settings (r .outcome .state) (r .buffers) calls rs
+unfoldable pub Run : Geometry → State → Buffers → List Call → List Seen → Type 0
+Run g s b [] [] = Unit {0}
+Run g s b [] (r ∷ rs) = ⊥
+Run g s b (call ∷ calls) [] = ⊥
+Run g s b (call ∷ calls) (r ∷ rs) = Meets g s b call r × Run g (r .outcome .state) (r .buffers) calls rs
 
 -- What is seen of one call: (a) and (b) of `History.Kept`.
 unfoldable pub KeptSeen : Geometry → Buffers → Disk → Call → Seen → Type 0
@@ -65,17 +67,18 @@ KeptSeen g b disk (write head blocks bytes allowance) r = isAccepted r → Commi
 KeptSeen g b disk (drop head blocks allowance) r = isAccepted r → CommitKept g (heldIn b) (heldIn (r .buffers))
 KeptSeen g b disk (read block out) r = isAccepted r → r .out ≡ disk block
 KeptSeen g b disk (park allowance) r = Unit {0}
-KeptSeen g b disk (recover allowance) r = Unit {0}
+KeptSeen g b disk (recover drive allowance) r = Unit {0}
 
--- (c): the image is what is left, with other tables of the same lengths and any state; a recovery with stores enough, and a read of each
--- block after it.
+-- (c): the image is what is left, with other tables of the same lengths and any state; a recovery on any drive that holds the sectors, with
+-- stores enough, and a read of each block after it.
 pub record RecoversSeen (g : Geometry) (b : Buffers) (disk : Disk) : Type 0 where
-  pub recovered : (s : State) (other : Buffers) (allowance : ℕ) (r : Seen) → other .image ≡ b .image
+  pub recovered : (drive : Drive) → driveFits (g .n) drive ≡ true
+      → (s : State) (other : Buffers) (allowance : ℕ) (r : Seen) → other .image ≡ b .image
       → heldIn other .lengths ≡ heldIn b .lengths → length (recoveryStores g (sectorAt (b .image))) ≤ allowance
-      → Meets (settingsOf g) s other (recover allowance) r
+      → Meets g s other (recover drive allowance) r
       → isAccepted r
       × ((block : ℕ) (out : List ℕ) (q : Seen) → block < g .l → length out ≡ 512
-      → Meets (settingsOf g) (r .outcome .state) (r .buffers) (read block out) q → isAccepted q × (q .out ≡ disk block))
+      → Meets g (r .outcome .state) (r .buffers) (read block out) q → isAccepted q × (q .out ≡ disk block))
 
 -- Demand 3 of what is seen.
 unfoldable pub FaithfulSeen : Geometry → List Call → List Seen → Buffers → Disk → Type 0

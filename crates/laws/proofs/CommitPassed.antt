@@ -11,15 +11,15 @@ use lib.Dec.{leb, ltb}
 use borrow.Author.Tests.{ltb-true, ltb-false, leb-true}
 use Rattle.geometry.specs.declared.Geometry.{Geometry}
 use Rattle.state.specs.declared.State.{State}
-use Rattle.answer.specs.declared.Refusal.the-variants.{Size, BufferLength, BlockNumbers, WrongPhase, Inconsistent, NoRoom, NumbersUsedUp}
+use Rattle.answer.specs.declared.Refusal.the-variants.{Size, WrongSettings, BufferLength, BlockNumbers, WrongPhase, Inconsistent, NoRoom, NumbersUsedUp}
 use Rattle.answer.specs.declared.Verdict.the-variants.{Pass}
-use Rattle.geometry.specs.Geometry.{within}
+use Rattle.geometry.specs.Geometry.{within, driveFits}
 use Rattle.state.specs.State.{isRunning}
 use Rattle.layout.specs.Bounded.{at, all, allBelow}
 use Rattle.volume.specs.Tables.{Memory}
 use Rattle.volume.specs.Refusals.{applies, judged}
 use Rattle.volume.specs.Format.{tablesFit}
-use Rattle.volume.specs.Placing.{Rules}
+use Rattle.volume.specs.Rules.{Rules}
 use Rattle.volume.specs.Calls.{stateFits, blocksFit, tablesAgree, commitChecks}
 use Rattle.laws.proofs.Bounded.{and-l, and-r, all-at, allBelow-at, suc-cases}
 use Rattle.laws.proofs.Judged.{cleared, not-false}
@@ -61,6 +61,7 @@ blocks-fit g head blocks e =
 
 pub record CommitPassed (rules : Rules) (s : State) (m : Memory) (head : ℕ) (blocks : List ℕ) (bytesFit hasRoom : Bool) : Type 0 where
   pub sizes : stateFits s m ≡ true
+  pub drive : driveFits (s .geometry .n) (s .drive) ≡ true
   pub lengths : tablesFit m (s .geometry) ≡ true
   pub bytes : bytesFit ≡ true
   pub named : BlocksFit (s .geometry) head blocks
@@ -77,6 +78,7 @@ commit-passed rules s m head blocks bytesFit hasRoom e =
     let lengths = not-false (tablesFit m g && bytesFit) (cleared BufferLength _ e) in
     record {
       sizes = not-false (stateFits s m) (cleared Size _ e);
+      drive = not-false (driveFits (g .n) (s .drive)) (cleared WrongSettings _ e);
       lengths = and-l (tablesFit m g) bytesFit lengths;
       bytes = and-r (tablesFit m g) bytesFit lengths;
       named = blocks-fit g head blocks (not-false (blocksFit g head blocks) (cleared BlockNumbers _ e));

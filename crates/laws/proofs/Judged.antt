@@ -9,7 +9,7 @@ use lib.ListN.{length, take}
 use lib.Dec.{eqb}
 use borrow.Author.Tests.{lt-ltb, le-ltb, eqb-true}
 use Rattle.answer.specs.declared.Refusal.{Refusal}
-use Rattle.answer.specs.declared.Refusal.the-variants.{Size, BufferLength, BlockNumbers, WrongPhase, Inconsistent, NoRoom, NumbersUsedUp}
+use Rattle.answer.specs.declared.Refusal.the-variants.{Size, WrongSettings, BufferLength, BlockNumbers, WrongPhase, Inconsistent, NoRoom, NumbersUsedUp}
 use Rattle.answer.specs.declared.Loss.{Loss}
 use Rattle.answer.specs.declared.Loss.the-variants.{NoLog, DamagedLog}
 use Rattle.answer.specs.declared.Answer.the-variants.{PowerFailed}
@@ -27,6 +27,7 @@ use Rattle.laws.proofs.Bounded.{bool?, cond-true, cond-false}
 
 pub refusal-some : (r : Refusal) → isZero (refusalNumber r) ≡ false
 refusal-some Size = refl
+refusal-some WrongSettings = refl
 refusal-some BufferLength = refl
 refusal-some BlockNumbers = refl
 refusal-some WrongPhase = refl
@@ -50,6 +51,7 @@ isIn r (q ∷ qs) = eqb (refusalNumber r) (refusalNumber q) || isIn r qs
 ordered : (r : Refusal) → isIn r order ≡ true
 unfolding isIn
 ordered Size = refl
+ordered WrongSettings = refl
 ordered BufferLength = refl
 ordered BlockNumbers = refl
 ordered WrongPhase = refl

@@ -11,7 +11,9 @@ pub mod Filling
 pub mod Bounded
 pub mod Codec
 pub mod Names
+pub mod Delays
 pub mod Placing
+pub mod OneTrack
 pub mod Stores
 pub mod Sizes
 pub mod Judged

@@ -1,4 +1,5 @@
 // The bytes of a block as a paper writes them: text in quotes, or x and hexadecimal digits.
+use crate::keywords::Keyword;
 use crate::tokens;
 
 // Bytes of a block.
@@ -14,10 +15,11 @@ pub enum Trouble {
     Sectors,
     // A word that is no number.
     Number,
-    // A plug that is no stores=K, or one that is not wanted, or a second one.
-    Plug,
-    PlugHere,
-    PlugTwice,
+    // A keyword with no number after it, one that this call does not take, a second one of its name, or one of no known name.
+    Value(Keyword),
+    KeywordHere(Keyword),
+    KeywordTwice(Keyword),
+    Keyword,
     // A word that is no BLOCK=DATA.
     Block,
     // Data that is neither text nor hexadecimal, with no closing quote, with other bytes, or over 512 bytes.

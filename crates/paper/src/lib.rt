@@ -1,4 +1,5 @@
 // Papers: the lines that the desk sets.
 pub mod data;
+pub mod keywords;
 pub mod request;
 pub mod tokens;

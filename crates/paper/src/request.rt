@@ -1,7 +1,11 @@
-// A line of a paper, taken apart: the call, its numbers, its blocks and the plug.
+// A line of a paper, taken apart: the call, its numbers, its blocks and its keywords.
 use crate::data;
 use crate::data::Data;
 use crate::data::Trouble;
+use crate::keywords;
+use crate::keywords::Keyword;
+use crate::keywords::Keywords;
+use crate::keywords::Named;
 use crate::tokens;
 use crate::tokens::Number;
 
@@ -26,9 +30,7 @@ pub struct Request {
     pub taken: u32,
     // The blocks of a write or a drop that were taken.
     pub count: usize,
-    // The plug: stores that the call may make.
-    pub stores: u32,
-    pub plugged: bool,
+    pub keywords: Keywords,
     // Where the line goes on, or where the trouble is.
     pub at: usize,
     pub trouble: Trouble,
@@ -37,6 +39,9 @@ pub struct Request {
 // The most blocks in a line.
 pub const MOST: usize = 128;
 
+// More stores than any call makes.
+const ENOUGH: u32 = 4_294_967_295;
+
 impl Request {
     fn fresh(at: usize) -> Request {
         Request {
@@ -44,75 +49,83 @@ impl Request {
             second: 0,
             taken: 0,
             count: 0,
-            stores: 4_294_967_295,
-            plugged: false,
+            keywords: Keywords::none(),
             at,
             trouble: Trouble::Fine,
         }
     }
 
     pub fn wrong(self, at: usize, trouble: Trouble) -> Request {
+        let keywords = self.keywords;
         Request {
             first: self.first,
             second: self.second,
             taken: self.taken,
             count: self.count,
-            stores: self.stores,
-            plugged: self.plugged,
+            keywords,
             at,
             trouble,
         }
     }
 
-    fn with_plug(self, stores: u32, at: usize) -> Request {
+    fn with_keywords(self, keywords: Keywords, at: usize) -> Request {
         Request {
             first: self.first,
             second: self.second,
             taken: self.taken,
             count: self.count,
-            stores,
-            plugged: true,
+            keywords,
             at,
             trouble: Trouble::Fine,
         }
     }
 
     fn with_first(self, first: u32, at: usize) -> Request {
+        let keywords = self.keywords;
         Request {
             first,
             second: self.second,
             taken: 1,
             count: self.count,
-            stores: self.stores,
-            plugged: self.plugged,
+            keywords,
             at,
             trouble: Trouble::Fine,
         }
     }
 
     fn with_second(self, second: u32, at: usize) -> Request {
+        let keywords = self.keywords;
         Request {
             first: self.first,
             second,
             taken: 2,
             count: self.count,
-            stores: self.stores,
-            plugged: self.plugged,
+            keywords,
             at,
             trouble: Trouble::Fine,
         }
     }
 
     fn with_count(self, count: usize, at: usize) -> Request {
+        let keywords = self.keywords;
         Request {
             first: self.first,
             second: self.second,
             taken: self.taken,
             count,
-            stores: self.stores,
-            plugged: self.plugged,
+            keywords,
             at,
             trouble: Trouble::Fine,
+        }
+    }
+
+    // The stores that the call may make: enough where no plug is given.
+    pub fn stores(self) -> u32 {
+        let given = self.keywords;
+        let stores = given.stores;
+        match stores {
+            Number::Value(value) => value,
+            Number::Nothing => ENOUGH,
         }
     }
 
@@ -198,6 +211,22 @@ fn makes_stores(call: Call) -> bool {
     }
 }
 
+fn takes_settings(call: Call) -> bool {
+    match call {
+        Call::Format => true,
+        Call::Recover => true,
+        _ => false,
+    }
+}
+
+// Which calls take a keyword.
+fn takes(call: Call, keyword: Keyword) -> bool {
+    match keyword {
+        Keyword::Stores => makes_stores(call),
+        _ => takes_settings(call),
+    }
+}
+
 fn takes_blocks(call: Call) -> bool {
     match call {
         Call::Write => true,
@@ -206,20 +235,35 @@ fn takes_blocks(call: Call) -> bool {
     }
 }
 
-// stores=K, from `at` up to `end`.
-fn take_plug(line: &[u8], at: usize, end: usize, call: Call, r: Request) -> Request {
-    if !makes_stores(call) {
-        return r.wrong(at, Trouble::PlugHere);
+// NAME=NUMBER, from `at` up to `end`.
+fn take_keyword(
+    word: &[u8],
+    at: usize,
+    end: usize,
+    call: Call,
+    keyword: Keyword,
+    r: Request,
+) -> Request {
+    if !takes(call, keyword) {
+        return r.wrong(at, Trouble::KeywordHere(keyword));
     }
-    if r.plugged {
-        return r.wrong(at, Trouble::PlugTwice);
+    let given = r.keywords;
+    if given.has(keyword) {
+        return r.wrong(at, Trouble::KeywordTwice(keyword));
     }
-    let word = tokens::part(line, at, end);
-    let number = tokens::number_in(tokens::part(word, 7, word.len()));
+    let number = keywords::value_in(word);
     match number {
-        Number::Nothing => r.wrong(at, Trouble::Plug),
-        Number::Value(stores) => r.with_plug(stores, end),
+        Number::Nothing => r.wrong(at, Trouble::Value(keyword)),
+        Number::Value(value) => r.with_keywords(given.with(keyword, value), end),
     }
+}
+
+// Whether a word of a call that takes settings has the form of a keyword.
+fn is_unknown(word: &[u8], call: Call) -> bool {
+    if !takes_settings(call) {
+        return false;
+    }
+    tokens::find(word, 0, 61) < word.len()
 }
 
 // One of the numbers after a call's name.
@@ -310,6 +354,30 @@ fn take_write(line: &[u8], at: usize, r: Request, blocks: &mut [u32], bytes: &mu
     }
 }
 
+// A word that is no keyword: a number, a block, or nothing that this call takes.
+fn take_other(
+    line: &[u8],
+    at: usize,
+    end: usize,
+    call: Call,
+    r: Request,
+    blocks: &mut [u32],
+    bytes: &mut [u8],
+) -> Request {
+    let word = tokens::part(line, at, end);
+    if is_unknown(word, call) {
+        return r.wrong(at, Trouble::Keyword);
+    }
+    if r.taken < wanted(call) {
+        return take_number(word, at, end, r);
+    }
+    match call {
+        Call::Write => take_write(line, at, r, blocks, bytes),
+        Call::Drop => take_drop(word, at, end, r, blocks),
+        _ => r.wrong(at, Trouble::More),
+    }
+}
+
 // The word at `at`, after a call's name.
 fn take_word(
     line: &[u8],
@@ -321,16 +389,10 @@ fn take_word(
 ) -> Request {
     let end = tokens::word_end(line, at);
     let word = tokens::part(line, at, end);
-    if tokens::begins_with(word, b"stores=") {
-        return take_plug(line, at, end, call, r);
-    }
-    if r.taken < wanted(call) {
-        return take_number(word, at, end, r);
-    }
-    match call {
-        Call::Write => take_write(line, at, r, blocks, bytes),
-        Call::Drop => take_drop(word, at, end, r, blocks),
-        _ => r.wrong(at, Trouble::More),
+    let named = keywords::keyword_of(word);
+    match named {
+        Named::Known(keyword) => take_keyword(word, at, end, call, keyword, r),
+        Named::Nothing => take_other(line, at, end, call, r, blocks, bytes),
     }
 }
 

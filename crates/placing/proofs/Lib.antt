@@ -1,2 +1,3 @@
 -- Laws that this crate's proofs cite, and its callers' may.
+pub mod TrackLaws
 pub mod PlaceLaws

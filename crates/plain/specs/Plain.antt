@@ -2,6 +2,8 @@
 use Prim.Native.Nat.{ℕ}
 use mathlib.Core.Bool.{cond}
 use lib.Dec.{eqb}
+use Rattle.geometry.specs.declared.Drive.{Drive}
+use Rattle.geometry.specs.declared.Settings.{Settings}
 use Rattle.state.specs.declared.State.{State}
 use Rattle.state.specs.declared.Phase.{Phase}
 use Rattle.state.specs.declared.Phase.the-variants.{Running, Parked, Cut}
@@ -11,6 +13,7 @@ use Rattle.answer.specs.declared.Cost.{Cost}
 use Rattle.answer.specs.declared.Answer.{Answer}
 use Rattle.answer.specs.Answer.{isRefusal, numberOf, costOf, wayOf, readsOf}
 use Rattle.plain.specs.declared.CState.{CState}
+use Rattle.plain.specs.declared.CSettings.{CSettings}
 use Rattle.plain.specs.declared.CResult.{CResult}
 
 -- A number that is no phase is neither running nor readable, as cut is.
@@ -18,13 +21,34 @@ unfoldable pub phaseOf : ℕ → Phase
 phaseOf number = cond (eqb number 0) Running (cond (eqb number 1) Parked Cut)
 
 abbrev pub stateIn : CState → Phase → State
-stateIn c phase = record { geometry = record { n = c .n; l = c .l }; tail = c .tail; number = c .number; phase = phase }
+stateIn c phase =
+    record {
+      geometry = record { n = c .n; l = c .l };
+      drive = record { sectors = c .«per_track»; tracks = c .tracks; switch = c .«head_switch» };
+      tail = c .tail;
+      number = c .number;
+      phase = phase;
+    }
 
 abbrev pub stateOf : CState → State
 stateOf c = stateIn c (phaseOf (c .phase))
 
+-- What a format or a recovery is given.
+abbrev pub settingsIn : CSettings → Settings
+settingsIn c = record { l = c .l; drive = record { sectors = c .«per_track»; tracks = c .tracks; switch = c .«head_switch» } }
+
 abbrev pub plainIn : State → ℕ → CState
-plainIn s phase = record { n = s .geometry .n; l = s .geometry .l; tail = s .tail; number = s .number; phase = phase }
+plainIn s phase =
+    record {
+      n = s .geometry .n;
+      l = s .geometry .l;
+      tail = s .tail;
+      number = s .number;
+      phase = phase;
+      «per_track» = s .drive .sectors;
+      tracks = s .drive .tracks;
+      «head_switch» = s .drive .switch;
+    }
 
 abbrev pub plainOf : State → CState
 plainOf s = plainIn s (phaseNumber (s .phase))
@@ -46,6 +70,9 @@ joined answer cost way read left =
       tail = left .tail;
       number = left .number;
       phase = left .phase;
+      «per_track» = left .«per_track»;
+      tracks = left .tracks;
+      «head_switch» = left .«head_switch»;
     }
 
 -- The numbers of an outcome, for a call that was handed the state c.

@@ -1,9 +1,11 @@
 // A state and a result in plain numbers, as they cross to C.
 ghost use mathlib.Core.Path.{_≡_};
 ghost use Rattle.state.specs.State.{phaseNumber};
-ghost use Rattle.plain.specs.Plain.{phaseOf, stateOf, plainOf, stateLeft, resultOf};
+ghost use Rattle.plain.specs.Plain.{phaseOf, stateOf, plainOf, stateLeft, resultOf, settingsIn};
 use answer::Answer;
+use geometry::Drive;
 use geometry::Geometry;
+use geometry::Settings;
 use state::Outcome;
 use state::Phase;
 use state::State;
@@ -16,10 +18,22 @@ pub struct CState {
     pub tail: u32,
     pub number: u32,
     pub phase: u32,
+    pub per_track: u32,
+    pub tracks: u32,
+    pub head_switch: u32,
 }
 
-// What a call hands back: its answer (0, or the number of the refusal), the stores it made and the used sectors that the
-// searches for them passed over, how a recovery found the log (1 walk, 2 scan) and the sectors it read, and the state.
+// What a format or a recovery is given.
+#[repr(C)]
+pub struct CSettings {
+    pub l: u32,
+    pub per_track: u32,
+    pub tracks: u32,
+    pub head_switch: u32,
+}
+
+// What a call hands back: its answer (0, or the number of the refusal), the stores it made and the sum of the delays to their
+// places, how a recovery found the log (1 walk, 2 scan) and the sectors it read, and the state.
 #[repr(C)]
 pub struct CResult {
     pub answer: u32,
@@ -32,6 +46,9 @@ pub struct CResult {
     pub tail: u32,
     pub number: u32,
     pub phase: u32,
+    pub per_track: u32,
+    pub tracks: u32,
+    pub head_switch: u32,
 }
 
 // A number that is no phase lets no call go on but format and recover, as cut does.
@@ -62,12 +79,29 @@ pub fn state_of(c: CState) -> State
 {
     let phase = phase_of(c.phase);
     let geometry = Geometry { n: c.n, l: c.l };
+    let drive = Drive {
+        sectors: c.per_track,
+        tracks: c.tracks,
+        switch: c.head_switch,
+    };
     State {
         geometry,
+        drive,
         tail: c.tail,
         number: c.number,
         phase,
     }
+}
+
+pub fn settings_of(c: CSettings) -> Settings
+    ensures { λ r. ⌜ r ≡ settingsIn c ⌝ }
+{
+    let drive = Drive {
+        sectors: c.per_track,
+        tracks: c.tracks,
+        switch: c.head_switch,
+    };
+    Settings { l: c.l, drive }
 }
 
 fn plain_of(s: State) -> CState
@@ -76,12 +110,16 @@ fn plain_of(s: State) -> CState
     let came = s.phase;
     let phase = phase_number(came);
     let g = s.geometry;
+    let drive = s.drive;
     CState {
         n: g.n,
         l: g.l,
         tail: s.tail,
         number: s.number,
         phase,
+        per_track: drive.sectors,
+        tracks: drive.tracks,
+        head_switch: drive.switch,
     }
 }
 
@@ -116,5 +154,8 @@ pub fn result_of(c: CState, o: Outcome) -> CResult
         tail: left.tail,
         number: left.number,
         phase: left.phase,
+        per_track: left.per_track,
+        tracks: left.tracks,
+        head_switch: left.head_switch,
     }
 }

@@ -17,7 +17,8 @@ use Rattle.laws.proofs.Sizes.{fits}
 use Rattle.layout.specs.Bounded.{at, listFrom, tabled, countBelow}
 use Rattle.layout.specs.MapSector.{View}
 use Rattle.volume.specs.Tables.{bitAt, tablesOf}
-use Rattle.volume.specs.Placing.{base, placeOf, skippedBy}
+use Rattle.tracks.specs.Placing.{Choice, leastDelay, placeOf, skippedBy}
+use Rattle.volume.specs.Rules.{base}
 use Rattle.power.specs.Power.{made}
 use Rattle.volume.specs.Commit.{touches, olderKey, listing, branchesFor, planned}
 use Rattle.laws.proofs.Bounded.{bool?, lt?, clash, tabled-at, tabled-past, listFrom-at, length-listFrom, anyBelow-none, count-le}
@@ -133,8 +134,8 @@ module _ (s : State) (pl nu us blocks : List ℕ) (view : View) (head count : �
       ⊎-elim (λ (h : 24 < listed). clash (ltb 24 listed) (lt-ltb 24 listed h) (sym e)) (λ (h : listed ≤ 24). omega arith) (lt? 24 listed)
 
   pub planning : (skipped allowance : ℕ) → members ≡ countBelow (flagged written) pieces
-      → take (count + members) taken ≡ listFrom (placeOf base (s .geometry .n) (bitAt us) head) 0 (count + members)
-      → skipped ≡ skippedBy base (s .geometry .n) (bitAt us) head (made (count + members) allowance)
+      → take (count + members) taken ≡ listFrom (placeOf (leastDelay (s .drive)) (s .geometry .n) (bitAt us) head) 0 (count + members)
+      → skipped ≡ skippedBy (leastDelay (s .drive)) (s .geometry .n) (bitAt us) head (made (count + members) allowance)
       → Planning (planned base s (tablesOf [] pl nu us) view head (changeOf blocks [] count)) first members bs written count taken skipped allowance
   unfolding planned
   planning skipped allowance m t k =
@@ -149,7 +150,7 @@ module _ (s : State) (pl nu us blocks : List ℕ) (view : View) (head count : �
         branches-are = branches-after (ltb 24 (length whole)) refl (first-is ∙ ap (λ (b : Bool). cond b 0 listed) alike);
         few = few-after (ltb 24 listed) refl first-is;
         written-are = flags;
-        taken-are = t ∙ ap (λ (k : ℕ). listFrom (placeOf base (s .geometry .n) (bitAt us) head) 0 (count + k)) counted;
+        taken-are = t ∙ ap (λ (k : ℕ). listFrom (placeOf (leastDelay (s .drive)) (s .geometry .n) (bitAt us) head) 0 (count + k)) counted;
         skipped-are = k;
       }
 
@@ -172,15 +173,15 @@ pub live-for : (g : Geometry) (image : ℕ → List ℕ) (place : ℕ → ℕ) (
 live-for g image place n m e live = subst (Live g image place) (sym e) live
 
 -- The places searched in a copy of the used map come first, and the same sectors are skipped for them.
-pub taken-first : (n head count : ℕ) (bits bits′ : ℕ → Bool) (taken taken′ : List ℕ)
-    → taken′ ≡ listFrom (placeOf base n bits′ head) 0 count ++ drop count taken → bits′ ≡ bits → take count taken′ ≡ listFrom (placeOf base n bits head) 0 count
-taken-first n head count bits bits′ taken taken′ e f =
-    let from = listFrom (placeOf base n bits head) 0 count in
-    ap (take count) (e ∙ ap (λ (g : ℕ → Bool). listFrom (placeOf base n g head) 0 count ++ drop count taken) f)
-    ∙ take-at from (drop count taken) count (length-listFrom (placeOf base n bits head) 0 count)
+pub taken-first : (choice : Choice) (n head count : ℕ) (bits bits′ : ℕ → Bool) (taken taken′ : List ℕ)
+    → taken′ ≡ listFrom (placeOf choice n bits′ head) 0 count ++ drop count taken → bits′ ≡ bits → take count taken′ ≡ listFrom (placeOf choice n bits head) 0 count
+taken-first choice n head count bits bits′ taken taken′ e f =
+    let from = listFrom (placeOf choice n bits head) 0 count in
+    ap (take count) (e ∙ ap (λ (g : ℕ → Bool). listFrom (placeOf choice n g head) 0 count ++ drop count taken) f)
+    ∙ take-at from (drop count taken) count (length-listFrom (placeOf choice n bits head) 0 count)
 
-pub skipped-first : (n head k skipped : ℕ) (bits bits′ : ℕ → Bool) → skipped ≡ skippedBy base n bits′ head k → bits′ ≡ bits → skipped ≡ skippedBy base n bits head k
-skipped-first n head k skipped bits bits′ e f = e ∙ ap (λ (g : ℕ → Bool). skippedBy base n g head k) f
+pub skipped-first : (choice : Choice) (n head k skipped : ℕ) (bits bits′ : ℕ → Bool) → skipped ≡ skippedBy choice n bits′ head k → bits′ ≡ bits → skipped ≡ skippedBy choice n bits head k
+skipped-first choice n head k skipped bits bits′ e f = e ∙ ap (λ (g : ℕ → Bool). skippedBy choice n g head k) f
 
 -- What a geometry leaves room for: 256 pieces, and 8,192 bytes of used bits.
 module _ (g : Geometry) (f : geometryFits g ≡ true) where
@@ -193,11 +194,5 @@ module _ (g : Geometry) (f : geometryFits g ≡ true) where
   pub used-room : (n room : ℕ) → n ≡ usedBytes (g .n) → room ≡ 8192 → n ≤ room
   used-room n room e h = let most = fits g f .sectors in omega arith
 
-  pub some-sectors : 1 < g .n
-  some-sectors = let least = fits g f .least in omega arith
-
   pub few-sectors : g .n ≤ 65536
   few-sectors = fits g f .sectors
-
-  pub sectors-room : (room : ℕ) → room ≡ 8192 → g .n ≤ 8 * room
-  sectors-room room h = let most = fits g f .sectors in omega arith

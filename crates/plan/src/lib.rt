@@ -6,16 +6,18 @@ ghost use mathlib.Core.List.{[]};
 ghost use Prim.Native.Nat.{ℕ, _+_, _*_, _≤_, _<_};
 ghost use lib.ListN.{length, take, replicate};
 ghost use lib.Dec.{ltb};
-ghost use Rattle.geometry.specs.Geometry.{sectorBytes, piecesFor, usedBytes, geometryFits, branchRoom, foldingBranches, mostPieces, commitBlocks, commitSectors};
+ghost use Rattle.geometry.specs.Geometry.{sectorBytes, piecesFor, usedBytes, geometryFits, driveFits, branchRoom, foldingBranches, mostPieces, commitBlocks, commitSectors};
 ghost use Rattle.geometry.specs.SizeClasses.{smallSectors};
 ghost use Rattle.layout.specs.Bounded.{at, listFrom, countBelow};
 ghost use Rattle.volume.specs.Tables.{bitAt, sectorAt, tablesOf};
-ghost use Rattle.volume.specs.Placing.{base, placeOf, skippedBy};
+ghost use Rattle.tracks.specs.Placing.{leastDelay, placeOf, skippedBy};
+ghost use Rattle.volume.specs.Rules.{base};
 ghost use Rattle.volume.specs.Commit.{planned};
 ghost use Rattle.volume.specs.Calls.{viewOf};
 ghost use Rattle.power.specs.Power.{made};
 ghost use Rattle.pieces.specs.Arrays.{flagged, changeOf, Live, Planning};
 ghost use Rattle.plan.specs.Untouched.{Untouched};
+use geometry::Drive;
 use geometry::Geometry;
 use state::State;
 
@@ -25,7 +27,7 @@ struct Sizes {
     members: u32,
 }
 
-// The same, and how many used sectors the searches for the sectors that will be stored passed over.
+// The same, and the sum of the delays to the sectors that will be stored.
 pub struct Planned {
     pub branches: usize,
     pub members: u32,
@@ -57,10 +59,38 @@ fn fold(written: &mut [u8], pieces: u32, listed: usize) -> usize
     0
 }
 
-// The sectors that a commit takes, searched in a copy of the used map; answers what was skipped for those that will be stored.
+// The sectors that a commit takes, searched in a copy of the used map; answers the sum of the delays to those that will be stored.
 fn take_in(
     used: &[u8],
     g: Geometry,
+    d: Drive,
+    head: u32,
+    count: usize,
+    taken: &mut [u32],
+    allowance: u32,
+    marks: &mut [u8],
+    known: &mut [u8],
+) -> u32
+    requires { ⌜ geometryFits g ≡ true ⌝ }
+    requires { ⌜ driveFits (g .n) d ≡ true ⌝ }
+    requires { ⌜ length (now used) ≡ usedBytes (g .n) ⌝ }
+    requires { ⌜ head < g .n ⌝ }
+    requires { ⌜ count ≤ length (now taken) ⌝ }
+    requires { ⌜ count ≤ commitSectors ⌝ }
+    requires { ⌜ length (now used) ≤ length (now marks) ⌝ }
+    requires { ⌜ now marks ≡ replicate (length (now marks)) 0 ⌝ }
+    requires { ⌜ now known ≡ replicate (length (now known)) 0 ⌝ }
+    ensures { λ r. ⌜ (take count (now (taken .exit)) ≡ listFrom (placeOf (leastDelay d) (g .n) (bitAt (now (used .entry))) head) 0 count) × (r ≡ skippedBy (leastDelay d) (g .n) (bitAt (now (used .entry))) head (made count allowance)) ⌝ }
+{
+    copy_used(used, marks);
+    placing::find_places(marks, known, g.n, d, head, count, taken, allowance)
+}
+
+// On one track nothing is kept of its positions.
+fn take_on_one(
+    used: &[u8],
+    g: Geometry,
+    d: Drive,
     head: u32,
     count: usize,
     taken: &mut [u32],
@@ -68,22 +98,74 @@ fn take_in(
     marks: &mut [u8],
 ) -> u32
     requires { ⌜ geometryFits g ≡ true ⌝ }
+    requires { ⌜ driveFits (g .n) d ≡ true ⌝ }
     requires { ⌜ length (now used) ≡ usedBytes (g .n) ⌝ }
     requires { ⌜ head < g .n ⌝ }
     requires { ⌜ count ≤ length (now taken) ⌝ }
     requires { ⌜ count ≤ commitSectors ⌝ }
     requires { ⌜ length (now used) ≤ length (now marks) ⌝ }
     requires { ⌜ now marks ≡ replicate (length (now marks)) 0 ⌝ }
-    ensures { λ r. ⌜ (take count (now (taken .exit)) ≡ listFrom (placeOf base (g .n) (bitAt (now (used .entry))) head) 0 count) × (r ≡ skippedBy base (g .n) (bitAt (now (used .entry))) head (made count allowance)) ⌝ }
+    ensures { λ r. ⌜ (take count (now (taken .exit)) ≡ listFrom (placeOf (leastDelay d) (g .n) (bitAt (now (used .entry))) head) 0 count) × (r ≡ skippedBy (leastDelay d) (g .n) (bitAt (now (used .entry))) head (made count allowance)) ⌝ }
 {
-    copy_used(used, marks);
-    placing::find_places(marks, g.n, head, count, taken, allowance)
+    let mut known = [0u8; 1];
+    take_in(used, g, d, head, count, taken, allowance, marks, &mut known)
+}
+
+// The same on several tracks of a small volume.
+fn take_on_few(
+    used: &[u8],
+    g: Geometry,
+    d: Drive,
+    head: u32,
+    count: usize,
+    taken: &mut [u32],
+    allowance: u32,
+    marks: &mut [u8],
+) -> u32
+    requires { ⌜ geometryFits g ≡ true ⌝ }
+    requires { ⌜ driveFits (g .n) d ≡ true ⌝ }
+    requires { ⌜ length (now used) ≡ usedBytes (g .n) ⌝ }
+    requires { ⌜ head < g .n ⌝ }
+    requires { ⌜ count ≤ length (now taken) ⌝ }
+    requires { ⌜ count ≤ commitSectors ⌝ }
+    requires { ⌜ length (now used) ≤ length (now marks) ⌝ }
+    requires { ⌜ now marks ≡ replicate (length (now marks)) 0 ⌝ }
+    ensures { λ r. ⌜ (take count (now (taken .exit)) ≡ listFrom (placeOf (leastDelay d) (g .n) (bitAt (now (used .entry))) head) 0 count) × (r ≡ skippedBy (leastDelay d) (g .n) (bitAt (now (used .entry))) head (made count allowance)) ⌝ }
+{
+    let mut known = [0u8; placing::SMALL_KEPT_POSITIONS];
+    take_in(used, g, d, head, count, taken, allowance, marks, &mut known)
+}
+
+// The same on several tracks of a volume of any size.
+fn take_on_any(
+    used: &[u8],
+    g: Geometry,
+    d: Drive,
+    head: u32,
+    count: usize,
+    taken: &mut [u32],
+    allowance: u32,
+    marks: &mut [u8],
+) -> u32
+    requires { ⌜ geometryFits g ≡ true ⌝ }
+    requires { ⌜ driveFits (g .n) d ≡ true ⌝ }
+    requires { ⌜ length (now used) ≡ usedBytes (g .n) ⌝ }
+    requires { ⌜ head < g .n ⌝ }
+    requires { ⌜ count ≤ length (now taken) ⌝ }
+    requires { ⌜ count ≤ commitSectors ⌝ }
+    requires { ⌜ length (now used) ≤ length (now marks) ⌝ }
+    requires { ⌜ now marks ≡ replicate (length (now marks)) 0 ⌝ }
+    ensures { λ r. ⌜ (take count (now (taken .exit)) ≡ listFrom (placeOf (leastDelay d) (g .n) (bitAt (now (used .entry))) head) 0 count) × (r ≡ skippedBy (leastDelay d) (g .n) (bitAt (now (used .entry))) head (made count allowance)) ⌝ }
+{
+    let mut known = [0u8; placing::KEPT_POSITIONS];
+    take_in(used, g, d, head, count, taken, allowance, marks, &mut known)
 }
 
 // The same of a small volume, in a copy that is cleared sooner.
 fn take_few(
     used: &[u8],
     g: Geometry,
+    d: Drive,
     head: u32,
     count: usize,
     taken: &mut [u32],
@@ -91,56 +173,67 @@ fn take_few(
 ) -> u32
     requires { ⌜ g .n ≤ smallSectors ⌝ }
     requires { ⌜ geometryFits g ≡ true ⌝ }
+    requires { ⌜ driveFits (g .n) d ≡ true ⌝ }
     requires { ⌜ length (now used) ≡ usedBytes (g .n) ⌝ }
     requires { ⌜ head < g .n ⌝ }
     requires { ⌜ count ≤ length (now taken) ⌝ }
     requires { ⌜ count ≤ commitSectors ⌝ }
-    ensures { λ r. ⌜ (take count (now (taken .exit)) ≡ listFrom (placeOf base (g .n) (bitAt (now (used .entry))) head) 0 count) × (r ≡ skippedBy base (g .n) (bitAt (now (used .entry))) head (made count allowance)) ⌝ }
+    ensures { λ r. ⌜ (take count (now (taken .exit)) ≡ listFrom (placeOf (leastDelay d) (g .n) (bitAt (now (used .entry))) head) 0 count) × (r ≡ skippedBy (leastDelay d) (g .n) (bitAt (now (used .entry))) head (made count allowance)) ⌝ }
 {
     let mut marks = [0u8; Geometry::SMALL_USED_BYTES];
-    take_in(used, g, head, count, taken, allowance, &mut marks)
+    if d.tracks == 1 {
+        return take_on_one(used, g, d, head, count, taken, allowance, &mut marks);
+    }
+    take_on_few(used, g, d, head, count, taken, allowance, &mut marks)
 }
 
 // The same for a volume of any size.
 fn take_any(
     used: &[u8],
     g: Geometry,
+    d: Drive,
     head: u32,
     count: usize,
     taken: &mut [u32],
     allowance: u32,
 ) -> u32
     requires { ⌜ geometryFits g ≡ true ⌝ }
+    requires { ⌜ driveFits (g .n) d ≡ true ⌝ }
     requires { ⌜ length (now used) ≡ usedBytes (g .n) ⌝ }
     requires { ⌜ head < g .n ⌝ }
     requires { ⌜ count ≤ length (now taken) ⌝ }
     requires { ⌜ count ≤ commitSectors ⌝ }
-    ensures { λ r. ⌜ (take count (now (taken .exit)) ≡ listFrom (placeOf base (g .n) (bitAt (now (used .entry))) head) 0 count) × (r ≡ skippedBy base (g .n) (bitAt (now (used .entry))) head (made count allowance)) ⌝ }
+    ensures { λ r. ⌜ (take count (now (taken .exit)) ≡ listFrom (placeOf (leastDelay d) (g .n) (bitAt (now (used .entry))) head) 0 count) × (r ≡ skippedBy (leastDelay d) (g .n) (bitAt (now (used .entry))) head (made count allowance)) ⌝ }
 {
     let mut marks = [0u8; Geometry::MOST_USED_BYTES];
-    take_in(used, g, head, count, taken, allowance, &mut marks)
+    if d.tracks == 1 {
+        return take_on_one(used, g, d, head, count, taken, allowance, &mut marks);
+    }
+    take_on_any(used, g, d, head, count, taken, allowance, &mut marks)
 }
 
 // The same, by the size of the volume.
 fn take_sectors(
     used: &[u8],
     g: Geometry,
+    d: Drive,
     head: u32,
     count: usize,
     taken: &mut [u32],
     allowance: u32,
 ) -> u32
     requires { ⌜ geometryFits g ≡ true ⌝ }
+    requires { ⌜ driveFits (g .n) d ≡ true ⌝ }
     requires { ⌜ length (now used) ≡ usedBytes (g .n) ⌝ }
     requires { ⌜ head < g .n ⌝ }
     requires { ⌜ count ≤ length (now taken) ⌝ }
     requires { ⌜ count ≤ commitSectors ⌝ }
-    ensures { λ r. ⌜ (take count (now (taken .exit)) ≡ listFrom (placeOf base (g .n) (bitAt (now (used .entry))) head) 0 count) × (r ≡ skippedBy base (g .n) (bitAt (now (used .entry))) head (made count allowance)) ⌝ }
+    ensures { λ r. ⌜ (take count (now (taken .exit)) ≡ listFrom (placeOf (leastDelay d) (g .n) (bitAt (now (used .entry))) head) 0 count) × (r ≡ skippedBy (leastDelay d) (g .n) (bitAt (now (used .entry))) head (made count allowance)) ⌝ }
 {
     if g.n <= Geometry::SMALL {
-        return take_few(used, g, head, count, taken, allowance);
+        return take_few(used, g, d, head, count, taken, allowance);
     }
-    take_any(used, g, head, count, taken, allowance)
+    take_any(used, g, d, head, count, taken, allowance)
 }
 
 // Flags the pieces of the named blocks, and lists the branches to the others.
@@ -205,6 +298,7 @@ pub fn plan(
     allowance: u32,
 ) -> Planned
     requires { ⌜ geometryFits (s .geometry) ≡ true ⌝ }
+    requires { ⌜ driveFits (s .geometry .n) (s .drive) ≡ true ⌝ }
     requires { ⌜ length (now image) ≡ sectorBytes * s .geometry .n ⌝ }
     requires { ⌜ length (now places) ≡ piecesFor (s .geometry .l) ⌝ }
     requires { ⌜ length (now numbers) ≡ piecesFor (s .geometry .l) ⌝ }
@@ -223,7 +317,7 @@ pub fn plan(
     let listed = list_untouched(s, image, places, numbers, blocks, written, branches);
     let sizes = count_members(written, Geometry::pieces_for(g.l), listed);
     let total = (count + sizes.members) as usize;
-    let skipped = take_sectors(used, g, head, total, taken, allowance);
+    let skipped = take_sectors(used, g, s.drive, head, total, taken, allowance);
     Planned {
         branches: sizes.branches,
         members: sizes.members,

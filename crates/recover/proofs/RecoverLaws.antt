@@ -6,6 +6,7 @@ use mathlib.Core.List.{List}
 use native.Mathlib.Omega.{arith}
 use lib.ListN.{length}
 use Rattle.geometry.specs.declared.Geometry.{Geometry}
+use Rattle.geometry.specs.declared.Drive.{Drive}
 use Rattle.geometry.specs.declared.Settings.{Settings}
 use Rattle.geometry.specs.Geometry.{sectorBytes, piecesFor, usedBytes, geometryOf, geometryFits}
 use Rattle.state.specs.declared.State.{State}
@@ -26,7 +27,7 @@ use Rattle.walk.proofs.WalkedLaws.{found-nowhere}
 use Rattle.resume.proofs.ResumeLaws.{performed-any, recovered-any}
 
 -- What was found is what the definition finds. The tables with a prime are the ones that a walk left.
-module _ (g : Geometry) (allowance : ℕ) (im mp pl nu us mp′ pl′ nu′ us′ : List ℕ)
+module _ (g : Geometry) (drive : Drive) (allowance : ℕ) (im mp pl nu us mp′ pl′ nu′ us′ : List ℕ)
     (e2 : length mp′ ≡ length mp) (e3 : length pl′ ≡ length pl) (e4 : length nu′ ≡ length nu) (e5 : length us′ ≡ length us) where
   abbrev finding : Finding
   finding = findingOf g (imageView g (sectorAt im)) (sectorAt im 0)
@@ -35,32 +36,32 @@ module _ (g : Geometry) (allowance : ℕ) (im mp pl nu us mp′ pl′ nu′ us�
       → finding ≡ found (record { tables = tablesOf mp′ pl′ nu′ us′; tail = tail; number = number }) (Walked read) (parkSectorCleared (isBlank (sectorAt im 0)))
       → r
       ≡ performed allowance
-      (recoveryAction g (record { tables = tablesOf mp′ pl′ nu′ us′; tail = tail; number = number }) (Walked read) (parkSectorCleared (isBlank (sectorAt im 0))))
+      (recoveryAction g drive (record { tables = tablesOf mp′ pl′ nu′ us′; tail = tail; number = number }) (Walked read) (parkSectorCleared (isBlank (sectorAt im 0))))
       (memory im mp′ pl′ nu′ us′)
-      → r ≡ recovered g allowance (memory im mp pl nu us) finding
+      → r ≡ recovered g drive allowance (memory im mp pl nu us) finding
   unfolding recovered
   walk-found r tail number read w e =
-      e ∙ performed-any g allowance im mp pl nu us mp′ pl′ nu′ us′ e2 e3 e4 e5 _ ∙ ap (λ (f : Finding). recovered g allowance (memory im mp pl nu us) f) (sym w)
+      e ∙ performed-any g drive allowance im mp pl nu us mp′ pl′ nu′ us′ e2 e3 e4 e5 _ ∙ ap (λ (f : Finding). recovered g drive allowance (memory im mp pl nu us) f) (sym w)
 
   pub scan-found : (r : After) → finding ≡ scanFinding g (imageView g (sectorAt im)) (sectorAt im 0)
-      → r ≡ recovered g allowance (memory im mp′ pl′ nu′ us′) (scanFinding g (imageView g (sectorAt im)) (sectorAt im 0))
-      → r ≡ recovered g allowance (memory im mp pl nu us) finding
+      → r ≡ recovered g drive allowance (memory im mp′ pl′ nu′ us′) (scanFinding g (imageView g (sectorAt im)) (sectorAt im 0))
+      → r ≡ recovered g drive allowance (memory im mp pl nu us) finding
   scan-found r w e =
-      e ∙ recovered-any g allowance im mp pl nu us mp′ pl′ nu′ us′ e2 e3 e4 e5 (scanFinding g (imageView g (sectorAt im)) (sectorAt im 0))
-      ∙ ap (recovered g allowance (memory im mp pl nu us)) (sym w)
+      e ∙ recovered-any g drive allowance im mp pl nu us mp′ pl′ nu′ us′ e2 e3 e4 e5 (scanFinding g (imageView g (sectorAt im)) (sectorAt im 0))
+      ∙ ap (recovered g drive allowance (memory im mp pl nu us)) (sym w)
 
 -- The volume is the one that was asked for.
 module _ (im mp pl nu us : List ℕ) (settings : Settings) (g : Geometry) (asked : g ≡ geometryOf (length im / 512) settings) where
   abbrev foundIn : Geometry → ℕ → After
-  foundIn x allowance = recovered x allowance (memory im mp pl nu us) (findingOf x (imageView x (sectorAt im)) (sectorAt im 0))
+  foundIn x allowance = recovered x (settings .drive) allowance (memory im mp pl nu us) (findingOf x (imageView x (sectorAt im)) (sectorAt im 0))
 
   pub asked-for : (allowance : ℕ) (r : After) → r ≡ foundIn g allowance → r ≡ foundIn (geometryOf (length im / 512) settings) allowance
   asked-for allowance r e = e ∙ ap (λ (x : Geometry). foundIn x allowance) asked
 
   pub asked-scan : (allowance : ℕ) (r : After) → Nowhere ≡ startOf (g .n) (imageView g (sectorAt im)) (parkedIn (sectorAt im 0))
-      → r ≡ recovered g allowance (memory im mp pl nu us) (scanFinding g (imageView g (sectorAt im)) (sectorAt im 0))
+      → r ≡ recovered g (settings .drive) allowance (memory im mp pl nu us) (scanFinding g (imageView g (sectorAt im)) (sectorAt im 0))
       → r ≡ foundIn (geometryOf (length im / 512) settings) allowance
-  asked-scan allowance r s e = asked-for allowance r (e ∙ ap (recovered g allowance (memory im mp pl nu us)) (sym (found-nowhere g (sectorAt im) s)))
+  asked-scan allowance r s e = asked-for allowance r (e ∙ ap (recovered g (settings .drive) allowance (memory im mp pl nu us)) (sym (found-nowhere g (sectorAt im) s)))
 
   module _ (pass : Pass ≡ judged (sizeChecks (memory im mp pl nu us) settings)) where
     passed : Lengths im mp pl nu us g
@@ -79,14 +80,14 @@ module _ (im mp pl nu us : List ℕ) (settings : Settings) (g : Geometry) (asked
 module _ (s : State) (im mp pl nu us : List ℕ) (settings : Settings) (allowance : ℕ) where
   recover-is : (v : Verdict) → v ≡ judged (sizeChecks (memory im mp pl nu us) settings)
       → unlessRefused v s (memory im mp pl nu us)
-      (recovered (geometryOf (length im / 512) settings) allowance (memory im mp pl nu us)
+      (recovered (geometryOf (length im / 512) settings) (settings .drive) allowance (memory im mp pl nu us)
       (findingOf (geometryOf (length im / 512) settings) (imageView (geometryOf (length im / 512) settings) (sectorAt im)) (sectorAt im 0)))
       ≡ recoverOf s (memory im mp pl nu us) settings allowance
   unfolding recoverOf memory
   recover-is v e =
       ap (λ (w : Verdict).
       unlessRefused w s (memory im mp pl nu us)
-      (recovered (geometryOf (length im / 512) settings) allowance (memory im mp pl nu us)
+      (recovered (geometryOf (length im / 512) settings) (settings .drive) allowance (memory im mp pl nu us)
       (findingOf (geometryOf (length im / 512) settings) (imageView (geometryOf (length im / 512) settings) (sectorAt im)) (sectorAt im 0))))
       e
 
@@ -96,7 +97,7 @@ module _ (s : State) (im mp pl nu us : List ℕ) (settings : Settings) (allowanc
 
   pub recover-passed : (r : After) → Pass ≡ judged (sizeChecks (memory im mp pl nu us) settings)
       → r
-      ≡ recovered (geometryOf (length im / 512) settings) allowance (memory im mp pl nu us)
+      ≡ recovered (geometryOf (length im / 512) settings) (settings .drive) allowance (memory im mp pl nu us)
       (findingOf (geometryOf (length im / 512) settings) (imageView (geometryOf (length im / 512) settings) (sectorAt im)) (sectorAt im 0))
       → r ≡ recoverOf s (memory im mp pl nu us) settings allowance
   recover-passed r e f = f ∙ recover-is Pass e

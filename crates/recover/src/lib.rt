@@ -15,6 +15,7 @@ ghost use Rattle.walk_start.specs.declared.Start.the-variants.{Tail};
 ghost use Rattle.walk_start.specs.Starting.{startOf};
 use answer::Answer;
 use answer::Verdict;
+use geometry::Drive;
 use geometry::Geometry;
 use geometry::Settings;
 use state::Outcome;
@@ -29,6 +30,7 @@ fn by_walk(
     numbers: &mut [u32],
     used: &mut [u8],
     g: Geometry,
+    drive: Drive,
     tail: u32,
     number: u32,
     allowance: u32,
@@ -40,13 +42,22 @@ fn by_walk(
     requires { ⌜ length (now places) ≡ piecesFor (g .l) ⌝ }
     requires { ⌜ length (now numbers) ≡ piecesFor (g .l) ⌝ }
     requires { ⌜ length (now used) ≡ usedBytes (g .n) ⌝ }
-    ensures { λ r. ⌜ after r (memory (now (image .exit)) (now (map .exit)) (now (places .exit)) (now (numbers .exit)) (now (used .exit))) ≡ recovered g allowance (memory (now (image .entry)) (now (map .entry)) (now (places .entry)) (now (numbers .entry)) (now (used .entry))) (findingOf g (imageView g (sectorAt (now (image .entry)))) (sectorAt (now (image .entry)) 0)) ⌝ }
+    ensures { λ r. ⌜ after r (memory (now (image .exit)) (now (map .exit)) (now (places .exit)) (now (numbers .exit)) (now (used .exit))) ≡ recovered g drive allowance (memory (now (image .entry)) (now (map .entry)) (now (places .entry)) (now (numbers .entry)) (now (used .entry))) (findingOf g (imageView g (sectorAt (now (image .entry)))) (sectorAt (now (image .entry)) 0)) ⌝ }
 {
     if !walk::walk_tables(image, g, tail, number, map, places, numbers, used) {
         if g.n <= Geometry::SMALL {
-            return recover_by_scan::by_small_scan(image, map, places, numbers, used, g, allowance);
+            return recover_by_scan::by_small_scan(
+                image,
+                map,
+                places,
+                numbers,
+                used,
+                g,
+                drive,
+                allowance,
+            );
         }
-        return recover_by_scan::by_scan(image, map, places, numbers, used, g, allowance);
+        return recover_by_scan::by_scan(image, map, places, numbers, used, g, drive, allowance);
     }
     let read = 2 + walk::count_branches(image, places);
     resume::after_walk(
@@ -56,6 +67,7 @@ fn by_walk(
         numbers,
         used,
         g,
+        drive,
         tail,
         number,
         read,
@@ -74,9 +86,10 @@ fn find(
     allowance: u32,
 ) -> Outcome
     requires { ⌜ Pass ≡ judged (sizeChecks (memory (now image) (now map) (now places) (now numbers) (now used)) settings) ⌝ }
-    ensures { λ r. ⌜ after r (memory (now (image .exit)) (now (map .exit)) (now (places .exit)) (now (numbers .exit)) (now (used .exit))) ≡ recovered (geometryOf (length (now (image .entry)) / sectorBytes) settings) allowance (memory (now (image .entry)) (now (map .entry)) (now (places .entry)) (now (numbers .entry)) (now (used .entry))) (findingOf (geometryOf (length (now (image .entry)) / sectorBytes) settings) (imageView (geometryOf (length (now (image .entry)) / sectorBytes) settings) (sectorAt (now (image .entry)))) (sectorAt (now (image .entry)) 0)) ⌝ }
+    ensures { λ r. ⌜ after r (memory (now (image .exit)) (now (map .exit)) (now (places .exit)) (now (numbers .exit)) (now (used .exit))) ≡ recovered (geometryOf (length (now (image .entry)) / sectorBytes) settings) (settings .drive) allowance (memory (now (image .entry)) (now (map .entry)) (now (places .entry)) (now (numbers .entry)) (now (used .entry))) (findingOf (geometryOf (length (now (image .entry)) / sectorBytes) settings) (imageView (geometryOf (length (now (image .entry)) / sectorBytes) settings) (sectorAt (now (image .entry)))) (sectorAt (now (image .entry)) 0)) ⌝ }
 {
     let g = settings.volume((image.len() / Geometry::SECTOR) as u32);
+    let drive = settings.drive;
     match walk_start::parked_at(image, g) {
         Start::Nowhere => {
             if g.n <= Geometry::SMALL {
@@ -87,10 +100,11 @@ fn find(
                     numbers,
                     used,
                     g,
+                    drive,
                     allowance,
                 );
             }
-            recover_by_scan::by_scan(image, map, places, numbers, used, g, allowance)
+            recover_by_scan::by_scan(image, map, places, numbers, used, g, drive, allowance)
         }
         Start::Tail { tail, number } => by_walk(
             image,
@@ -99,6 +113,7 @@ fn find(
             numbers,
             used,
             g,
+            drive,
             tail,
             number,
             allowance,

@@ -9,6 +9,7 @@ ghost use Rattle.volume.specs.Tables.{sectorAt, memory};
 ghost use Rattle.volume.specs.Store.{after};
 ghost use Rattle.volume.specs.Recover.{scanFinding, recovered, imageView};
 use answer::Answer;
+use geometry::Drive;
 use geometry::Geometry;
 use scan::Found;
 use state::Outcome;
@@ -22,6 +23,7 @@ pub fn by_scan(
     numbers: &mut [u32],
     used: &mut [u8],
     g: Geometry,
+    drive: Drive,
     allowance: u32,
 ) -> Outcome
     requires { ⌜ geometryFits g ≡ true ⌝ }
@@ -30,7 +32,7 @@ pub fn by_scan(
     requires { ⌜ length (now places) ≡ piecesFor (g .l) ⌝ }
     requires { ⌜ length (now numbers) ≡ piecesFor (g .l) ⌝ }
     requires { ⌜ length (now used) ≡ usedBytes (g .n) ⌝ }
-    ensures { λ r. ⌜ after r (memory (now (image .exit)) (now (map .exit)) (now (places .exit)) (now (numbers .exit)) (now (used .exit))) ≡ recovered g allowance (memory (now (image .entry)) (now (map .entry)) (now (places .entry)) (now (numbers .entry)) (now (used .entry))) (scanFinding g (imageView g (sectorAt (now (image .entry)))) (sectorAt (now (image .entry)) 0)) ⌝ }
+    ensures { λ r. ⌜ after r (memory (now (image .exit)) (now (map .exit)) (now (places .exit)) (now (numbers .exit)) (now (used .exit))) ≡ recovered g drive allowance (memory (now (image .entry)) (now (map .entry)) (now (places .entry)) (now (numbers .entry)) (now (used .entry))) (scanFinding g (imageView g (sectorAt (now (image .entry)))) (sectorAt (now (image .entry)) 0)) ⌝ }
 {
     let mut above = [0u8; Geometry::MOST_USED_BYTES];
     let found = scan::scan(image, g, map, places, numbers, used, &mut above);
@@ -39,7 +41,7 @@ pub fn by_scan(
             lent::zero_tables(map, places, numbers, used);
             Outcome {
                 answer: Answer::Lost(loss),
-                state: State::lost(g),
+                state: State::lost(g, drive),
             }
         }
         Found::Log { tail, number } => resume::after_scan(
@@ -49,6 +51,7 @@ pub fn by_scan(
             numbers,
             used,
             g,
+            drive,
             tail,
             number,
             &above,
@@ -65,6 +68,7 @@ pub fn by_small_scan(
     numbers: &mut [u32],
     used: &mut [u8],
     g: Geometry,
+    drive: Drive,
     allowance: u32,
 ) -> Outcome
     requires { ⌜ g .n ≤ smallSectors ⌝ }
@@ -74,7 +78,7 @@ pub fn by_small_scan(
     requires { ⌜ length (now places) ≡ piecesFor (g .l) ⌝ }
     requires { ⌜ length (now numbers) ≡ piecesFor (g .l) ⌝ }
     requires { ⌜ length (now used) ≡ usedBytes (g .n) ⌝ }
-    ensures { λ r. ⌜ after r (memory (now (image .exit)) (now (map .exit)) (now (places .exit)) (now (numbers .exit)) (now (used .exit))) ≡ recovered g allowance (memory (now (image .entry)) (now (map .entry)) (now (places .entry)) (now (numbers .entry)) (now (used .entry))) (scanFinding g (imageView g (sectorAt (now (image .entry)))) (sectorAt (now (image .entry)) 0)) ⌝ }
+    ensures { λ r. ⌜ after r (memory (now (image .exit)) (now (map .exit)) (now (places .exit)) (now (numbers .exit)) (now (used .exit))) ≡ recovered g drive allowance (memory (now (image .entry)) (now (map .entry)) (now (places .entry)) (now (numbers .entry)) (now (used .entry))) (scanFinding g (imageView g (sectorAt (now (image .entry)))) (sectorAt (now (image .entry)) 0)) ⌝ }
 {
     let mut above = [0u8; Geometry::SMALL_USED_BYTES];
     let found = scan::scan_small(image, g, map, places, numbers, used, &mut above);
@@ -83,7 +87,7 @@ pub fn by_small_scan(
             lent::zero_tables(map, places, numbers, used);
             Outcome {
                 answer: Answer::Lost(loss),
-                state: State::lost(g),
+                state: State::lost(g, drive),
             }
         }
         Found::Log { tail, number } => resume::after_scan(
@@ -93,6 +97,7 @@ pub fn by_small_scan(
             numbers,
             used,
             g,
+            drive,
             tail,
             number,
             &above,

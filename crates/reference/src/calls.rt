@@ -7,15 +7,22 @@ use reference_commit::changes;
 use reference_recovery::scanned;
 use reference_recovery::walked;
 
+// What a format or a recovery leaves in the state: the settings are those that it was given.
 fn put_state(b: &mut [u32; board::SIZE], n: u32, l: u32, tail: u32, number: u32, phase: u32) {
     board::put(b, board::STATE_N, 0, n);
     board::put(b, board::STATE_L, 0, l);
     board::put(b, board::TAIL, 0, tail);
     board::put(b, board::NUMBER, 0, number);
     board::put(b, board::PHASE, 0, phase);
+    board::copy(
+        b,
+        board::PER_TRACK,
+        board::GIVEN_PER_TRACK,
+        board::SETTING_WORDS,
+    );
 }
 
-// A format or a recovery that came to no good end: N and L are known, the tables are zero.
+// A format or a recovery that came to no good end: N, L and the settings are known, the tables are zero.
 fn lose(b: &mut [u32; board::SIZE], n: u32, l: u32) {
     board::fill(b, board::LENT, board::TABLE_WORDS, 0);
     put_state(b, n, l, 0, 0, 2);

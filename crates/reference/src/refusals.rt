@@ -1,4 +1,4 @@
-// What turns a call back: numbers 1 to 7, in order. 0 where nothing does.
+// What turns a call back: 1, 11, then 2 to 7, in order. 0 where nothing does.
 use reference_board::board;
 use reference_board::consistent;
 use reference_board::places;
@@ -15,6 +15,29 @@ fn size_fits(n: u32, l: u32) -> bool {
         return false;
     }
     n as u64 >= 2 * board::pieces(l) as u64 + 2
+}
+
+// Whether three settings, of the state or given, are those of a drive of n sectors: sectors a track, tracks, head switch.
+// Dealt out over the tracks, the sectors leave none over.
+fn settings_fit(b: &[u32; board::SIZE], settings: u32, n: u32) -> bool {
+    let per_track = board::get(b, settings, 0);
+    let tracks = board::get(b, settings, 1);
+    if per_track > 65536 {
+        return false;
+    }
+    if tracks > 256 {
+        return false;
+    }
+    if board::get(b, settings, 2) > 255 {
+        return false;
+    }
+    if tracks == 0 {
+        return false;
+    }
+    if n % tracks != 0 {
+        return false;
+    }
+    n / tracks == per_track
 }
 
 fn tables_fit(b: &[u32; board::SIZE], n: u32, l: u32) -> bool {
@@ -41,13 +64,16 @@ pub fn of_image(b: &[u32; board::SIZE]) -> u32 {
     if !size_fits(n, l) {
         return 1;
     }
+    if !settings_fit(b, board::GIVEN_PER_TRACK, n) {
+        return 11;
+    }
     if !tables_fit(b, n, l) {
         return 2;
     }
     0
 }
 
-// 1 and 2 for the calls that go by the state.
+// 1, 11 and 2 for the calls that go by the state.
 fn of_state(b: &[u32; board::SIZE], bytes: u64) -> u32 {
     let n = board::get(b, board::STATE_N, 0);
     let l = board::get(b, board::STATE_L, 0);
@@ -56,6 +82,9 @@ fn of_state(b: &[u32; board::SIZE], bytes: u64) -> u32 {
     }
     if board::get(b, board::IMAGE_LENGTH, 0) as u64 != n as u64 * 512 {
         return 1;
+    }
+    if !settings_fit(b, board::PER_TRACK, n) {
+        return 11;
     }
     if !tables_fit(b, n, l) {
         return 2;

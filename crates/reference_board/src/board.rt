@@ -20,56 +20,72 @@ pub const TAIL: u32 = 2;
 pub const NUMBER: u32 = 3;
 // 0 running, 1 parked, 2 cut.
 pub const PHASE: u32 = 4;
+// The drive's settings: sectors a track, tracks, and the head switch in sector times.
+pub const PER_TRACK: u32 = 5;
+
+pub const TRACKS: u32 = 6;
+
+pub const SWITCH: u32 = 7;
+// How many words the settings have, and the state with them.
+pub const SETTING_WORDS: u32 = 3;
+
+pub const STATE_WORDS: u32 = 8;
 // Which call: 0 format, 1 write, 2 drop, 3 read, 4 park, 5 recover.
-pub const CALL: u32 = 5;
-// The L that a format or a recover is given.
-pub const BLOCK_COUNT: u32 = 6;
+pub const CALL: u32 = 8;
+// What a format or a recover is given: L, and the settings in the order of the state.
+pub const BLOCK_COUNT: u32 = 9;
 
-pub const HEAD: u32 = 7;
+pub const GIVEN_PER_TRACK: u32 = 10;
+
+pub const GIVEN_TRACKS: u32 = 11;
+
+pub const GIVEN_SWITCH: u32 = 12;
+
+pub const HEAD: u32 = 13;
 // How many blocks a write or a drop names.
-pub const COUNT: u32 = 8;
+pub const COUNT: u32 = 14;
 // The stores that may be made.
-pub const ALLOWED: u32 = 9;
+pub const ALLOWED: u32 = 15;
 // The lengths lent: the image's and the used map's in bytes, those of the other tables in words.
-pub const IMAGE_LENGTH: u32 = 10;
+pub const IMAGE_LENGTH: u32 = 16;
 
-pub const MAP_LENGTH: u32 = 11;
+pub const MAP_LENGTH: u32 = 17;
 
-pub const PLACES_LENGTH: u32 = 12;
+pub const PLACES_LENGTH: u32 = 18;
 
-pub const NUMBERS_LENGTH: u32 = 13;
+pub const NUMBERS_LENGTH: u32 = 19;
 
-pub const USED_LENGTH: u32 = 14;
+pub const USED_LENGTH: u32 = 20;
 // The bytes of a write, or of a read's buffer.
-pub const BYTES_LENGTH: u32 = 15;
+pub const BYTES_LENGTH: u32 = 21;
 // What was answered: 0, or the refusal's number.
-pub const ANSWER: u32 = 16;
+pub const ANSWER: u32 = 22;
 
-pub const STORES: u32 = 17;
+pub const STORES: u32 = 23;
 // 1 walk, 2 scan.
-pub const WAY: u32 = 18;
+pub const WAY: u32 = 24;
 // The sectors read.
-pub const READS: u32 = 19;
-// Of a write or a drop, the used sectors that the searches for the stores made passed over.
-pub const SKIPPED: u32 = 20;
+pub const READS: u32 = 25;
+// Of a write or a drop, the sum of the delays to the stores made.
+pub const SKIPPED: u32 = 26;
 // How many words the answer has.
 pub const ANSWER_WORDS: u32 = 5;
 // Within a call, the stores that are listed so far.
-pub const LISTED: u32 = 21;
+pub const LISTED: u32 = 27;
 // Within a commit: branches of the first member, where the next search begins, members made, and the last one's sector.
-pub const BRANCH_COUNT: u32 = 22;
+pub const BRANCH_COUNT: u32 = 28;
 
-pub const NEXT: u32 = 23;
+pub const NEXT: u32 = 29;
 
-pub const MEMBERS: u32 = 24;
+pub const MEMBERS: u32 = 30;
 
-pub const LAST_PLACE: u32 = 25;
+pub const LAST_PLACE: u32 = 31;
 // Within a recovery, the tail that was found and its number.
-pub const FOUND_TAIL: u32 = 26;
+pub const FOUND_TAIL: u32 = 32;
 
-pub const FOUND_NUMBER: u32 = 27;
+pub const FOUND_NUMBER: u32 = 33;
 // Within a call, the stores listed so far that are not of zeros.
-pub const FILLED: u32 = 28;
+pub const FILLED: u32 = 34;
 // The blocks that a call names; a read's is the first.
 pub const BLOCKS: u32 = 64;
 // The words of a write's blocks, 128 for each.
@@ -112,10 +128,10 @@ pub const DONE: u32 = WAITING + P_MOST;
 pub const LIST_PLACES: u32 = DONE + P_MOST;
 
 pub const LIST_WORDS: u32 = LIST_PLACES + N_MOST + P_MOST;
-// Of each store of a commit, the used sectors that the search for its place passed over.
-pub const LIST_SKIPPED: u32 = LIST_WORDS + N_MOST + P_MOST;
+// Of each store of a commit, the delay to its place.
+pub const LIST_DELAYS: u32 = LIST_WORDS + N_MOST + P_MOST;
 // Sectors of words: the first stays zero, then one for each store that is not of zeros, at most those of a commit.
-pub const LIST: u32 = LIST_SKIPPED + COUNT_MOST + P_MOST;
+pub const LIST: u32 = LIST_DELAYS + COUNT_MOST + P_MOST;
 // The words of a board.
 pub const SIZE: usize = LIST as usize + (1 + COUNT_MOST as usize + P_MOST as usize) * 128;
 

@@ -121,16 +121,16 @@ pub fn perform(b: &mut [u32; board::SIZE]) -> bool {
     false
 }
 
-// The sectors passed over for the first so many stores of a commit.
+// The delays to the first so many stores of a commit, added up.
 fn skipped_for(b: &[u32; board::SIZE], made: u32) -> u32 {
     let mut skipped = 0u32;
     for j in 0..made {
-        skipped = board::plus(skipped, board::get(b, board::LIST_SKIPPED, j));
+        skipped = board::plus(skipped, board::get(b, board::LIST_DELAYS, j));
     }
     skipped
 }
 
-// Of a commit whose stores are made, as many as were allowed: what was passed over for these.
+// Of a commit whose stores are made, as many as were allowed: the delays to these.
 pub fn put_skipped(b: &mut [u32; board::SIZE]) {
     let skipped = skipped_for(b, board::get(b, board::STORES, 0));
     board::put(b, board::SKIPPED, 0, skipped);

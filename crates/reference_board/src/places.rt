@@ -1,68 +1,105 @@
-// Placing: where the next sector of a commit goes.
+// Placing: where the next sector of a commit goes. The drive is that of the state, whose settings were judged before.
 use crate::board;
 use crate::consistent;
 
-// The order in which a search that begins at `from` comes to the sectors: those before `from` after all others, since after the last one it goes
-// on at 1.
-fn turn(from: u32, k: u32) -> u64 {
-    if k >= from {
-        return k as u64;
+// A free sector, and how long it is until it comes under the head. Sector 0, which is never free, stands for none.
+struct Found {
+    sector: u32,
+    delay: u32,
+}
+
+fn per_track(b: &[u32; board::SIZE]) -> u32 {
+    board::get(b, board::PER_TRACK, 0)
+}
+
+// The first sector of the track that k lies on.
+fn track_start(k: u32, per_track: u32) -> u32 {
+    if per_track == 0 {
+        return 0;
     }
-    k as u64 + 4_294_967_296
+    board::minus(k, k % per_track)
+}
+
+// How far the track turns from one position until it has another under the head.
+fn turn(from: u32, to: u32, per_track: u32) -> u32 {
+    if to >= from {
+        return to - from;
+    }
+    board::minus(board::plus(to, per_track), from)
+}
+
+// A position comes by first after `first` sector times, and then once a revolution: the first time that the head, which takes
+// `switch` to another track, is there.
+fn met(first: u32, per_track: u32, switch: u32) -> u32 {
+    let mut wait = first;
+    for revolution in 0..switch {
+        if wait >= switch {
+            return wait;
+        }
+        wait = board::plus(wait, per_track);
+    }
+    wait
+}
+
+// The delay from one sector, where the head stands, to another.
+fn delay(b: &[u32; board::SIZE], from: u32, k: u32) -> u32 {
+    let per_track = per_track(b);
+    let here = track_start(from, per_track);
+    let there = track_start(k, per_track);
+    let first = turn(board::minus(from, here), board::minus(k, there), per_track);
+    if here == there {
+        return first;
+    }
+    met(first, per_track, board::get(b, board::SWITCH, 0))
 }
 
 fn is_free(b: &[u32; board::SIZE], k: u32) -> bool {
     board::get(b, board::plus(board::MADE, board::USED), k) == 0
 }
 
-// The free sector to which the search comes first: of all free ones that whose turn is first. 0 where none is free.
-fn nearest(b: &[u32; board::SIZE], from: u32, n: u32) -> u32 {
-    let mut best = 0u32;
+// The free sector of least delay. All are tried, in ascending order, so that of two that tie the lower stays.
+fn nearest(b: &[u32; board::SIZE], from: u32, n: u32) -> Found {
+    let mut best = Found {
+        sector: 0,
+        delay: 0,
+    };
     for k in 1..n {
         if is_free(b, k) {
-            best = nearer(best, k, from);
+            best = nearer(best, k, delay(b, from, k));
         }
     }
     best
 }
 
-fn nearer(best: u32, k: u32, from: u32) -> u32 {
-    if best == 0 {
-        return k;
+fn nearer(best: Found, k: u32, delay: u32) -> Found {
+    if best.sector != 0 {
+        if best.delay <= delay {
+            return best;
+        }
     }
-    if turn(from, k) < turn(from, best) {
-        return k;
-    }
-    best
-}
-
-// The sectors that a search from `from` leaves behind before it comes to k, the first free one: all of them used. One that goes on at 1 passes
-// those from `from` to n - 1 and those from 1 to k - 1; to sector 0 comes only one that begins there.
-fn passed(from: u32, k: u32, n: u32) -> u32 {
-    if k >= from {
-        return k - from;
-    }
-    board::plus(board::minus(n, from), board::minus(k, 1))
+    Found { sector: k, delay }
 }
 
 // Takes the next free sector, for the store that is listed next. It stays taken to the end of the commit, and nothing is freed before that.
 pub fn take(b: &mut [u32; board::SIZE], n: u32) -> u32 {
-    let from = board::get(b, board::NEXT, 0);
-    let k = nearest(b, from, n);
+    let found = nearest(b, board::get(b, board::NEXT, 0), n);
+    let k = found.sector;
     let store = board::get(b, board::LISTED, 0);
-    board::put(b, board::LIST_SKIPPED, store, passed(from, k, n));
+    let next = after(k, per_track(b));
+    board::put(b, board::LIST_DELAYS, store, found.delay);
     board::put(b, board::plus(board::MADE, board::USED), k, 1);
-    board::put(b, board::NEXT, 0, after(k, n));
+    board::put(b, board::NEXT, 0, next);
     k
 }
 
-// The sector just after k: after n - 1 it is 1.
-fn after(k: u32, n: u32) -> u32 {
+// The sector one position after k, on its track: the one after the last is the track's first.
+fn after(k: u32, per_track: u32) -> u32 {
+    let start = track_start(k, per_track);
     let next = board::plus(k, 1);
-    if next < n {
+    if board::minus(next, start) < per_track {
         return next;
     }
-    1
+    start
 }
 
 // Whether a commit has the room that it needs: so many blocks, and P.

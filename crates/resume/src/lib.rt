@@ -14,6 +14,7 @@ ghost use Rattle.volume.specs.Format.{blankStore};
 ghost use Rattle.volume.specs.Recover.{parkSectorCleared, isBlank, recoveryAction};
 ghost use Rattle.power.specs.Power.{powered};
 use answer::Answer;
+use geometry::Drive;
 use geometry::Geometry;
 use power::allowance::Power;
 use state::Outcome;
@@ -26,14 +27,15 @@ fn give_up(
     numbers: &mut [u32],
     used: &mut [u8],
     g: Geometry,
+    drive: Drive,
     allowance: u32,
 ) -> Outcome
-    ensures { λ r. ⌜ (r .answer ≡ PowerFailed (storesAlone allowance)) × (r .state ≡ lostState g) × (tablesOf (now (map .exit)) (now (places .exit)) (now (numbers .exit)) (now (used .exit)) ≡ zeroTables) ⌝ }
+    ensures { λ r. ⌜ (r .answer ≡ PowerFailed (storesAlone allowance)) × (r .state ≡ lostState g drive) × (tablesOf (now (map .exit)) (now (places .exit)) (now (numbers .exit)) (now (used .exit)) ≡ zeroTables) ⌝ }
 {
     lent::zero_tables(map, places, numbers, used);
     Outcome {
         answer: Answer::power_failed(allowance),
-        state: State::lost(g),
+        state: State::lost(g, drive),
     }
 }
 
@@ -54,22 +56,23 @@ pub fn after_walk(
     numbers: &mut [u32],
     used: &mut [u8],
     g: Geometry,
+    drive: Drive,
     tail: u32,
     number: u32,
     read: u32,
     allowance: u32,
 ) -> Outcome
     requires { ⌜ sectorBytes ≤ length (now image) ⌝ }
-    ensures { λ r. ⌜ after r (memory (now (image .exit)) (now (map .exit)) (now (places .exit)) (now (numbers .exit)) (now (used .exit))) ≡ performed allowance (recoveryAction g (record { tables = tablesOf (now (map .entry)) (now (places .entry)) (now (numbers .entry)) (now (used .entry)); tail = tail; number = number }) (Walked read) (parkSectorCleared (isBlank (sectorAt (now (image .entry)) 0)))) (memory (now (image .entry)) (now (map .entry)) (now (places .entry)) (now (numbers .entry)) (now (used .entry))) ⌝ }
+    ensures { λ r. ⌜ after r (memory (now (image .exit)) (now (map .exit)) (now (places .exit)) (now (numbers .exit)) (now (used .exit))) ≡ performed allowance (recoveryAction g drive (record { tables = tablesOf (now (map .entry)) (now (places .entry)) (now (numbers .entry)) (now (used .entry)); tail = tail; number = number }) (Walked read) (parkSectorCleared (isBlank (sectorAt (now (image .entry)) 0)))) (memory (now (image .entry)) (now (map .entry)) (now (places .entry)) (now (numbers .entry)) (now (used .entry))) ⌝ }
 {
     let power = clear_first(image, allowance);
     match power {
-        Power::Failed => give_up(map, places, numbers, used, g, allowance),
+        Power::Failed => give_up(map, places, numbers, used, g, drive, allowance),
         Power::Left(left) => {
             let stores = allowance - left;
             Outcome {
                 answer: Answer::walked(read, stores),
-                state: State::running(g, tail, number),
+                state: State::running(g, drive, tail, number),
             }
         }
     }
@@ -83,6 +86,7 @@ pub fn after_scan(
     numbers: &mut [u32],
     used: &mut [u8],
     g: Geometry,
+    drive: Drive,
     tail: u32,
     number: u32,
     above: &[u8],
@@ -91,16 +95,16 @@ pub fn after_scan(
     requires { ⌜ 1 ≤ g .n ⌝ }
     requires { ⌜ length (now image) ≡ sectorBytes * g .n ⌝ }
     requires { ⌜ g .n ≤ 8 * length (now above) ⌝ }
-    ensures { λ r. ⌜ after r (memory (now (image .exit)) (now (map .exit)) (now (places .exit)) (now (numbers .exit)) (now (used .exit))) ≡ performed allowance (recoveryAction g (record { tables = tablesOf (now (map .entry)) (now (places .entry)) (now (numbers .entry)) (now (used .entry)); tail = tail; number = number }) (Scanned (g .n)) (storesBelow (bitAt (now (above .entry))) blankStore (g .n) ++ parkSectorCleared (isBlank (sectorAt (now (image .entry)) 0) || bitAt (now (above .entry)) 0))) (memory (now (image .entry)) (now (map .entry)) (now (places .entry)) (now (numbers .entry)) (now (used .entry))) ⌝ }
+    ensures { λ r. ⌜ after r (memory (now (image .exit)) (now (map .exit)) (now (places .exit)) (now (numbers .exit)) (now (used .exit))) ≡ performed allowance (recoveryAction g drive (record { tables = tablesOf (now (map .entry)) (now (places .entry)) (now (numbers .entry)) (now (used .entry)); tail = tail; number = number }) (Scanned (g .n)) (storesBelow (bitAt (now (above .entry))) blankStore (g .n) ++ parkSectorCleared (isBlank (sectorAt (now (image .entry)) 0) || bitAt (now (above .entry)) 0))) (memory (now (image .entry)) (now (map .entry)) (now (places .entry)) (now (numbers .entry)) (now (used .entry))) ⌝ }
 {
     let power = clear::clear_all(image, g.n, above, allowance);
     match power {
-        Power::Failed => give_up(map, places, numbers, used, g, allowance),
+        Power::Failed => give_up(map, places, numbers, used, g, drive, allowance),
         Power::Left(left) => {
             let stores = allowance - left;
             Outcome {
                 answer: Answer::scanned(g.n, stores),
-                state: State::running(g, tail, number),
+                state: State::running(g, drive, tail, number),
             }
         }
     }

@@ -2,6 +2,7 @@
 use Prim.Native.Nat.{ℕ}
 use mathlib.Core.Bool.{Bool, true, false}
 use Rattle.geometry.specs.declared.Geometry.{Geometry}
+use Rattle.geometry.specs.declared.Drive.{Drive}
 use Rattle.state.specs.declared.State.{State}
 use Rattle.state.specs.declared.Phase.{Phase}
 use Rattle.state.specs.declared.Phase.the-variants.{Running, Parked, Cut}
@@ -14,7 +15,7 @@ phaseNumber Cut = 2
 
 -- The state with another phase.
 abbrev pub inPhase : State → Phase → State
-inPhase s phase = record { geometry = s .geometry; tail = s .tail; number = s .number; phase = phase }
+inPhase s phase = record { geometry = s .geometry; drive = s .drive; tail = s .tail; number = s .number; phase = phase }
 
 abbrev pub parkedState : State → State
 parkedState s = inPhase s Parked
@@ -23,16 +24,16 @@ parkedState s = inPhase s Parked
 abbrev pub cutState : State → State
 cutState s = inPhase s Cut
 
-abbrev pub freshState : Geometry → ℕ → ℕ → State
-freshState g tail number = record { geometry = g; tail = tail; number = number; phase = Running }
+abbrev pub freshState : Geometry → Drive → ℕ → ℕ → State
+freshState g drive tail number = record { geometry = g; drive = drive; tail = tail; number = number; phase = Running }
 
 -- With a new tail and number, as a commit leaves it.
 abbrev pub committedState : State → ℕ → ℕ → State
-committedState s tail number = freshState (s .geometry) tail number
+committedState s tail number = freshState (s .geometry) (s .drive) tail number
 
--- After 8, 9 or their own 10, format and recover leave their N and L, tail and number 0, phase cut.
-abbrev pub lostState : Geometry → State
-lostState g = record { geometry = g; tail = 0; number = 0; phase = Cut }
+-- After 8, 9 or their own 10, format and recover leave their N, L and drive, tail and number 0, phase cut.
+abbrev pub lostState : Geometry → Drive → State
+lostState g drive = record { geometry = g; drive = drive; tail = 0; number = 0; phase = Cut }
 
 -- Write, drop and park need running; read needs running or parked.
 abbrev pub isRunning : Phase → Bool

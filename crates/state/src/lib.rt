@@ -2,6 +2,7 @@
 ghost use mathlib.Core.Path.{_≡_};
 ghost use Rattle.state.specs.State.{parkedState, cutState, committedState, freshState, lostState};
 use answer::Answer;
+use geometry::Drive;
 use geometry::Geometry;
 
 pub enum Phase {
@@ -13,6 +14,7 @@ pub enum Phase {
 
 pub struct State {
     pub geometry: Geometry,
+    pub drive: Drive,
     // The sector of the newest closed commit's closing map sector, and its number.
     pub tail: u32,
     pub number: u32,
@@ -21,23 +23,25 @@ pub struct State {
 
 impl State {
     // Running, as an accepted format or recovery leaves it.
-    pub fn running(g: Geometry, tail: u32, number: u32) -> State
-        ensures { λ r. ⌜ r ≡ freshState g tail number ⌝ }
+    pub fn running(g: Geometry, drive: Drive, tail: u32, number: u32) -> State
+        ensures { λ r. ⌜ r ≡ freshState g drive tail number ⌝ }
     {
         State {
             geometry: g,
+            drive,
             tail,
             number,
             phase: Phase::Running,
         }
     }
 
-    // Nothing but the geometry is known: a format or a recovery did not come to its end.
-    pub fn lost(g: Geometry) -> State
-        ensures { λ r. ⌜ r ≡ lostState g ⌝ }
+    // Nothing but volume and drive is known: a format or a recovery did not come to its end.
+    pub fn lost(g: Geometry, drive: Drive) -> State
+        ensures { λ r. ⌜ r ≡ lostState g drive ⌝ }
     {
         State {
             geometry: g,
+            drive,
             tail: 0,
             number: 0,
             phase: Phase::Cut,
@@ -48,8 +52,10 @@ impl State {
         ensures { λ r. ⌜ r ≡ parkedState self ⌝ }
     {
         let geometry = self.geometry;
+        let drive = self.drive;
         State {
             geometry,
+            drive,
             tail: self.tail,
             number: self.number,
             phase: Phase::Parked,
@@ -60,8 +66,10 @@ impl State {
         ensures { λ r. ⌜ r ≡ cutState self ⌝ }
     {
         let geometry = self.geometry;
+        let drive = self.drive;
         State {
             geometry,
+            drive,
             tail: self.tail,
             number: self.number,
             phase: Phase::Cut,
@@ -73,8 +81,10 @@ impl State {
         ensures { λ r. ⌜ r ≡ committedState self tail number ⌝ }
     {
         let geometry = self.geometry;
+        let drive = self.drive;
         State {
             geometry,
+            drive,
             tail,
             number,
             phase: Phase::Running,

@@ -4,6 +4,8 @@ use reference_board::board;
 use trial_board::cells;
 use trial_board::counts;
 use trial_board::stand;
+use trial_board::stand::Volume;
+use trial_choice::settings;
 
 // Performs the call that stands on the board, and holds one implementation to the other.
 pub fn perform(b: &mut [u32; board::SIZE]) {
@@ -18,6 +20,7 @@ pub fn perform(b: &mut [u32; board::SIZE]) {
 // A recover of the image as it is, with so many stores. (No bytes go with it.)
 pub fn recover(b: &mut [u32; board::SIZE], stores: u32) {
     stand::scramble(b);
+    settings::give(b);
     cells::set(b, board::CALL, 5);
     cells::set(b, board::BYTES_LENGTH, 0);
     cells::set(b, board::ALLOWED, stores);
@@ -101,9 +104,9 @@ fn cut_formats(b: &mut [u32; board::SIZE], count: u32) {
     }
 }
 
-// A format of l blocks in n sectors: cut at each of its stores, then whole.
-pub fn format(b: &mut [u32; board::SIZE], l: u32, n: u32) {
-    stand::stand_format(b, l, n);
+// A format of a volume: cut at each of its stores, then whole.
+pub fn format(b: &mut [u32; board::SIZE], volume: Volume) {
+    stand::stand_format(b, volume);
     let needed = stores_needed(b);
     cut_formats(b, needed);
     cells::set(b, board::ALLOWED, stand::ENOUGH);

@@ -4,8 +4,10 @@ use reference_board::board;
 use trial_board::cells;
 use trial_board::chance;
 use trial_board::stand;
+use trial_board::stand::Volume;
 use trial_choice::choice;
 use trial_choice::damage;
+use trial_choice::settings;
 
 // A recovery of the image with one to three damages, cut or not, and two calls on what it leaves.
 fn recover_damaged(b: &mut [u32; board::SIZE]) {
@@ -34,11 +36,12 @@ fn call_some(b: &mut [u32; board::SIZE]) {
     cuts::perform(b);
 }
 
-// Two calls with one damage in memory.
+// Two calls with one damage in memory, and with wrong settings at times.
 fn call_damaged(b: &mut [u32; board::SIZE]) {
     let mut c = [0u32; board::SIZE];
     cells::keep(&mut c, b);
     damage::damage_memory(&mut c);
+    settings::spoil_some(&mut c);
     call_some(&mut c);
     cells::carry(b, &c);
 }
@@ -60,9 +63,9 @@ fn grow_more(b: &mut [u32; board::SIZE], times: u32, image: bool) {
 }
 
 // A history of so many calls, with a damaged copy of what each leaves: of the image, or of memory.
-pub fn run(b: &mut [u32; board::SIZE], l: u32, n: u32, spread: u32, calls: u32, image: bool) {
+pub fn run(b: &mut [u32; board::SIZE], volume: Volume, spread: u32, calls: u32, image: bool) {
     cells::set(b, cells::SPREAD, spread);
-    stand::stand_format(b, l, n);
+    stand::stand_format(b, volume);
     cuts::perform(b);
     grow_more(b, calls, image);
 }

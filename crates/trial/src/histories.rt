@@ -3,6 +3,7 @@ use crate::cuts;
 use reference_board::board;
 use trial_board::cells;
 use trial_board::chance;
+use trial_board::stand::Volume;
 use trial_choice::choice;
 
 // Every `often`-th call is cut at each of its stores, on a copy.
@@ -34,10 +35,10 @@ fn steps(b: &mut [u32; board::SIZE], calls: u32, often: u32) {
     }
 }
 
-// A history of so many calls on a volume of l blocks in n sectors.
-pub fn run(b: &mut [u32; board::SIZE], l: u32, n: u32, spread: u32, calls: u32, often: u32) {
+// A history of so many calls on a volume.
+pub fn run(b: &mut [u32; board::SIZE], volume: Volume, spread: u32, calls: u32, often: u32) {
     cells::set(b, cells::SPREAD, spread);
-    cuts::format(b, l, n);
+    cuts::format(b, volume);
     steps(b, calls, often);
     cuts::after(b, 0);
 }

@@ -8,7 +8,9 @@ mod plugs;
 mod script;
 
 use reference_board::board;
+use trial_board::stand::Volume;
 use trial_choice::choice;
+use trial_choice::settings;
 
 fn try_script() {
     let mut text = [0u8; script::MOST + 1];
@@ -22,12 +24,17 @@ fn try_script() {
     trial_report::say_script(&b);
 }
 
-// Random histories on one volume. Every `often`-th call is cut at each of its stores.
-fn try_history(l: u32, n: u32, spread: u32, calls: u32, often: u32) {
+// Random histories on one volume, with so many blocks at most in a write and in a drop. Every `often`-th call is cut at each of its
+// stores.
+fn try_volume(volume: Volume, written: u32, dropped: u32, spread: u32, calls: u32, often: u32) {
     let mut b = [0u32; board::SIZE];
-    choice::limit(&mut b, 4, 6);
-    histories::run(&mut b, l, n, spread, calls, often);
-    trial_report::say_history(&b, l, n);
+    choice::limit(&mut b, written, dropped);
+    histories::run(&mut b, volume, spread, calls, often);
+    trial_report::say_history(&b, volume);
+}
+
+fn try_history(l: u32, n: u32, spread: u32, calls: u32, often: u32) {
+    try_volume(Volume::plain(l, n), 4, 6, spread, calls, often);
 }
 
 // Short ones on both sides of a multiple of 64, and on it.
@@ -39,34 +46,38 @@ fn try_sides(below: u32, n: u32, above: u32) {
 
 // Writes of many blocks, so that the volume fills and searches are long.
 fn try_filling(l: u32, n: u32, spread: u32, calls: u32, often: u32) {
-    let mut b = [0u32; board::SIZE];
-    choice::limit(&mut b, 64, 6);
-    histories::run(&mut b, l, n, spread, calls, often);
-    trial_report::say_history(&b, l, n);
+    try_volume(Volume::plain(l, n), 64, 6, spread, calls, often);
 }
 
 // Drops of many pieces, so that commits fold.
 fn try_folds(l: u32, n: u32, spread: u32, calls: u32, often: u32) {
-    let mut b = [0u32; board::SIZE];
-    choice::limit(&mut b, 3, 49);
-    histories::run(&mut b, l, n, spread, calls, often);
-    trial_report::say_history(&b, l, n);
+    try_volume(Volume::plain(l, n), 3, 49, spread, calls, often);
 }
 
-// Damage in the image, or in memory.
-fn try_damage(image: bool, l: u32, n: u32, spread: u32, calls: u32) {
+// A drive of several tracks: every second recovery is given other settings, and every eighth that the history itself makes wrong ones.
+fn try_tracks(volume: Volume, written: u32, dropped: u32, spread: u32, calls: u32, often: u32) {
     let mut b = [0u32; board::SIZE];
-    choice::limit(&mut b, 3, 4);
-    damage::run(&mut b, l, n, spread, calls, image);
-    trial_report::say_damage(&b, image, l, n);
+    choice::limit(&mut b, written, dropped);
+    settings::vary(&mut b, volume);
+    histories::run(&mut b, volume, spread, calls, often);
+    trial_report::say_history(&b, volume);
+}
+
+// Damage in the image, or in memory, with so many blocks at most in a drop.
+fn try_damaged(image: bool, volume: Volume, dropped: u32, spread: u32, calls: u32) {
+    let mut b = [0u32; board::SIZE];
+    choice::limit(&mut b, 3, dropped);
+    damage::run(&mut b, volume, spread, calls, image);
+    trial_report::say_damage(&b, image, volume);
+}
+
+fn try_damage(image: bool, l: u32, n: u32, spread: u32, calls: u32) {
+    try_damaged(image, Volume::plain(l, n), 4, spread, calls);
 }
 
 // The same with drops of many pieces, so that most sectors are signed.
 fn try_damaged_folds(image: bool, l: u32, n: u32, spread: u32, calls: u32) {
-    let mut b = [0u32; board::SIZE];
-    choice::limit(&mut b, 3, 49);
-    damage::run(&mut b, l, n, spread, calls, image);
-    trial_report::say_damage(&b, image, l, n);
+    try_damaged(image, Volume::plain(l, n), 49, spread, calls);
 }
 
 fn try_plugs() {
@@ -113,6 +124,20 @@ fn main() {
     try_folds(4704, 1023, 96, 120, 80);
     try_folds(4704, 1024, 96, 120, 80);
     try_folds(4704, 1025, 96, 120, 80);
+    // Several tracks: without a head switch, with one of a sector, of a revolution and more; tracks of one sector; long tracks, full ones
+    // and folds.
+    try_tracks(Volume::on(200, 12, 3, 0), 4, 6, 20, 600, 1);
+    try_tracks(Volume::on(200, 12, 3, 1), 4, 6, 20, 600, 1);
+    try_tracks(Volume::on(200, 12, 3, 5), 4, 6, 20, 600, 1);
+    try_tracks(Volume::on(200, 12, 2, 6), 4, 6, 20, 600, 1);
+    try_tracks(Volume::on(2, 4, 4, 1), 4, 6, 1, 600, 1);
+    try_tracks(Volume::on(200, 12, 12, 3), 4, 6, 20, 600, 1);
+    try_tracks(Volume::on(1000, 48, 6, 2), 4, 6, 50, 200, 2);
+    try_tracks(Volume::on(600, 64, 8, 3), 4, 6, 30, 100, 3);
+    try_tracks(Volume::on(1500, 128, 16, 20), 4, 6, 60, 60, 4);
+    try_tracks(Volume::on(4704, 128, 8, 3), 3, 49, 96, 40, 6);
+    try_tracks(Volume::on(4000, 1024, 32, 5), 64, 6, 3, 100, 40);
+    try_tracks(Volume::on(4000, 1040, 13, 255), 64, 6, 3, 100, 40);
     try_damage(true, 2, 4, 1, 2000);
     try_damage(true, 200, 12, 20, 3000);
     try_damage(true, 300, 63, 20, 400);
@@ -122,7 +147,9 @@ fn main() {
     try_damaged_folds(true, 4704, 1023, 96, 100);
     try_damaged_folds(true, 4704, 1024, 96, 100);
     try_damaged_folds(true, 4704, 1025, 96, 100);
+    try_damaged(true, Volume::on(200, 12, 3, 1), 4, 20, 800);
     try_damage(false, 200, 12, 20, 3000);
+    try_damaged(false, Volume::on(200, 12, 4, 2), 4, 20, 1500);
     try_damaged_folds(false, 4704, 1023, 96, 60);
     try_damaged_folds(false, 4704, 1024, 96, 60);
     try_damaged_folds(false, 4704, 1025, 96, 60);

@@ -3,6 +3,7 @@ use crate::cuts;
 use reference_board::board;
 use trial_board::cells;
 use trial_board::stand;
+use trial_board::stand::Volume;
 use wording::say;
 
 fn stand_write(b: &mut [u32; board::SIZE], head: u32) {
@@ -22,7 +23,7 @@ fn stand_blocks(b: &mut [u32; board::SIZE], head: u32, seed: u32) {
 
 // The volume after its first write, and the second one on the board.
 fn begin(b: &mut [u32; board::SIZE]) {
-    stand::stand_format(b, 200, 12);
+    stand::stand_format(b, Volume::plain(200, 12));
     cuts::perform(b);
     stand_blocks(b, 6, 1000);
     cuts::perform(b);

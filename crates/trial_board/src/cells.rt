@@ -50,18 +50,28 @@ pub const FOLD_CUTS: u32 = board::CALLER + 17;
 // How often each number was answered; there is room for 0 to 17.
 pub const ANSWERED: u32 = board::CALLER + 18;
 
-pub const COUNT_WORDS: u32 = 32;
+// Commits whose closing sector lies on another track than the head.
+pub const SWITCHES: u32 = board::CALLER + 36;
+
+pub const COUNT_WORDS: u32 = 33;
 
 // The block that is named next.
-pub const CURSOR: u32 = board::CALLER + 36;
+pub const CURSOR: u32 = board::CALLER + 37;
 
 // Of a script: the bytes that a call is lent too many, and the line.
-pub const BYTES_MORE: u32 = board::CALLER + 37;
+pub const BYTES_MORE: u32 = board::CALLER + 38;
 
-pub const LINE: u32 = board::CALLER + 38;
+pub const LINE: u32 = board::CALLER + 39;
+
+// Whether recoveries are given other settings than the format, and of those that the format was given the tracks and the switch.
+pub const VARIED: u32 = board::CALLER + 40;
+
+pub const OWN_TRACKS: u32 = board::CALLER + 41;
+
+pub const OWN_SWITCH: u32 = board::CALLER + 42;
 
 // The seeds of the blocks of a write.
-pub const SEEDS: u32 = board::CALLER + 40;
+pub const SEEDS: u32 = board::CALLER + 48;
 
 // The plain disk: a seed for each block.
 pub const DISK: u32 = board::CALLER + 160;

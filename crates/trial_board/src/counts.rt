@@ -17,15 +17,39 @@ fn count_fold(b: &mut [u32; board::SIZE], cell: u32) {
     }
 }
 
+// A search goes around where the tail comes to lie below the head.
 fn count_wrap(b: &mut [u32; board::SIZE]) {
     if cells::get(b, board::TAIL) < cells::get(b, board::HEAD) {
         cells::add(b, cells::WRAPS, 1);
     }
 }
 
+fn track_of(k: u32, per_track: u32) -> u32 {
+    if per_track == 0 {
+        return 0;
+    }
+    k / per_track
+}
+
+fn count_switch(b: &mut [u32; board::SIZE]) {
+    let per_track = cells::get(b, board::PER_TRACK);
+    let tail = track_of(cells::get(b, board::TAIL), per_track);
+    if tail != track_of(cells::get(b, board::HEAD), per_track) {
+        cells::add(b, cells::SWITCHES, 1);
+    }
+}
+
+fn count_move(b: &mut [u32; board::SIZE]) {
+    if cells::get(b, board::TRACKS) == 1 {
+        count_wrap(b);
+    } else {
+        count_switch(b);
+    }
+}
+
 fn count_accepted(b: &mut [u32; board::SIZE]) {
     count_fold(b, cells::FOLDS);
-    count_wrap(b);
+    count_move(b);
 }
 
 fn count_commit(b: &mut [u32; board::SIZE]) {

@@ -5,11 +5,42 @@ use reference_board::board;
 // More stores than any call makes.
 pub const ENOUGH: u32 = 100000;
 
+// A volume and the drive that it is formatted for: n sectors on so many tracks.
+pub struct Volume {
+    pub l: u32,
+    pub n: u32,
+    pub tracks: u32,
+    pub switch: u32,
+}
+
+impl Volume {
+    pub fn on(l: u32, n: u32, tracks: u32, switch: u32) -> Volume {
+        Volume {
+            l,
+            n,
+            tracks,
+            switch,
+        }
+    }
+
+    // On one track.
+    pub fn plain(l: u32, n: u32) -> Volume {
+        Volume::on(l, n, 1, 0)
+    }
+
+    pub fn per_track(self) -> u32 {
+        if self.tracks == 0 {
+            return 0;
+        }
+        self.n / self.tracks
+    }
+}
+
 // Memory as a plug leaves it: nothing in state and tables is worth anything.
 pub fn scramble(b: &mut [u32; board::SIZE]) {
     let l = cells::get(b, board::BLOCK_COUNT);
     let p = board::pieces(l);
-    board::fill(b, board::STATE_N, 5, 1);
+    board::fill(b, board::STATE_N, board::STATE_WORDS, 1);
     board::fill(b, board::LENT, l, 3_735_928_559);
     board::fill(b, board::LENT + board::PLACES, p, 7);
     board::fill(b, board::LENT + board::NUMBERS, p, 9);
@@ -26,9 +57,17 @@ fn put_lengths(b: &mut [u32; board::SIZE], l: u32, n: u32) {
     cells::set(b, board::USED_LENGTH, board::used_bytes(n));
 }
 
+// The settings that a format or a recover is given from here on.
+pub fn put_settings(b: &mut [u32; board::SIZE], per_track: u32, tracks: u32, switch: u32) {
+    cells::set(b, board::GIVEN_PER_TRACK, per_track);
+    cells::set(b, board::GIVEN_TRACKS, tracks);
+    cells::set(b, board::GIVEN_SWITCH, switch);
+}
+
 // Stands a format of such a volume on the board.
-pub fn stand_format(b: &mut [u32; board::SIZE], l: u32, n: u32) {
-    put_lengths(b, l, n);
+pub fn stand_format(b: &mut [u32; board::SIZE], volume: Volume) {
+    put_lengths(b, volume.l, volume.n);
+    put_settings(b, volume.per_track(), volume.tracks, volume.switch);
     cells::set(b, board::CALL, 0);
     cells::set(b, board::BYTES_LENGTH, 0);
     cells::set(b, board::ALLOWED, ENOUGH);

@@ -1,4 +1,5 @@
 // Random calls: which one, its blocks, its head and its stores.
+use crate::settings;
 use reference_board::board;
 use trial_board::cells;
 use trial_board::chance;
@@ -137,12 +138,17 @@ fn choose_plain(b: &mut [u32; board::SIZE], call: u32) {
     cells::set(b, board::CALL, call);
 }
 
+fn choose_recover(b: &mut [u32; board::SIZE]) {
+    settings::give_any(b);
+    choose_plain(b, 5);
+}
+
 fn choose_usual(b: &mut [u32; board::SIZE]) {
     match chance::below(b, 16) {
         0..=7 => choose_write(b),
         8..=11 => choose_drop(b),
         12 => choose_read(b),
-        13 => choose_plain(b, 5),
+        13 => choose_recover(b),
         _ => choose_plain(b, 4),
     }
 }
@@ -151,7 +157,7 @@ fn choose_mostly_drops(b: &mut [u32; board::SIZE]) {
     match chance::below(b, 16) {
         0..=2 => choose_write(b),
         3 => choose_read(b),
-        4 => choose_plain(b, 5),
+        4 => choose_recover(b),
         5 => choose_plain(b, 4),
         _ => choose_drop(b),
     }
@@ -171,7 +177,7 @@ fn choose_stopped(b: &mut [u32; board::SIZE]) {
         1 => choose_drop(b),
         2 => choose_read(b),
         3 => choose_plain(b, 4),
-        _ => choose_plain(b, 5),
+        _ => choose_recover(b),
     }
 }
 

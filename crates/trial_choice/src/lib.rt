@@ -1,3 +1,4 @@
-// The trial: random calls, and random damage.
+// The trial: random calls, random settings, and random damage.
 pub mod choice;
 pub mod damage;
+pub mod settings;

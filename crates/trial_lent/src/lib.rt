@@ -1,5 +1,6 @@
 // What the code is lent is made from the board, and what it leaves is held to what stands there afterwards.
 ghost use Prim.Native.Nat.{_≤_};
+use geometry::Drive;
 use geometry::Geometry;
 use geometry::Settings;
 use reference_board::board;
@@ -38,10 +39,21 @@ fn phase_number(phase: Phase) -> u32 {
     }
 }
 
+// The drive of three settings, of the state or given.
+fn drive_of(b: &[u32; board::SIZE], settings: u32) -> Drive {
+    Drive {
+        sectors: board::get(b, settings, 0),
+        tracks: board::get(b, settings, 1),
+        switch: board::get(b, settings, 2),
+    }
+}
+
 // What a format or a recover is given.
 pub fn settings_of(b: &[u32; board::SIZE]) -> Settings {
+    let drive = drive_of(b, board::GIVEN_PER_TRACK);
     Settings {
         l: board::get(b, board::BLOCK_COUNT, 0),
+        drive,
     }
 }
 
@@ -50,8 +62,10 @@ pub fn state_of(b: &[u32; board::SIZE]) -> State {
         n: board::get(b, board::STATE_N, 0),
         l: board::get(b, board::STATE_L, 0),
     };
+    let drive = drive_of(b, board::PER_TRACK);
     State {
         geometry,
+        drive,
         tail: board::get(b, board::TAIL, 0),
         number: board::get(b, board::NUMBER, 0),
         phase: phase_of(board::get(b, board::PHASE, 0)),
@@ -219,8 +233,22 @@ fn same_out(bytes: &[u8], b: &[u32; board::SIZE]) -> bool {
     true
 }
 
+fn same_drive(d: Drive, b: &[u32; board::SIZE]) -> bool {
+    if d.sectors != board::get(b, board::PER_TRACK, 0) {
+        return false;
+    }
+    if d.tracks != board::get(b, board::TRACKS, 0) {
+        return false;
+    }
+    d.switch == board::get(b, board::SWITCH, 0)
+}
+
 fn same_state(s: State, b: &[u32; board::SIZE]) -> bool {
     let g = s.geometry;
+    let d = s.drive;
+    if !same_drive(d, b) {
+        return false;
+    }
     if g.n != board::get(b, board::STATE_N, 0) {
         return false;
     }

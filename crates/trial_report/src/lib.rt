@@ -2,6 +2,7 @@
 use paper::tokens;
 use reference_board::board;
 use trial_board::cells;
+use trial_board::stand::Volume;
 use trial_script::form::Kind;
 use trial_script::form::Wrong;
 use wording::say;
@@ -97,6 +98,7 @@ pub fn say_script(b: &[u32; board::SIZE]) {
 fn say_call_form(kind: Kind) {
     match kind {
         Kind::Volume => say::say(b"volume L N"),
+        Kind::Drive => say::say(b"drive PER-TRACK TRACKS SWITCH"),
         Kind::Block => say::say(b"block B SEED"),
         Kind::Blocks => say::say(b"blocks FIRST STEP COUNT"),
         Kind::Stores => say::say(b"stores K"),
@@ -143,7 +145,7 @@ fn say_found(word: &[u8], i: u32) {
 
 fn say_first_words() {
     say::say(
-        b"volume, block, blocks, stores, bytes-more, format, write, drop, read, park, recover",
+        b"volume, drive, block, blocks, stores, bytes-more, format, write, drop, read, park, recover",
     );
     say::say(b", is, sector, blank, shows, rejects, set, put, balance or copy");
 }
@@ -191,14 +193,24 @@ pub fn say_too_long(most: u32) {
     say::say(b" bytes, found a longer one: none of its lines is carried out\n");
 }
 
-fn say_volume(family: &[u8], l: u32, n: u32) {
-    say::say(family);
-    say::say_count(b", L ", l);
-    say::say_count(b", N ", n);
+// The drive, where it has more than one track.
+fn say_drive(volume: Volume) {
+    if volume.tracks > 1 {
+        say::say_count(b", ", volume.tracks);
+        say::say_count(b" tracks of ", volume.per_track());
+        say::say_count(b", switch ", volume.switch);
+    }
 }
 
-pub fn say_history(b: &[u32; board::SIZE], l: u32, n: u32) {
-    say_volume(b"histories", l, n);
+fn say_volume(family: &[u8], volume: Volume) {
+    say::say(family);
+    say::say_count(b", L ", volume.l);
+    say::say_count(b", N ", volume.n);
+    say_drive(volume);
+}
+
+pub fn say_history(b: &[u32; board::SIZE], volume: Volume) {
+    say_volume(b"histories", volume);
     say::say_count(b": ", cells::get(b, cells::CALLS));
     say_answers(b);
     say::say_count(b"; ", cells::get(b, cells::CUTS));
@@ -209,19 +221,28 @@ pub fn say_history(b: &[u32; board::SIZE], l: u32, n: u32) {
     say_differences(b);
 }
 
+// Commits on several tracks that leave the head's.
+fn say_switches(b: &[u32; board::SIZE]) {
+    let switches = cells::get(b, cells::SWITCHES);
+    if switches > 0 {
+        say::say_count(b", that change tracks ", switches);
+    }
+}
+
 fn say_kinds(b: &[u32; board::SIZE]) {
     say::say_number(cells::get(b, cells::WALKS));
     say::say_count(b", folds ", cells::get(b, cells::FOLDS));
     say::say_count(b", commits that wrap ", cells::get(b, cells::WRAPS));
+    say_switches(b);
     say_some(b, cells::BLOCKS_READ, b" blocks as on the plain disk");
 }
 
 // Damage in the image, or in memory.
-pub fn say_damage(b: &[u32; board::SIZE], image: bool, l: u32, n: u32) {
+pub fn say_damage(b: &[u32; board::SIZE], image: bool, volume: Volume) {
     if image {
-        say_volume(b"damaged images", l, n);
+        say_volume(b"damaged images", volume);
     } else {
-        say_volume(b"damaged memory", l, n);
+        say_volume(b"damaged memory", volume);
     }
     say::say_count(b": ", cells::get(b, cells::CALLS));
     say_answers(b);

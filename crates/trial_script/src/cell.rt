@@ -44,14 +44,42 @@ fn state_cell(name: &[u8]) -> u32 {
     if tokens::is_word(name, b"phase") {
         return board::PHASE;
     }
-    length_cell(name)
+    setting_cell(name)
 }
 
-// The L that a format or a recover is given, and the lengths lent.
-fn length_cell(name: &[u8]) -> u32 {
+// The settings in the state.
+fn setting_cell(name: &[u8]) -> u32 {
+    if tokens::is_word(name, b"per-track") {
+        return board::PER_TRACK;
+    }
+    if tokens::is_word(name, b"tracks") {
+        return board::TRACKS;
+    }
+    if tokens::is_word(name, b"switch") {
+        return board::SWITCH;
+    }
+    given_cell(name)
+}
+
+// What a format or a recover is given.
+fn given_cell(name: &[u8]) -> u32 {
     if tokens::is_word(name, b"call-l") {
         return board::BLOCK_COUNT;
     }
+    if tokens::is_word(name, b"call-per-track") {
+        return board::GIVEN_PER_TRACK;
+    }
+    if tokens::is_word(name, b"call-tracks") {
+        return board::GIVEN_TRACKS;
+    }
+    if tokens::is_word(name, b"call-switch") {
+        return board::GIVEN_SWITCH;
+    }
+    length_cell(name)
+}
+
+// The lengths lent.
+fn length_cell(name: &[u8]) -> u32 {
     if tokens::is_word(name, b"image-length") {
         return board::IMAGE_LENGTH;
     }

@@ -7,6 +7,7 @@ use reference_board::board;
 // A line by its first word.
 pub enum Kind {
     Volume,
+    Drive,
     Block,
     Blocks,
     Stores,
@@ -50,6 +51,9 @@ pub enum Wrong {
 fn argument_kind(first: &[u8]) -> Kind {
     if tokens::is_word(first, b"volume") {
         return Kind::Volume;
+    }
+    if tokens::is_word(first, b"drive") {
+        return Kind::Drive;
     }
     if tokens::is_word(first, b"block") {
         return Kind::Block;
@@ -137,6 +141,7 @@ fn numbers(count: u32) -> Form {
 fn form_of(kind: Kind) -> Form {
     match kind {
         Kind::Volume => numbers(2),
+        Kind::Drive => numbers(3),
         Kind::Block => numbers(2),
         Kind::Blocks => numbers(3),
         Kind::Stores => numbers(1),

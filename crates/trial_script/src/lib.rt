@@ -7,6 +7,7 @@ use form::Kind;
 use reference_board::board;
 use trial_board::cells;
 use trial_board::stand;
+use trial_board::stand::Volume;
 
 fn hold_fact(b: &mut [u32; board::SIZE], holds: bool) {
     cells::add(b, cells::FACTS, 1);
@@ -164,10 +165,27 @@ fn hold(b: &mut [u32; board::SIZE], line: &[u8], kind: Kind) {
     }
 }
 
+// volume L N
+fn stand_volume(b: &mut [u32; board::SIZE], line: &[u8]) {
+    let volume = Volume::plain(parts::number(line, 1), parts::number(line, 2));
+    stand::stand_format(b, volume);
+}
+
+// drive PER-TRACK TRACKS SWITCH
+fn put_settings(b: &mut [u32; board::SIZE], line: &[u8]) {
+    stand::put_settings(
+        b,
+        parts::number(line, 1),
+        parts::number(line, 2),
+        parts::number(line, 3),
+    );
+}
+
 // Carries a line out that is neither a call nor looks at what a volume shows: what goes with the next call, a fact, or damage.
 pub fn carry_out(b: &mut [u32; board::SIZE], line: &[u8], kind: Kind) {
     match kind {
-        Kind::Volume => stand::stand_format(b, parts::number(line, 1), parts::number(line, 2)),
+        Kind::Volume => stand_volume(b, line),
+        Kind::Drive => put_settings(b, line),
         Kind::Block => { trial_disk::name_block(b, parts::number(line, 1), parts::number(line, 2)) }
         Kind::Blocks => name_several(b, line),
         Kind::Stores => cells::set(b, board::ALLOWED, parts::number(line, 1)),

@@ -14,7 +14,7 @@ use Rattle.answer.specs.declared.Refusal.{Refusal}
 use Rattle.answer.specs.declared.Refusal.the-variants.{BlockNumbers, WrongPhase, Inconsistent, NoRoom, NumbersUsedUp}
 use Rattle.answer.specs.declared.Verdict.{Verdict}
 use Rattle.answer.specs.declared.Verdict.the-variants.{Pass, Refuse}
-use Rattle.geometry.specs.Geometry.{piecesFor, usedBytes, geometryFits}
+use Rattle.geometry.specs.Geometry.{piecesFor, usedBytes, geometryFits, driveFits}
 use Rattle.answer.specs.Answer.{lengths, named, standing}
 use Rattle.state.specs.State.{isRunning}
 use Rattle.layout.specs.Bounded.{at, all, same}
@@ -22,7 +22,7 @@ use Rattle.layout.specs.Word.{wordsOf}
 use Rattle.layout.specs.MapSector.{valid, decoded}
 use Rattle.volume.specs.Tables.{bitAt, memory, sectorAt, tablesOf, freeSectors, consistent, pieceEntries, saysPiece, liveValid}
 use Rattle.volume.specs.Refusals.{Check, applies, firstOf, judged}
-use Rattle.volume.specs.Placing.{base}
+use Rattle.volume.specs.Rules.{base}
 use Rattle.volume.specs.Format.{tablesFit}
 use Rattle.volume.specs.Calls.{viewOf, stateFits, stateChecks, blocksFit, tablesAgree, commitChecks}
 use Rattle.laws.proofs.Bounded.{bool?, not-of, and-l, and-r, allBelow-at}
@@ -121,6 +121,7 @@ module _ (s : State) (im mp pl nu us : List ℕ) (head : ℕ) (blocks : List ℕ
 -- What a commit that no refusal stops relies on.
 pub record Passed (s : State) (im mp pl nu us : List ℕ) (head : ℕ) (blocks : List ℕ) (count : ℕ) : Type 0 where
   pub range : geometryFits (s .geometry) ≡ true
+  pub drive : driveFits (s .geometry .n) (s .drive) ≡ true
   pub image : length im ≡ 512 * s .geometry .n
   pub map : length mp ≡ s .geometry .l
   pub places : length pl ≡ piecesFor (s .geometry .l)
@@ -170,6 +171,7 @@ passed s im mp pl nu us head blocks count e =
     (allBelow-at (λ q. saysPiece (viewOf g (sectorAt im) (at pl q)) q (at nu q) (pieceEntries (g .l) (at mp) q)) p (and-r g1 g2 (all .agree)) q h) in
     record {
       range = sizes .range;
+      drive = all .drive;
       image = sizes .image;
       map = tables .map;
       places = tables .places;

@@ -11,7 +11,7 @@ ghost use Rattle.state.specs.State.{isRunning};
 ghost use Rattle.volume.specs.Tables.{bitAt, memory, freeSectors};
 ghost use Rattle.volume.specs.Refusals.{firstOf, judged};
 ghost use Rattle.volume.specs.Format.{tablesFit};
-ghost use Rattle.volume.specs.Placing.{base};
+ghost use Rattle.volume.specs.Rules.{base};
 ghost use Rattle.volume.specs.Calls.{stateFits, commitChecks};
 use answer::Refusal;
 use answer::Verdict;

@@ -39,7 +39,7 @@ parkedAt number tail = overwritten 0 (parkRecord (record { number = number; tail
 -- Volume A with another number on its one map sector.
 unfoldable pub numbered : ℕ → Call
 numbered number s m =
-    after (record { answer = Accepted (storesAlone 0); state = freshState (s .geometry) (s .tail) number })
+    after (record { answer = Accepted (storesAlone 0); state = freshState (s .geometry) (s .drive) (s .tail) number })
     (memoryWith m
     (updated (m .image) 1
     (encoded 2 (record { number = number; piece = 0; closing = true; branches = []; entries = replicate 96 0 })))

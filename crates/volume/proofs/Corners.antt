@@ -4,13 +4,13 @@ use mathlib.Core.Path.{_≡_, refl}
 use mathlib.Core.Bool.{true, false}
 use mathlib.Core.List.{List, [], _∷_, map, _++_}
 use lib.ListN.{replicate}
+use Rattle.geometry.proofs.Sized.{oneTrack}
 use Rattle.layout.specs.Entry.{blank}
 use Rattle.layout.proofs.Conditions.{signed}
 use Rattle.volume.proofs.Rows.{Row, Table, gives, says, volumeA, volumeB, full, enough, writeBytes, write, drop, park, recover}
 use Rattle.volume.proofs.ByHand.{overwritten, blankAt, copied, signedAt, namingAt, parkedAt, numbered}
 
--- A search from the last sector goes on at 1, where 1 to 3 are used and skipped; sector 0 is not passed. Two stores are just
--- enough.
+-- A search from the last sector goes on at 0, the track's first position; 0 to 3 are used and skipped. Two stores are just enough.
 wraps : Row
 wraps =
     record {
@@ -18,7 +18,7 @@ wraps =
       block = 5;
       sector = 11;
       says = record {
-        result = record { answer = 0; stores = 2; skipped = 3; way = 0; reads = 0; tail = 4; number = 4; phase = 0 };
+        result = record { answer = 0; stores = 2; skipped = 4; way = 0; reads = 0; tail = 4; number = 4; phase = 0 };
         free = 1 ∷ 5 ∷ 6 ∷ 7 ∷ 8 ∷ 9 ∷ 10 ∷ [];
         live = (4 ∷ 4 ∷ 0 ∷ 1 ∷ 3 ∷ []) ∷ (2 ∷ 2 ∷ 1 ∷ 0 ∷ 1 ∷ []) ∷ (3 ∷ 3 ∷ 2 ∷ 1 ∷ 2 ∷ []) ∷ [];
         entries = (5 ∷ 11 ∷ []) ∷ [];
@@ -297,7 +297,7 @@ dataFirst =
       };
     }
 
--- 10: a drop whose members go to 11, 4 and 5, cut after two stores; the second is found past 1 to 3.
+-- 10: a drop whose members go to 11, 4 and 5, cut after two stores; the second is found past 0 to 3.
 refusal10 : Row
 refusal10 =
     record {
@@ -305,7 +305,7 @@ refusal10 =
       block = 0;
       sector = 0;
       says = record {
-        result = record { answer = 10; stores = 2; skipped = 3; way = 0; reads = 0; tail = 3; number = 3; phase = 2 };
+        result = record { answer = 10; stores = 2; skipped = 4; way = 0; reads = 0; tail = 3; number = 3; phase = 2 };
         free = 4 ∷ 5 ∷ 6 ∷ 7 ∷ 8 ∷ 9 ∷ 10 ∷ 11 ∷ [];
         live = (1 ∷ 1 ∷ 0 ∷ 0 ∷ []) ∷ (2 ∷ 2 ∷ 1 ∷ 0 ∷ 1 ∷ []) ∷ (3 ∷ 3 ∷ 2 ∷ 1 ∷ 2 ∷ []) ∷ [];
         entries = [];
@@ -533,7 +533,7 @@ unfolding wraps reachedAlready supersededLater higherBranch roomExactly bytesInO
 corners =
     volumeB (wraps ∷ reachedAlready ∷ supersededLater ∷ higherBranch ∷ roomExactly ∷ bytesInOrder ∷ refusal1 ∷ refusal2 ∷ refusal3 ∷ refusal4 ∷ refusal5 ∷ refusal8 ∷ refusal9 ∷ dataFirst ∷ refusal10 ∷ recoveryCut ∷ recoveredAgain ∷ newestFirst ∷ firstRead ∷ doneAlready ∷ memberParked ∷ unsoundWalk ∷ unsoundScan ∷ closingRecycled ∷ signedParkSector ∷ [])
     ∷ volumeA (refusal7 ∷ [])
-    ∷ record { format = record { n = 4; l = 2; stores = 4 }; rows = formatCut ∷ [] }
+    ∷ record { format = record { n = 4; l = 2; drive = oneTrack 4; stores = 4 }; rows = formatCut ∷ [] }
     ∷ []
 
 pub corners-hold : map gives corners ≡ map says corners

@@ -1,11 +1,11 @@
 -- What a call is lent and handed, from bytes, words and lengths: the sectors that a used map marks, a read's entry and sector, which table is
 -- which, the lengths, and the blocks that are named. (The other rows start from a format, which is lent functions.)
-use Prim.Native.Nat.{ℕ, zero, suc, _+_, _*_}
+use Prim.Native.Nat.{ℕ, zero, suc, _+_, _*_, _/_}
 use mathlib.Core.Path.{_≡_, refl}
 use mathlib.Core.Bool.{Bool, true, false, cond}
 use mathlib.Core.List.{List, [], _∷_, _++_, map}
 use lib.ListN.{length, replicate, take, drop}
-use Rattle.geometry.proofs.Sized.{sized, asked}
+use Rattle.geometry.proofs.Sized.{sized, oneTrack, asked}
 use Rattle.state.specs.State.{freshState}
 use Rattle.answer.specs.Answer.{refusalNumber, numberOf}
 use Rattle.answer.specs.declared.Verdict.{Verdict}
@@ -64,7 +64,7 @@ fourSectors = full 9 ++ (full 10 ++ ((0xA9 ∷ replicate 511 0x4C) ++ full 12))
 readingGives : Reading → Read
 unfolding all same complemented restored sectorAt bitAt memory applies firstOf judged tablesFit stateFits entryReadable readChecks blockOf readJudged readOf
 readingGives r =
-    let a = readOf (freshState (sized 4 2) 1 1) (memory (r .image) (r .map) (1 ∷ []) (1 ∷ []) (0x0F ∷ [])) (r .block) (full 238) in
+    let a = readOf (freshState (sized 4 2) (oneTrack 4) 1 1) (memory (r .image) (r .map) (1 ∷ []) (1 ∷ []) (0x0F ∷ [])) (r .block) (full 238) in
     record { answer = numberOf (a .outcome .answer); out = a .out }
 
 readings : List Reading
@@ -97,7 +97,7 @@ unfolding allBelow countBelow best all elem distinct same listFrom gathered word
 parkingGives p =
     let closing = encoded 2 (record { number = 5; piece = 0; closing = true; branches = []; entries = replicate 96 0 }) in
     let image = blank ++ (closing ++ (full 9 ++ full 9)) in
-    let a = parkOf (freshState (sized 4 2) 1 5) (memory image (0 ∷ 0 ∷ []) (p .places) (p .numbers) (0x03 ∷ [])) 1 in
+    let a = parkOf (freshState (sized 4 2) (oneTrack 4) 1 5) (memory image (0 ∷ 0 ∷ []) (p .places) (p .numbers) (0x03 ∷ [])) 1 in
     numberOf (a .outcome .answer) ∷ take 16 (a .memory .image 0)
 
 parkings : List Parking
@@ -127,7 +127,7 @@ record Lent : Type 0 where
   onState : ℕ
   given : ℕ
 
-abbrev verdictNumber : Verdict → ℕ
+abbrev pub verdictNumber : Verdict → ℕ
 verdictNumber Pass = 0
 verdictNumber (Refuse r) = refusalNumber r
 
@@ -135,8 +135,8 @@ lentGives : Lent → List ℕ
 unfolding memory applies firstOf judged imageFits tablesFit sizeChecks stateFits
 lentGives r =
     let m = memory (replicate (r .image) 0) (replicate (r .map) 0) (replicate (r .places) 0) (replicate (r .numbers) 0) (replicate (r .used) 0) in
-    verdictNumber (judged (stateChecks (freshState (sized (r .n) (r .l)) 1 1) m true))
-    ∷ verdictNumber (judged (sizeChecks m (asked (r .l)))) ∷ []
+    verdictNumber (judged (stateChecks (freshState (sized (r .n) (r .l)) (oneTrack (r .n)) 1 1) m true))
+    ∷ verdictNumber (judged (sizeChecks m (asked (r .l) (oneTrack (r .image / 512))))) ∷ []
 
 lents : List Lent
 lents =

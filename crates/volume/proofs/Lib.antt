@@ -4,5 +4,6 @@ pub mod ByHand
 pub mod Corners
 pub mod Readings
 pub mod Lent
+pub mod Drives
 pub mod Sound
 pub mod Limits

@@ -7,12 +7,13 @@ use mathlib.Core.List.{List, [], _∷_, map}
 use mathlib.Core.Option.{some}
 use lib.ListN.{length}
 use lib.Dec.{leb}
-use Rattle.geometry.proofs.Sized.{sized}
+use Rattle.geometry.proofs.Sized.{sized, oneTrack}
 use Rattle.state.specs.State.{freshState}
 use Rattle.layout.specs.Bounded.{anyBelow, countBelow, best, elem, listFrom, tabled}
 use Rattle.layout.specs.MapSector.{View}
 use Rattle.volume.specs.Tables.{Tables}
-use Rattle.volume.specs.Placing.{base, firstFree, placedUpTo, placeOf}
+use Rattle.tracks.specs.Placing.{nearest, placedUpTo, placeOf}
+use Rattle.volume.specs.Rules.{base}
 use Rattle.volume.specs.Commit.{touches, branchesIn, olderKey, listing, branchesFor, planned}
 use Rattle.volume.specs.Calls.{dropChange}
 
@@ -33,10 +34,10 @@ record Pieces : Type 0 where
   says : Planned
 
 limitGives : Pieces → Planned
-unfolding anyBelow countBelow best elem listFrom tabled firstFree placedUpTo placeOf touches branchesIn olderKey listing branchesFor planned dropChange apart noBranches
+unfolding anyBelow countBelow best elem listFrom tabled nearest placedUpTo placeOf touches branchesIn olderKey listing branchesFor planned dropChange apart noBranches
 limitGives r =
     let n = 2 * r .pieces + 2 in
-    let plan = planned base (freshState (sized n (96 * r .pieces)) (r .pieces) (r .pieces)) (apart (r .pieces)) noBranches 0 (dropChange (0 ∷ [])) in
+    let plan = planned base (freshState (sized n (96 * r .pieces)) (oneTrack n) (r .pieces) (r .pieces)) (apart (r .pieces)) noBranches 0 (dropChange (0 ∷ [])) in
     record { fold = plan .fold; branches = length (plan .branches); members = plan .members }
 
 limits : List Pieces

@@ -7,6 +7,7 @@ use Rattle.answer.specs.declared.Answer.the-variants.{Accepted}
 use Rattle.answer.specs.Answer.{storesAlone}
 use Rattle.layout.specs.Bounded.{updated}
 use Rattle.answer.specs.Answer.{numberOf}
+use Rattle.geometry.proofs.Sized.{oneTrack}
 use Rattle.volume.specs.Store.{after, memoryWith}
 use Rattle.volume.specs.Calls.{readOf}
 use Rattle.volume.proofs.Rows.{Call, gives, outcomeOf, enough, park}
@@ -21,7 +22,7 @@ record Reading : Type 0 where
 readGives : Reading → ℕ
 unfolding gives outcomeOf
 readGives r =
-    let a = outcomeOf (record { n = 12; l = 200; stores = enough }) (r .calls) in
+    let a = outcomeOf (record { n = 12; l = 200; drive = oneTrack 12; stores = enough }) (r .calls) in
     numberOf (readOf (a .outcome .state) (a .memory) (r .block) (replicate (r .lent) 238) .outcome .answer)
 
 -- The entry of block 5 changed by hand.

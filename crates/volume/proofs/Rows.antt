@@ -11,7 +11,8 @@ use Rattle.state.specs.declared.Phase.the-variants.{Cut}
 use Rattle.state.specs.State.{phaseNumber}
 use Rattle.layout.specs.Bounded.{at, allBelow, anyBelow, countBelow, best, all, elem, distinct, same, listFrom, tabled, gathered, updates}
 use Rattle.geometry.specs.Geometry.{piecesFor, usedBytes}
-use Rattle.geometry.proofs.Sized.{sized, asked}
+use Rattle.geometry.specs.declared.Drive.{Drive}
+use Rattle.geometry.proofs.Sized.{sized, oneTrack, asked}
 use Rattle.layout.specs.Word.{wordsOf, bytesOf, wordSum, startsWith, balanced}
 use Rattle.layout.specs.MapSector.{MapSector, mapMark, kindOf, encoded, branchesFit, valid, decoded}
 use Rattle.layout.specs.Entry.{complemented, needsFlip, stored, entryFor, restored, isEmpty}
@@ -21,7 +22,7 @@ use Rattle.volume.specs.Refusals.{applies, firstOf, judged}
 use Rattle.answer.specs.Answer.{numberOf, costOf, wayOf, readsOf}
 use Rattle.volume.specs.Store.{After, applied, storesBelow, performed}
 use Rattle.volume.specs.Format.{formatStores, formatTables, formatAction, imageFits, tablesFit, sizeChecks, formatOf}
-use Rattle.volume.specs.Placing.{firstFree, placedUpTo, placeOf, skippedBy}
+use Rattle.tracks.specs.Placing.{nearest, placedUpTo, placeOf, skippedBy}
 use Rattle.volume.specs.Commit.{touches, branchesIn, olderKey, listing, branchesFor, planned, rank, memberPlace, changedEntries, committedTables, member, dataStore, memberStore, commitStores, planAction, commitAction}
 use Rattle.volume.specs.Calls.{stateFits, blocksFit, tablesAgree, commitChecks, commitOf, writeChange, dropChange, roomFor, writeBy, dropBy, writeOf, dropOf, entryReadable, readChecks, blockOf, readJudged, readOf, parkChecks, parkAction, parkOf}
 use Rattle.volume.specs.Recover.{numberIn, pieceIn, entryIn, closingNumber, pieceNumber, tablesFrom, targetWaits, targetsRead, walkStep, walkedFor, walkFrom, branchCount, walkedLog, walkComplete}
@@ -74,18 +75,19 @@ unfolding memory lent sectorAt bitAt
 lent-contents = (refl, refl)
 
 anyState : State
-anyState = record { geometry = sized 1 2; tail = 3; number = 4; phase = Cut }
+anyState = record { geometry = sized 1 2; drive = oneTrack 5; tail = 3; number = 4; phase = Cut }
 
 pub record Formatted : Type 0 where
   pub n : ℕ
   pub l : ℕ
+  pub drive : Drive
   pub stores : ℕ
 
 -- The volume after a format, and after a run of calls on it.
 unfoldable pub formatted : Formatted → After
 unfolding held lent anyState
 formatted f =
-    let fresh = formatOf anyState (lent (f .n) (f .l)) (asked (f .l)) (f .stores) in
+    let fresh = formatOf anyState (lent (f .n) (f .l)) (asked (f .l) (f .drive)) (f .stores) in
     record { outcome = fresh .outcome; memory = held (fresh .memory) }
 
 unfoldable pub outcomeOf : Formatted → List Call → After
@@ -165,7 +167,7 @@ unfolding updates gathered allBelow anyBelow countBelow best all elem distinct s
     startsWith balanced encoded branchesFit valid decoded complemented needsFlip stored entryFor restored parkRecord
     isParkRecord parkedIn sectorAt bitAt memory namedBy usedBy freeSectors consistent pieceEntries saysPiece liveValid
     applies firstOf judged applied storesBelow performed formatStores formatTables formatAction imageFits tablesFit
-    sizeChecks formatOf firstFree placedUpTo placeOf skippedBy touches branchesIn olderKey listing branchesFor planned rank
+    sizeChecks formatOf nearest placedUpTo placeOf skippedBy touches branchesIn olderKey listing branchesFor planned rank
     memberPlace changedEntries committedTables member dataStore memberStore commitStores planAction commitAction stateFits
     blocksFit tablesAgree commitChecks commitOf writeChange dropChange roomFor writeBy dropBy entryReadable readChecks
     blockOf readJudged readOf parkChecks parkAction parkOf numberIn pieceIn entryIn closingNumber pieceNumber tablesFrom
@@ -203,10 +205,10 @@ says t = map (λ row. row .says) (t .rows)
 
 -- The volumes of document 01's samples: A has L 2, N 4; B has L 200, N 12, and so three pieces.
 abbrev pub volumeA : List Row → Table
-volumeA rows = record { format = record { n = 4; l = 2; stores = 1000 }; rows = rows }
+volumeA rows = record { format = record { n = 4; l = 2; drive = oneTrack 4; stores = 1000 }; rows = rows }
 
 abbrev pub volumeB : List Row → Table
-volumeB rows = record { format = record { n = 12; l = 200; stores = 1000 }; rows = rows }
+volumeB rows = record { format = record { n = 12; l = 200; drive = oneTrack 12; stores = 1000 }; rows = rows }
 
 -- The calls, with stores enough or fewer. A write fills each of its blocks with one byte.
 abbrev pub enough : ℕ
@@ -224,5 +226,9 @@ drop head blocks allowance s m = dropOf s m head blocks allowance
 abbrev pub park : ℕ → Call
 park allowance s m = parkOf s m allowance
 
+-- A recovery on a drive; on one of one track.
+abbrev pub recoverOn : Drive → ℕ → ℕ → Call
+recoverOn drive l allowance s m = recoverOf s m (asked l drive) allowance
+
 abbrev pub recover : ℕ → ℕ → Call
-recover l allowance s m = recoverOf s m (asked l) allowance
+recover l allowance s m = recoverOn (oneTrack (m .lengths .image / 512)) l allowance s m

@@ -7,13 +7,13 @@ use lib.Dec.{eqb, ltb}
 use Rattle.state.specs.declared.State.{State}
 use Rattle.state.specs.declared.Outcome.{Outcome}
 use Rattle.answer.specs.declared.Answer.the-variants.{Accepted, Refused}
-use Rattle.answer.specs.declared.Refusal.the-variants.{Size, BufferLength, BlockNumbers, WrongPhase, Inconsistent, NoRoom, NumbersUsedUp}
+use Rattle.answer.specs.declared.Refusal.the-variants.{Size, WrongSettings, BufferLength, BlockNumbers, WrongPhase, Inconsistent, NoRoom, NumbersUsedUp}
 use Rattle.answer.specs.Answer.{storesAlone}
 use Rattle.answer.specs.declared.Verdict.{Verdict}
 use Rattle.answer.specs.declared.Verdict.the-variants.{Pass, Refuse}
 use Rattle.layout.specs.Bounded.{at, all, allBelow}
 use Rattle.geometry.specs.declared.Geometry.{Geometry}
-use Rattle.geometry.specs.Geometry.{within, sectorBytes, commitBlocks, piecesFor, geometryFits}
+use Rattle.geometry.specs.Geometry.{within, sectorBytes, commitBlocks, piecesFor, geometryFits, driveFits}
 use Rattle.layout.specs.MapSector.{View, decoded}
 use Rattle.layout.specs.Entry.{isEmpty, sectorOf, stored, entryFor, restored}
 use Rattle.layout.specs.ParkRecord.{parkRecord}
@@ -22,7 +22,7 @@ use Rattle.state.specs.State.{parkedState, cutState, isRunning, isReadable}
 use Rattle.volume.specs.Refusals.{Check, judged}
 use Rattle.volume.specs.Store.{After, Action, performed, unlessRefused}
 use Rattle.volume.specs.Format.{tablesFit}
-use Rattle.volume.specs.Placing.{Rules, base}
+use Rattle.volume.specs.Rules.{Rules, base}
 use Rattle.volume.specs.Commit.{Change, commitAction}
 
 -- The sectors of an image, read as map sectors.
@@ -47,10 +47,11 @@ tablesAgree s m =
     consistent (s .geometry) (m .tables) (s .tail) (s .number)
     && liveValid (s .geometry .l) (m .tables) (viewOf (s .geometry) (m .image))
 
--- The refusals that every call on a state begins with: 1 and 2. A call may be lent a buffer of its own, with a length to fit.
+-- The refusals that every call on a state begins with: 1, 11 and 2. A call may be lent a buffer of its own, with a length to fit.
 abbrev pub stateChecks : State → Memory → Bool → List Check
 stateChecks s m ownFits =
     record { applies = not (stateFits s m); refusal = Size }
+    ∷ record { applies = not (driveFits (s .geometry .n) (s .drive)); refusal = WrongSettings }
     ∷ record { applies = not (tablesFit m (s .geometry) && ownFits); refusal = BufferLength }
     ∷ []
 

@@ -14,7 +14,8 @@ use Rattle.layout.specs.MapSector.{MapSector, View, encoded}
 use Rattle.volume.specs.Tables.{Tables, namedBy, usedBy, pieceEntries}
 use Rattle.state.specs.State.{committedState, cutState}
 use Rattle.volume.specs.Store.{Store, storesBelow, Action}
-use Rattle.volume.specs.Placing.{Rules, placeOf, skippedBy}
+use Rattle.tracks.specs.Placing.{placeOf, skippedBy}
+use Rattle.volume.specs.Rules.{Rules}
 
 -- What a commit does to the blocks it names: how many data sectors it stores and what stands in each, and the entry that
 -- the i-th named block gets, given the place of the i-th data sector.
@@ -60,7 +61,7 @@ branchesFor l t view number blocks =
     listing pieces t view remaining pieces (suc number) (λ _. false)
 
 -- A planned commit: whether it folds, the first member's branches, the pieces written and how many, the sectors taken, in
--- order (first the data sectors, then the members), and how many used sectors the searches for the first so many passed over.
+-- order (first the data sectors, then the members), and the sum of the delays to the first so many.
 pub record Plan : Type 0 where
   pub fold : Bool
   pub branches : List ℕ
@@ -78,7 +79,8 @@ planned rules s t view head change =
     let fold = ltb (rules .branchLimit) (length listed) in
     let written = tabled false pieces (λ q. fold || touches (change .blocks) q) in
     let members = countBelow written pieces in
-    let places = listFrom (placeOf rules (s .geometry .n) (t .isUsed) head) 0 (change .dataSectors + members) in
+    let choice = (rules .placing) (s .drive) in
+    let places = listFrom (placeOf choice (s .geometry .n) (t .isUsed) head) 0 (change .dataSectors + members) in
     record {
       fold = fold;
       branches = cond fold [] listed;
@@ -86,7 +88,7 @@ planned rules s t view head change =
       members = members;
       dataSectors = change .dataSectors;
       places = places;
-      skipped = skippedBy rules (s .geometry .n) (t .isUsed) head;
+      skipped = skippedBy choice (s .geometry .n) (t .isUsed) head;
     }
 
 -- Members are the written pieces, ascending: how many come before a piece, and where a member goes. Data goes first.
@@ -141,7 +143,7 @@ commitStores s t plan change =
     storesBelow always (dataStore plan change) (change .dataSectors)
     ++ storesBelow (plan .written) (memberStore s t plan change) (piecesFor (s .geometry .l))
 
--- The bill of a commit: its stores, and the sectors skipped to find their places.
+-- The bill of a commit: its stores, and the sectors skipped on the way to their places.
 abbrev pub bill : Plan → ℕ → Cost
 bill plan stores = record { stores = stores; skipped = (plan .skipped) stores }
 

@@ -6,12 +6,13 @@ use lib.ListN.{replicate}
 use lib.Dec.{eqb}
 use Rattle.state.specs.declared.State.{State}
 use Rattle.answer.specs.declared.Answer.the-variants.{Accepted}
-use Rattle.answer.specs.declared.Refusal.the-variants.{Size, BufferLength}
+use Rattle.answer.specs.declared.Refusal.the-variants.{Size, WrongSettings, BufferLength}
 use Rattle.answer.specs.Answer.{storesAlone}
 use Rattle.layout.specs.Bounded.{tabled, isZero, always}
 use Rattle.geometry.specs.declared.Geometry.{Geometry}
+use Rattle.geometry.specs.declared.Drive.{Drive}
 use Rattle.geometry.specs.declared.Settings.{Settings}
-use Rattle.geometry.specs.Geometry.{sectorBytes, piecesFor, entriesPerPiece, usedBytes, geometryOf, geometryFits}
+use Rattle.geometry.specs.Geometry.{sectorBytes, piecesFor, entriesPerPiece, usedBytes, geometryOf, geometryFits, driveFits}
 use Rattle.layout.specs.MapSector.{MapSector, encoded}
 use Rattle.layout.specs.Entry.{blank}
 use Rattle.volume.specs.Tables.{Tables, Memory, zeroTables, namedBy, usedBy}
@@ -48,16 +49,16 @@ formatTables l =
     let named = namedBy l (λ _. 0) places in
     record { entry = λ _. 0; place = places; number = places; isUsed = usedBy named }
 
-unfoldable pub formatAction : Geometry → Action
-formatAction g =
+unfoldable pub formatAction : Geometry → Drive → Action
+formatAction g drive =
     let p = piecesFor (g .l) in
     record {
       stores = formatStores g;
       cost = storesAlone;
       answer = Accepted;
-      state = freshState g p p;
+      state = freshState g drive p p;
       tables = formatTables (g .l);
-      cutState = lostState g;
+      cutState = lostState g drive;
       cutTables = zeroTables;
     }
 
@@ -81,13 +82,14 @@ tablesFit m g =
     && eqb (m .lengths .numbers) (piecesFor (g .l))
     && eqb (m .lengths .used) (usedBytes (g .n))
 
--- The refusals of format and recover: 1 and 2. Neither looks at the state.
+-- The refusals of format and recover: 1, 11 and 2. Neither looks at the state.
 unfoldable pub sizeChecks : Memory → Settings → List Check
 sizeChecks m settings =
     record { applies = not (imageFits m settings); refusal = Size }
+    ∷ record { applies = not (driveFits (sectorsIn m) (settings .drive)); refusal = WrongSettings }
     ∷ record { applies = not (tablesFit m (volumeIn m settings)); refusal = BufferLength }
     ∷ []
 
 unfoldable pub formatOf : State → Memory → Settings → ℕ → After
 formatOf s m settings allowance =
-    unlessRefused (judged (sizeChecks m settings)) s m (performed allowance (formatAction (volumeIn m settings)) m)
+    unlessRefused (judged (sizeChecks m settings)) s m (performed allowance (formatAction (volumeIn m settings) (settings .drive)) m)

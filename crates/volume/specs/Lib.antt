@@ -4,6 +4,6 @@ pub mod Tables
 pub mod Refusals
 pub mod Store
 pub mod Format
-pub mod Placing
+pub mod Rules
 pub mod Calls
 pub mod Recover

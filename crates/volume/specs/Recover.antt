@@ -14,6 +14,7 @@ use Rattle.answer.specs.declared.Loss.the-variants.{NoLog, DamagedLog}
 use Rattle.answer.specs.Answer.{storesAlone}
 use Rattle.layout.specs.Bounded.{at, allBelow, anyBelow, best, all, distinct, isZero, tabled, updated, gathered}
 use Rattle.geometry.specs.declared.Geometry.{Geometry}
+use Rattle.geometry.specs.declared.Drive.{Drive}
 use Rattle.geometry.specs.declared.Settings.{Settings}
 use Rattle.geometry.specs.Geometry.{within, piecesFor, pieceOf, indexOf}
 use Rattle.layout.specs.MapSector.{MapSector, View, decoded}
@@ -205,24 +206,24 @@ findingFrom g view sector0 (some parked) =
 abbrev pub findingOf : Geometry → View → List ℕ → Finding
 findingOf g view sector0 = findingFrom g view sector0 (parkedIn sector0)
 
--- A log that was found is taken, and the volume runs.
-abbrev pub recoveryAction : Geometry → Log → (Cost → Answer) → List Store → Action
-recoveryAction g log answer stores =
+-- A log that was found is taken, and the volume runs, on the drive that was given.
+abbrev pub recoveryAction : Geometry → Drive → Log → (Cost → Answer) → List Store → Action
+recoveryAction g drive log answer stores =
     record {
       stores = stores;
       cost = storesAlone;
       answer = answer;
-      state = freshState g (log .tail) (log .number);
+      state = freshState g drive (log .tail) (log .number);
       tables = log .tables;
-      cutState = lostState g;
+      cutState = lostState g drive;
       cutTables = zeroTables;
     }
 
 -- A loss, 8 or 9, leaves the image and fills the tables with zeros.
-unfoldable pub recovered : Geometry → ℕ → Memory → Finding → After
-recovered g allowance m (found log answer stores) = performed allowance (recoveryAction g log answer stores) m
-recovered g allowance m (missing loss) =
-    after (record { answer = Lost loss; state = lostState g }) (memoryWith m (m .image) zeroTables)
+unfoldable pub recovered : Geometry → Drive → ℕ → Memory → Finding → After
+recovered g drive allowance m (found log answer stores) = performed allowance (recoveryAction g drive log answer stores) m
+recovered g drive allowance m (missing loss) =
+    after (record { answer = Lost loss; state = lostState g drive }) (memoryWith m (m .image) zeroTables)
 
 -- An image read as map sectors, each decoded once.
 unfoldable pub imageView : Geometry → (ℕ → List ℕ) → View
@@ -232,4 +233,4 @@ unfoldable pub recoverOf : State → Memory → Settings → ℕ → After
 recoverOf s m settings allowance =
     let g = volumeIn m settings in
     unlessRefused (judged (sizeChecks m settings)) s m
-    (recovered g allowance m (findingOf g (imageView g (m .image)) (m .image 0)))
+    (recovered g (settings .drive) allowance m (findingOf g (imageView g (m .image)) (m .image 0)))

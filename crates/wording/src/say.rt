@@ -5,6 +5,7 @@ use answer::Refusal;
 use libc::STDOUT_FILENO;
 use paper::data;
 use paper::data::Trouble;
+use paper::keywords::Keyword;
 use paper::request::Call;
 use paper::tokens;
 use state::State;
@@ -68,6 +69,7 @@ pub fn say_block(block: &[u8]) {
 fn refusal_words(refusal: Refusal) {
     match refusal {
         Refusal::Size => say(b"size"),
+        Refusal::WrongSettings => say(b"settings"),
         Refusal::BufferLength => say(b"buffer length"),
         Refusal::BlockNumbers => say(b"blocks or head"),
         Refusal::WrongPhase => say(b"phase"),
@@ -193,6 +195,46 @@ fn say_data_trouble(trouble: Trouble) {
     }
 }
 
+fn say_keyword(keyword: Keyword) {
+    match keyword {
+        Keyword::Stores => say(b"stores="),
+        Keyword::Track => say(b"track="),
+        Keyword::Tracks => say(b"tracks="),
+        Keyword::Switch => say(b"switch="),
+    }
+}
+
+fn say_value_trouble(keyword: Keyword) {
+    say(b"expected ");
+    say_keyword(keyword);
+    say(b" and a number up to 4294967295");
+}
+
+fn say_not_here(keyword: Keyword) {
+    say(b"expected no ");
+    say_keyword(keyword);
+    match keyword {
+        Keyword::Stores => say(b", since this call makes none"),
+        _ => say(b", since only format and recover take it"),
+    }
+}
+
+fn say_twice(keyword: Keyword) {
+    say(b"expected ");
+    say_keyword(keyword);
+    say(b" once");
+}
+
+fn say_keyword_trouble(trouble: Trouble) {
+    match trouble {
+        Trouble::Value(keyword) => say_value_trouble(keyword),
+        Trouble::KeywordHere(keyword) => say_not_here(keyword),
+        Trouble::KeywordTwice(keyword) => say_twice(keyword),
+        Trouble::Keyword => say(b"expected track=, tracks=, switch= or stores="),
+        _ => say_data_trouble(trouble),
+    }
+}
+
 fn say_call_trouble(trouble: Trouble) {
     match trouble {
         Trouble::Call => say(b"expected format, write, drop, read, park, recover, show or sectors"),
@@ -200,23 +242,20 @@ fn say_call_trouble(trouble: Trouble) {
         Trouble::Sectors => say(b"expected a volume of at most 4096 sectors: no more are held"),
         Trouble::Number => say(b"expected a number up to 4294967295"),
         Trouble::FewNumbers => say(b"expected another number"),
-        Trouble::Plug => say(b"expected stores= and a number up to 4294967295"),
-        Trouble::PlugHere => say(b"expected no stores=, since this call makes none"),
-        Trouble::PlugTwice => say(b"expected stores= once"),
         Trouble::More => say(b"expected the end of the line"),
-        _ => say_data_trouble(trouble),
+        _ => say_keyword_trouble(trouble),
     }
 }
 
 // The form of a call's line.
 fn say_form(call: Call) {
     match call {
-        Call::Format => say(b" (format L N [stores=K])"),
+        Call::Format => say(b" (format L N [track=T] [tracks=C] [switch=S] [stores=K])"),
         Call::Write => say(b" (write HEAD B=DATA [B=DATA ..] [stores=K])"),
         Call::Drop => say(b" (drop HEAD B [B ..] [stores=K])"),
         Call::Read => say(b" (read B)"),
         Call::Park => say(b" (park [stores=K])"),
-        Call::Recover => say(b" (recover [stores=K])"),
+        Call::Recover => say(b" (recover [track=T] [tracks=C] [switch=S] [stores=K])"),
         Call::Show => say(b" (show)"),
         Call::Sectors => say(b" (sectors)"),
         _ => {}

@@ -18,7 +18,7 @@ use Rattle.layout.specs.Bounded.{isZero}
 use Rattle.volume.specs.Tables.{Memory, memory, bitAt, sectorAt, tablesOf, freeSectors, consistent}
 use Rattle.volume.specs.Refusals.{applies, firstOf, judged}
 use Rattle.volume.specs.Store.{After, after, performed, unlessRefused}
-use Rattle.volume.specs.Placing.{base}
+use Rattle.volume.specs.Rules.{base}
 use Rattle.volume.specs.Commit.{Change, commitAction}
 use Rattle.volume.specs.Calls.{viewOf, tablesAgree, commitChecks, commitOf, writeChange, dropChange, roomFor, writeBy, dropBy, writeOf, dropOf}
 use Rattle.laws.proofs.Bounded.{bool?, cond-false}

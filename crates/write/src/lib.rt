@@ -7,7 +7,7 @@ ghost use lib.Dec.{eqb, ltb};
 ghost use Rattle.geometry.specs.Geometry.{sectorBytes, piecesFor};
 ghost use Rattle.volume.specs.Tables.{bitAt, memory, freeSectors};
 ghost use Rattle.volume.specs.Refusals.{judged};
-ghost use Rattle.volume.specs.Placing.{base};
+ghost use Rattle.volume.specs.Rules.{base};
 ghost use Rattle.volume.specs.Store.{after};
 ghost use Rattle.volume.specs.Calls.{commitChecks, writeOf, dropOf};
 use answer::Answer;

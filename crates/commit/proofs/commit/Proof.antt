@@ -24,7 +24,7 @@ plan-requires : tie.Need-plan-requires
 plan-requires c κs =
     let the-pre = c .before .before .before .before .before .before .before .before .before .before .before .before .before .before .pre in
     let p = passed _ _ _ _ _ _ _ _ _ (the-pre .0) in
-    (p .range, (p .image, (p .places, (p .numbers, (p .used, (p .head-below, (p .few, (few-blocks _ _ _ _ _ _ _ _ _ (the-pre .0) (the-pre .1 .0), (p .inside, (p .live, (refl, (refl, refl))))))))))))
+    (p .range, (p .drive, (p .image, (p .places, (p .numbers, (p .used, (p .head-below, (p .few, (few-blocks _ _ _ _ _ _ _ _ _ (the-pre .0) (the-pre .1 .0), (p .inside, (p .live, (refl, (refl, refl)))))))))))))
 
 add-total : tie.Need-add-total
 add-total c =

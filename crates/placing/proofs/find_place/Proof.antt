@@ -1,108 +1,101 @@
--- What is found from here is what is found from the start.
-use Prim.Native.Nat.{ℕ, _+_, _-_, _≤_, _<_}
-use mathlib.Core.Path.{_≡_, _∙_, sym, ap, subst}
+-- Found on the own track, nowhere on the only one, or elsewhere.
+use Prim.Native.Nat.{ℕ, _+_, _*_, _≤_, _<_}
+use mathlib.Core.Path.{_≡_, _∙_, sym, subst}
 use native.Mathlib.Omega.{arith}
-use borrow.Author.Tests.{not-true, not-false}
 use borrow.Author.Needs.{needs}
 use Rattle.volume.specs.Tables.{bitAt}
-use Rattle.volume.specs.Placing.{firstFree}
-use Rattle.placing.proofs.PlaceLaws.{after-below, further, search-starts, search-ends, search-finds, search-further, some-left, found}
+use Rattle.laws.proofs.Delays.{drive-fits}
+use Rattle.placing.specs.Searching.{AllPassed}
+use Rattle.placing.proofs.PlaceLaws.{track-low, track-high, track-ends, steps-one, steps-more, steps-few, steps-most, own-chosen, one-nowhere, chosen-nowhere}
 use Rattle.placing.proofs.find_place.Statement.{statement}
 use Rattle.placing.proofs.find_place.Tie as tie
-use Rattle.placing.proofs.sector_after.Reads as sector-after-reads
-use Rattle.placing.proofs.used_run.Reads as used-run-reads
-use Rattle.bits.proofs.is_set.Reads as is-set-reads
+use Rattle.placing.proofs.find_elsewhere.Reads as find-elsewhere-reads
+use Rattle.placing.proofs.nowhere.Reads as nowhere-reads
+use Rattle.placing.proofs.own_positions.Reads as own-positions-reads
+use Rattle.placing.proofs.search_track.Reads as search-track-reads
 
-abbrev Inv-loop : tie.InvT-loop
-Inv-loop used n start k₀ skipped₀ k skipped =
-    (k < n) × (skipped ≤ n) × (firstFree n (bitAt used) n start ≡ further skipped (firstFree n (bitAt used) (n - skipped) k))
+own-positions-requires : tie.Need-own-positions-requires
+own-positions-requires c κs = search needs
 
-abbrev μ-loop : tie.MeasureT-loop
-μ-loop used n start k₀ skipped₀ k skipped = n - skipped
+search-track-requires : tie.Need-search-track-requires
+search-track-requires c κs =
+    let a = c .before .before .before .args in
+    let p = c .before .before .before .pre in
+    let fit = drive-fits (a .n) (a .d) (p .0) in
+    let u = bitAt (a .used .now) in
+    let low = track-low (a .n) (a .d) fit u (a .first) (a .start) (p .1 .1 .1 .0) (p .1 .1 .1 .1 .0) in
+    let high = track-high (a .n) (a .d) fit u (a .first) (a .start) (p .1 .1 .1 .0) (p .1 .1 .1 .1 .0) in
+    let ends = track-ends (a .n) (a .d) fit u (a .first) (a .start) (p .1 .1 .1 .0) (p .1 .1 .1 .1 .0) in
+    let most = p .1 .0 in
+    let room = p .1 .1 .0 in
+    (low, (high, (omega arith, (omega arith, steps-most (a .n) (a .d) fit (c .own-positions .result) (c .own-positions .ensures)))))
 
-loop-holds : tie.Need-loop-holds Inv-loop μ-loop
-loop-holds c =
-    let a = c .before .args in
-    (c .before .pre .1 .0, omega arith, search-starts (a .n) (bitAt (a .used .now)) (a .start))
-
-cast-is-set : tie.Need-cast-is-set Inv-loop μ-loop
-cast-is-set c = search needs
-
-is-set-requires : tie.Need-is-set-requires Inv-loop μ-loop
-is-set-requires c κs = omega arith
-
-sub-used-run : tie.Need-sub-used-run Inv-loop μ-loop
-sub-used-run c = c .before .before .before .loop .inv .1
-
-used-run-requires : tie.Need-used-run-requires Inv-loop μ-loop
-used-run-requires c κs =
-    let the-if1 = c .before .before .if1 in
-    let the-if2 = c .if2 in
-    let the-is-set = c .before .is-set in
-    let the-loop = c .before .before .before .loop in
-    let the-pre = c .before .before .before .before .before .pre in
-    let ne = the-if1 .left in
-    (the-loop .inv .0, (some-left _ _ (the-loop .inv .1) ne, (the-pre .1 .1, sym (the-is-set .ensures) ∙ not-false (the-is-set .result) (the-if2 .left))))
-
-add-sector-after : tie.Need-add-sector-after Inv-loop μ-loop
-add-sector-after c = omega arith
-
-sub-sector-after : tie.Need-sub-sector-after Inv-loop μ-loop
-sub-sector-after c = omega arith
-
-sector-after-requires : tie.Need-sector-after-requires Inv-loop μ-loop
-sector-after-requires c κs = omega arith
-
-add-skipped : tie.Need-add-skipped Inv-loop μ-loop
-add-skipped c = omega arith
-
-loop-less : tie.Need-loop-less Inv-loop μ-loop
-loop-less c = omega arith
-
-loop-again : tie.Need-loop-again Inv-loop μ-loop
-loop-again c =
-    let a = c .before .before .before .before .before .before .before .args in
-    let the-pre = c .before .before .before .before .before .before .before .pre in
-    let the-loop = c .before .before .before .before .before .loop in
-    let the-used-run = c .before .used-run in
-    let the-sector-after = c .sector-after in
-    let run = the-used-run .result in (
-      subst (λ (x : ℕ). x < a .n) (sym (the-sector-after .ensures)) (after-below (a .n) (the-loop .k + run - 1) (the-pre .0)),
-      omega arith,
-      the-loop .inv .2 ∙ search-further (a .n) (bitAt (a .used .now)) (the-loop .skipped) run (the-loop .k) (the-used-run .ensures)
-          ∙ ap (λ (x : ℕ). further (the-loop .skipped + run) (firstFree (a .n) (bitAt (a .used .now)) (a .n - (the-loop .skipped + run)) x)) (sym (the-sector-after .ensures)),
+returns : tie.Need-returns
+returns c =
+    let a = c .before .before .before .before .before .args in
+    let p = c .before .before .before .before .before .pre in
+    let fit = drive-fits (a .n) (a .d) (p .0) in
+    let o = c .before .before .own-positions in
+    let s = c .before .search-track in (
+      own-chosen (a .n) (a .d) fit (bitAt (a .used .now)) (a .first) (a .start) (p .1 .1 .1 .0) (p .1 .1 .1 .1 .0)
+          (o .result) (steps-few (a .n) (a .d) fit (o .result) (o .ensures)) (s .result .sector) (s .result .skipped) (s .ensures .0) (c .if1 .taken) (s .ensures .2) (s .ensures .3 (c .if1 .taken)),
+      p .1 .1 .1 .1 .1,
     )
 
-returns : tie.Need-returns Inv-loop μ-loop
-returns c =
-    let a = c .before .before .before .args in
-    let l = c .before .loop in
-    found (a .n) (bitAt (a .used .now)) (a .start) (l .k) (l .skipped) (l .inv .1) (l .inv .2) (search-ends (a .n) (bitAt (a .used .now)) (a .n - l .skipped) (l .k) (let e = c .if1 .taken in omega arith)) (l .inv .0)
+nowhere-requires : tie.Need-nowhere-requires
+nowhere-requires c κs =
+    let a = c .before .before .before .before .before .before .args in
+    let p = c .before .before .before .before .before .before .pre in
+    let fit = drive-fits (a .n) (a .d) (p .0) in
+    (fit .some, (fit .most, fit .switch))
 
-returns-2 : tie.Need-returns-2 Inv-loop μ-loop
+returns-2 : tie.Need-returns-2
 returns-2 c =
-    let a = c .before .before .before .before .before .args in
-    let l = c .before .before .before .loop in
-    let s = c .before .is-set in
-    found (a .n) (bitAt (a .used .now)) (a .start) (l .k) (l .skipped) (l .inv .1) (l .inv .2)
-    (search-finds (a .n) (bitAt (a .used .now)) (a .n - l .skipped) (l .k) (sym (s .ensures) ∙ not-true (s .result) (c .if2 .taken))) (l .inv .0)
+    let a = c .before .before .before .before .before .before .before .args in
+    let p = c .before .before .before .before .before .before .before .pre in
+    let fit = drive-fits (a .n) (a .d) (p .0) in
+    let u = bitAt (a .used .now) in
+    let o = c .before .before .before .before .own-positions in
+    let s = c .before .before .before .search-track in
+    let one = c .before .if2 .taken in
+    let few = s .ensures .1 in
+    let left = c .before .before .if1 .left in
+    let all : s .result .skipped ≡ a .d .sectors = (let e = steps-one (a .n) (a .d) fit (o .result) (o .ensures) one in omega arith) in
+    let passed : AllPassed u (a .first) (a .d .sectors) (a .start) (a .d .sectors) = subst (λ (x : ℕ). AllPassed u (a .first) (a .d .sectors) (a .start) x) all (s .ensures .2) in
+    let used = one-nowhere (a .n) (a .d) fit u (a .first) (a .start) (p .1 .1 .1 .0) (p .1 .1 .1 .1 .0) one passed in
+    let w = c .nowhere .ensures in
+    (chosen-nowhere (a .n) (a .d) fit u (a .first) (a .start) (p .1 .1 .1 .0) (p .1 .1 .1 .1 .0) used _ _ _ (w .0) (w .1) (w .2), p .1 .1 .1 .1 .1)
+
+find-elsewhere-requires : tie.Need-find-elsewhere-requires
+find-elsewhere-requires c κs =
+    let a = c .before .before .before .before .before .before .before .args in
+    let p = c .before .before .before .before .before .before .before .pre in
+    let fit = drive-fits (a .n) (a .d) (p .0) in
+    let u = bitAt (a .used .now) in
+    let o = c .before .before .before .before .own-positions in
+    let s = c .before .before .before .search-track in
+    let two = c .before .if2 .left in
+    let few = s .ensures .1 in
+    let left = c .before .before .if1 .left in
+    let all : s .result .skipped ≡ o .result = omega arith in
+    let passed = subst (λ (x : ℕ). AllPassed u (a .first) (a .d .sectors) (a .start) x) (all ∙ steps-more (a .n) (a .d) fit (o .result) (o .ensures) two) (s .ensures .2) in
+    (p .0, (p .1 .0, (p .1 .1 .0, (p .1 .1 .1 .0, (p .1 .1 .1 .1 .0, (passed, p .1 .1 .1 .1 .1))))))
+
+same-length : tie.Need-same-length
+same-length c = c .before .before .find-elsewhere .kept .1 .0
+
+returns-3 : tie.Need-returns-3
+returns-3 c = c .before .before .find-elsewhere .ensures
 
 pub find-place-spec : {M : Type 1} → statement M
 find-place-spec =
     tie.close
     (tie.spec
-    Inv-loop
-    μ-loop
-    loop-holds
-    cast-is-set
-    is-set-requires
-    sub-used-run
-    used-run-requires
-    add-sector-after
-    sub-sector-after
-    sector-after-requires
-    add-skipped
-    loop-less
-    loop-again
+    own-positions-requires
+    search-track-requires
     returns
-    returns-2)
+    nowhere-requires
+    returns-2
+    find-elsewhere-requires
+    same-length
+    returns-3)

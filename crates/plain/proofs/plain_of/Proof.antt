@@ -8,7 +8,7 @@ phase-number-requires : tie.Need-phase-number-requires
 phase-number-requires c κs = search needs
 
 returns : tie.Need-returns
-returns c = plain-is (c .before .before .args .s) _ (c .before .phase-number .ensures)
+returns c = plain-is (c .before .before .before .args .s) _ (c .before .before .phase-number .ensures)
 
 pub plain-of-spec : {M : Type 1} → statement M
 plain-of-spec = tie.close (tie.spec phase-number-requires returns)

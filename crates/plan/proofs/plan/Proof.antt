@@ -12,8 +12,9 @@ use Rattle.plan.proofs.take_sectors.Reads as take-sectors-reads
 list-untouched-requires : tie.Need-list-untouched-requires
 list-untouched-requires c κs =
     let r = c .before .before .before .before .before .before .before .before .before .before .before .pre in
-    let t = r .1 .1 .1 .1 .1 .1 .1 .1 in
-    (r .0, (r .1 .0, (r .1 .1 .0, (r .1 .1 .1 .0, (r .1 .1 .1 .1 .1 .1 .0, (t .0, (t .1 .0, (t .1 .1 .0, t .1 .1 .1 .0))))))))
+    let q = r .1 .1 in
+    let t = q .1 .1 .1 .1 .1 .1 .1 in
+    (r .0, (q .0, (q .1 .0, (q .1 .1 .0, (q .1 .1 .1 .1 .1 .0, (t .0, (t .1 .0, (t .1 .1 .0, t .1 .1 .1 .0))))))))
 
 pieces-for-requires : tie.Need-pieces-for-requires
 pieces-for-requires c κs = search needs
@@ -27,7 +28,7 @@ count-members-requires c κs =
 
 add-total : tie.Need-add-total
 add-total c =
-    let k = c .before .before .before .before .before .before .before .before .before .before .before .before .before .before .before .before .before .before .before .before .before .before .pre .1 .1 .1 .1 .1 .1 .1 .0 in
+    let k = c .before .before .before .before .before .before .before .before .before .before .before .before .before .before .before .before .before .before .before .before .before .before .pre .1 .1 .1 .1 .1 .1 .1 .1 .0 in
     omega arith
 
 cast-total : tie.Need-cast-total
@@ -36,7 +37,7 @@ cast-total c = search needs
 take-sectors-requires : tie.Need-take-sectors-requires
 take-sectors-requires c κs =
     let r = c .before .before .before .before .before .before .before .before .before .before .before .before .before .before .before .before .before .before .before .before .before .before .before .pre in
-    (r .0, (r .1 .1 .1 .1 .0, (r .1 .1 .1 .1 .1 .0, (omega arith, omega arith))))
+    (r .0, (r .1 .0, (r .1 .1 .1 .1 .1 .0, (r .1 .1 .1 .1 .1 .1 .0, (omega arith, omega arith)))))
 
 same-length : tie.Need-same-length
 same-length c = search needs
@@ -54,7 +55,7 @@ returns c =
     let pieces = c .before .before .before .before .before .before .before .before .pieces-for .ensures in
     let untouched = c .before .before .before .before .before .before .before .before .before .before .before .before .before .before .list-untouched .ensures in
     let t = c .before .before .take-sectors .ensures in
-    planning _ _ _ _ _ _ _ _ _ _ _ _ _ _ _ _ (r .1 .1 .1 .1 .1 .1 .1 .1 .0) pieces (r .1 .1 .1 .0) untouched (m .0) (m .1) _ _ (m .2) (t .0) (t .1)
+    planning _ _ _ _ _ _ _ _ _ _ _ _ _ _ _ _ (r .1 .1 .1 .1 .1 .1 .1 .1 .1 .0) pieces (r .1 .1 .1 .1 .0) untouched (m .0) (m .1) _ _ (m .2) (t .0) (t .1)
 
 pub plan-spec : {M : Type 1} → statement M
 plan-spec =

@@ -41,11 +41,10 @@ returns c =
     let the-by-scan = c .before .before .before .before .before .before .before .before .before .before .by-small-scan in
     let the-if1 = c .before .before .before .before .before .before .before .before .before .before .before .before .before .before .before .before .before .before .if1 in
     let the-walk-tables = c .before .before .before .before .before .before .before .before .before .before .before .before .before .before .before .before .before .before .before .before .before .before .before .before .before .before .before .walk-tables in
-    let the-pre =
-    c .before .before .before .before .before .before .before .before .before .before .before .before .before .before .before .before .before .before
-    .before .before .before .before .before .before .before .before .before .before .before .before .before .before .before .before .before .before .before .before .pre in
+    let early = c .before .before .before .before .before .before .before .before .before .before .before .before .before .before .before .before .before .before .before .before in
+    let the-pre = early .before .before .before .before .before .before .before .before .before .before .before .before .before .before .before .before .before .before .pre in
     let kept = the-walk-tables .kept .1 .1 .1 .1 in
-    scan-found _ _ _ _ _ _ _ _ _ _ _ (kept .0) (kept .1 .0) (kept .1 .1 .0) (kept .1 .1 .1 .0) _
+    scan-found _ _ _ _ _ _ _ _ _ _ _ _ (kept .0) (kept .1 .0) (kept .1 .1 .0) (kept .1 .1 .1 .0) _
     (found-incomplete _ _ _ _ (the-pre .1 .1 .0) (the-walk-tables .result) (the-walk-tables .ensures .0) (the-if1 .taken)) (the-by-scan .ensures)
 
 by-scan-requires : tie.Need-by-scan-requires
@@ -76,11 +75,10 @@ returns-2 c =
     let the-by-scan = c .before .before .before .before .before .before .before .before .before .before .by-scan in
     let the-if1 = c .before .before .before .before .before .before .before .before .before .before .before .before .before .before .before .before .before .before .if1 in
     let the-walk-tables = c .before .before .before .before .before .before .before .before .before .before .before .before .before .before .before .before .before .before .before .before .before .before .before .before .before .before .before .walk-tables in
-    let the-pre =
-    c .before .before .before .before .before .before .before .before .before .before .before .before .before .before .before .before .before .before
-    .before .before .before .before .before .before .before .before .before .before .before .before .before .before .before .before .before .before .before .before .pre in
+    let early = c .before .before .before .before .before .before .before .before .before .before .before .before .before .before .before .before .before .before .before .before in
+    let the-pre = early .before .before .before .before .before .before .before .before .before .before .before .before .before .before .before .before .before .before .pre in
     let kept = the-walk-tables .kept .1 .1 .1 .1 in
-    scan-found _ _ _ _ _ _ _ _ _ _ _ (kept .0) (kept .1 .0) (kept .1 .1 .0) (kept .1 .1 .1 .0) _
+    scan-found _ _ _ _ _ _ _ _ _ _ _ _ (kept .0) (kept .1 .0) (kept .1 .1 .0) (kept .1 .1 .1 .0) _
     (found-incomplete _ _ _ _ (the-pre .1 .1 .0) (the-walk-tables .result) (the-walk-tables .ensures .0) (the-if1 .taken)) (the-by-scan .ensures)
 
 count-branches-requires : tie.Need-count-branches-requires
@@ -102,10 +100,16 @@ same-length-11 : tie.Need-same-length-11
 same-length-11 c = search needs
 
 same-length-12 : tie.Need-same-length-12
-same-length-12 c = search needs
+same-length-12 c =
+    let after = c .before .before .before .before .before .before .before .before .before .before .after-walk .kept in
+    let walk = c .before .before .before .before .before .before .before .before .before .before .before .before .before .before .before .before .before .before .before .before .before .before .before .before .before .before .before .before .walk-tables .kept .1 .1 .1 .1 in
+    after .1 .0 ∙ walk .0
 
 same-length-13 : tie.Need-same-length-13
-same-length-13 c = search needs
+same-length-13 c =
+    let after = c .before .before .before .before .before .before .before .before .before .before .after-walk .kept in
+    let walk = c .before .before .before .before .before .before .before .before .before .before .before .before .before .before .before .before .before .before .before .before .before .before .before .before .before .before .before .before .walk-tables .kept .1 .1 .1 .1 in
+    after .1 .1 .0 ∙ walk .1 .0
 
 same-length-14 : tie.Need-same-length-14
 same-length-14 c = search needs
@@ -119,13 +123,12 @@ returns-3 c =
     let the-count-branches = c .before .before .before .before .before .before .before .before .before .before .before .before .before .before .before .before .count-branches in
     let the-if1 = c .before .before .before .before .before .before .before .before .before .before .before .before .before .before .before .before .before .before .before .if1 in
     let the-walk-tables = c .before .before .before .before .before .before .before .before .before .before .before .before .before .before .before .before .before .before .before .before .before .before .before .before .before .before .before .before .walk-tables in
-    let the-pre =
-    c .before .before .before .before .before .before .before .before .before .before .before .before .before .before .before .before .before .before
-    .before .before .before .before .before .before .before .before .before .before .before .before .before .before .before .before .before .before .before .before .before .pre in
+    let early = c .before .before .before .before .before .before .before .before .before .before .before .before .before .before .before .before .before .before .before .before in
+    let the-pre = early .before .before .before .before .before .before .before .before .before .before .before .before .before .before .before .before .before .before .before .pre in
     let kept = the-walk-tables .kept .1 .1 .1 .1 in
     let left = the-walk-tables .ensures .1 (not-false (the-walk-tables .result) (the-if1 .left)) in
     let last = the-walk-tables .last .1 .1 .1 .1 in
-    walk-found _ _ _ _ _ _ _ (last .0) (last .1 .0) (last .1 .1 .0) (last .1 .1 .1 .0) (kept .0) (kept .1 .0) (kept .1 .1 .0) (kept .1 .1 .1 .0) _ _ _ _
+    walk-found _ _ _ _ _ _ _ _ (last .0) (last .1 .0) (last .1 .1 .0) (last .1 .1 .1 .0) (kept .0) (kept .1 .0) (kept .1 .1 .0) (kept .1 .1 .1 .0) _ _ _ _
     (found-log _ _ (the-pre .1 .0) _ _ _ _ _ left _ (the-pre .1 .1 .0) (the-walk-tables .result) (the-walk-tables .ensures .0) (the-if1 .left)
     (the-count-branches .result) (the-count-branches .ensures .0)) (the-after-walk .ensures)
 

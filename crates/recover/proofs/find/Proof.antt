@@ -19,8 +19,8 @@ volume-requires c κs = search needs
 
 parked-at-requires : tie.Need-parked-at-requires
 parked-at-requires c κs =
-    let the-volume = c .before .volume in
-    let the-pre = c .before .before .before .before .before .before .before .pre in
+    let the-volume = c .before .before .volume in
+    let the-pre = c .before .before .before .before .before .before .before .before .pre in
     park-ready _ _ _ _ _ _ (the-volume .result) (the-volume .ensures) the-pre
 
 enum-told : tie.Need-enum-told
@@ -28,8 +28,8 @@ enum-told c = search needs
 
 by-small-scan-requires : tie.Need-by-small-scan-requires
 by-small-scan-requires c κs =
-    let the-volume = c .before .before .before .before .before .before .before .before .before .before .before .volume in
-    let the-pre = c .before .before .before .before .before .before .before .before .before .before .before .before .before .before .before .before .before .pre in
+    let the-volume = c .before .before .before .before .before .before .before .before .before .before .before .before .volume in
+    let the-pre = c .before .before .before .before .before .before .before .before .before .before .before .before .before .before .before .before .before .before .pre in
     let here = image-ready _ _ _ _ _ _ (the-volume .result) (the-volume .ensures) the-pre in
     (c .before .before .before .before .before .if1 .taken, (here .0, (here .1, tables-ready _ _ _ _ _ _ (the-volume .result) (the-volume .ensures) the-pre)))
 
@@ -53,13 +53,13 @@ returns c =
     let the-by-scan = c .before .before .before .before .before .before .before .before .before .before .by-small-scan in
     let the-enum-told = c .before .before .before .before .before .before .before .before .before .before .before .before .before .before .before .before .before .before .enum-told in
     let the-parked-at = c .before .before .before .before .before .before .before .before .before .before .before .before .before .before .before .before .before .before .before .before .parked-at in
-    let the-volume = c .before .before .before .before .before .before .before .before .before .before .before .before .before .before .before .before .before .before .before .before .before .before .volume in
+    let the-volume = c .before .before .before .before .before .before .before .before .before .before .before .before .before .before .before .before .before .before .before .before .before .before .before .volume in
     asked-scan _ _ _ _ _ _ (the-volume .result) (the-volume .ensures) _ _ (sym (the-enum-told .given .1) ∙ the-parked-at .ensures) (the-by-scan .ensures)
 
 by-scan-requires : tie.Need-by-scan-requires
 by-scan-requires c κs =
-    let the-volume = c .before .before .before .before .before .before .before .before .before .before .before .volume in
-    let the-pre = c .before .before .before .before .before .before .before .before .before .before .before .before .before .before .before .before .before .pre in
+    let the-volume = c .before .before .before .before .before .before .before .before .before .before .before .before .volume in
+    let the-pre = c .before .before .before .before .before .before .before .before .before .before .before .before .before .before .before .before .before .before .pre in
     let here = image-ready _ _ _ _ _ _ (the-volume .result) (the-volume .ensures) the-pre in
     (here .0, (here .1, tables-ready _ _ _ _ _ _ (the-volume .result) (the-volume .ensures) the-pre))
 
@@ -70,8 +70,8 @@ by-walk-requires : tie.Need-by-walk-requires
 by-walk-requires c κs =
     let the-tail = c .before .before .before .before .before .before .tail in
     let the-parked-at = c .before .before .before .before .before .before .before .before .parked-at in
-    let the-volume = c .before .before .before .before .before .before .before .before .before .before .volume in
-    let the-pre = c .before .before .before .before .before .before .before .before .before .before .before .before .before .before .before .before .pre in
+    let the-volume = c .before .before .before .before .before .before .before .before .before .before .before .volume in
+    let the-pre = c .before .before .before .before .before .before .before .before .before .before .before .before .before .before .before .before .before .pre in
     let here = image-ready _ _ _ _ _ _ (the-volume .result) (the-volume .ensures) the-pre in
     (here .0, (here .1, (sym (the-tail .given .1) ∙ the-parked-at .ensures, tables-ready _ _ _ _ _ _ (the-volume .result) (the-volume .ensures) the-pre)))
 
@@ -95,7 +95,7 @@ returns-2 c =
     let the-by-scan = c .before .before .before .before .before .before .before .before .before .before .by-scan in
     let the-enum-told = c .before .before .before .before .before .before .before .before .before .before .before .before .before .before .before .before .before .before .enum-told in
     let the-parked-at = c .before .before .before .before .before .before .before .before .before .before .before .before .before .before .before .before .before .before .before .before .parked-at in
-    let the-volume = c .before .before .before .before .before .before .before .before .before .before .before .before .before .before .before .before .before .before .before .before .before .before .volume in
+    let the-volume = c .before .before .before .before .before .before .before .before .before .before .before .before .before .before .before .before .before .before .before .before .before .before .before .volume in
     asked-scan _ _ _ _ _ _ (the-volume .result) (the-volume .ensures) _ _ (sym (the-enum-told .given .1) ∙ the-parked-at .ensures) (the-by-scan .ensures)
 
 same-length-11 : tie.Need-same-length-11
@@ -116,7 +116,7 @@ same-length-15 c = search needs
 returns-3 : tie.Need-returns-3
 returns-3 c =
     let the-by-walk = c .before .before .before .before .before .before .before .before .before .before .by-walk in
-    let the-volume = c .before .before .before .before .before .before .before .before .before .before .before .before .before .before .before .before .before .before .before .before .before .volume in
+    let the-volume = c .before .before .before .before .before .before .before .before .before .before .before .before .before .before .before .before .before .before .before .before .before .before .volume in
     asked-for _ _ _ _ _ _ (the-volume .result) (the-volume .ensures) _ _ (the-by-walk .ensures)
 
 pub find-spec : {M : Type 1} → statement M

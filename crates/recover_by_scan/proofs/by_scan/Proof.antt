@@ -63,7 +63,7 @@ returns c =
     let z = c .before .before .before .before .before .before .before .before .before .zero-tables in
     let the-found = c .before .before .before .before .before .before .before .before .before .before .before .before .before .before .before .found in
     let the-scan = c .before .before .before .before .before .before .before .before .before .before .before .before .before .before .before .before .before .before .before .before .before .before .before .before .before .before .scan in
-    scan-missing _ _ _ _ _ _ _ (the-scan .last .1 .1 .0) (the-scan .last .1 .1 .1 .0) (the-scan .last .1 .1 .1 .1 .0) (the-scan .last .1 .1 .1 .1 .1 .0)
+    scan-missing _ _ _ _ _ _ _ _ (the-scan .last .1 .1 .0) (the-scan .last .1 .1 .1 .0) (the-scan .last .1 .1 .1 .1 .0) (the-scan .last .1 .1 .1 .1 .1 .0)
     (the-scan .kept .1 .1 .0) (the-scan .kept .1 .1 .1 .0) (the-scan .kept .1 .1 .1 .1 .0) (the-scan .kept .1 .1 .1 .1 .1 .0)
     (the-scan .result) (the-scan .ensures .0) _ _ _ _ (z .kept .0) (z .kept .1 .0) (z .kept .1 .1 .0) (z .kept .1 .1 .1 .0)
     _ (the-found .given .1) (c .lost .result) (c .lost .ensures) (z .ensures)
@@ -78,10 +78,16 @@ same-length-7 c =
     the-after-scan .kept .1 .0 ∙ the-scan .kept .1 .1 .0
 
 same-length-8 : tie.Need-same-length-8
-same-length-8 c = search needs
+same-length-8 c =
+    let the-after-scan = c .before .before .before .before .before .before .before .before .before .before .after-scan in
+    let the-scan = c .before .before .before .before .before .before .before .before .before .before .before .before .before .before .before .before .before .before .before .before .before .before .before .before .before .before .before .before .before .scan in
+    the-after-scan .kept .1 .1 .0 ∙ the-scan .kept .1 .1 .1 .0
 
 same-length-9 : tie.Need-same-length-9
-same-length-9 c = search needs
+same-length-9 c =
+    let the-after-scan = c .before .before .before .before .before .before .before .before .before .before .after-scan in
+    let the-scan = c .before .before .before .before .before .before .before .before .before .before .before .before .before .before .before .before .before .before .before .before .before .before .before .before .before .before .before .before .before .scan in
+    the-after-scan .kept .1 .1 .1 .0 ∙ the-scan .kept .1 .1 .1 .1 .0
 
 same-length-10 : tie.Need-same-length-10
 same-length-10 c = search needs
@@ -91,7 +97,7 @@ returns-2 c =
     let the-after-scan = c .before .before .before .before .before .before .before .before .before .before .after-scan in
     let the-found2 = c .before .before .before .before .before .before .before .before .before .before .before .before .before .before .before .before .before .before .found2 in
     let the-scan = c .before .before .before .before .before .before .before .before .before .before .before .before .before .before .before .before .before .before .before .before .before .before .before .before .before .before .before .before .before .scan in
-    scan-found _ _ _ _ _ _ _ (the-scan .last .1 .1 .0) (the-scan .last .1 .1 .1 .0) (the-scan .last .1 .1 .1 .1 .0) (the-scan .last .1 .1 .1 .1 .1 .0)
+    scan-found _ _ _ _ _ _ _ _ (the-scan .last .1 .1 .0) (the-scan .last .1 .1 .1 .0) (the-scan .last .1 .1 .1 .1 .0) (the-scan .last .1 .1 .1 .1 .1 .0)
     (the-scan .kept .1 .1 .0) (the-scan .kept .1 .1 .1 .0) (the-scan .kept .1 .1 .1 .1 .0) (the-scan .kept .1 .1 .1 .1 .1 .0)
     (the-scan .result) (the-scan .ensures .0) _ _ _ (bitAt (the-scan .last .1 .1 .1 .1 .1 .1 .0)) (the-scan .ensures .1) (the-found2 .given .1) (the-after-scan .ensures)
 

@@ -55,7 +55,7 @@ returns c =
     let k = c .before .before .before .before .before .before .before .before .before .before .before .before .before .before .before .before .before .clear-all in
     let w = c .before .before .before .before .before .before .before .before .give-up in
     let a = c .before .before .before .before .before .before .before .before .before .before .before .before .before .before .before .before .before .before .before .before .before .before .before .before .before .args in
-    recovery-cut _ _ _ _ (Scanned _) _ _ (a .map .now) (a .places .now) (a .numbers .now) (a .used .now) _ (k .kept .0) (k .ensures .1)
+    recovery-cut _ _ _ _ _ (Scanned _) _ _ (a .map .now) (a .places .now) (a .numbers .now) (a .used .now) _ (k .kept .0) (k .ensures .1)
     _ _ _ _ (w .result) (w .kept .0) (w .kept .1 .0) (w .kept .1 .1 .0) (w .kept .1 .1 .1 .0)
     (sym (c .before .before .before .before .before .before .before .before .before .before .before .before .before .enum-told .given .1) ∙ k .ensures .0) (w .ensures)
 
@@ -66,7 +66,7 @@ returns-2 : tie.Need-returns-2
 returns-2 c =
     let the-scanned = c .before .scanned in
     let k = c .before .before .before .before .before .before .before .clear-all in
-    recovery-whole _ _ _ _ (Scanned _) _ _ _ _ _ _ _ (k .kept .0) (k .ensures .1)
+    recovery-whole _ _ _ _ _ (Scanned _) _ _ _ _ _ _ _ (k .kept .0) (k .ensures .1)
     (the-scanned .result) (c .running .result) _ (the-scanned .ensures) (c .running .ensures) (sym (c .before .before .before .power .given .1) ∙ k .ensures .0)
 
 pub after-scan-spec : {M : Type 1} → statement M

@@ -15,6 +15,9 @@ loop-holds c = search needs
 is-free-requires : tie.Need-is-free-requires Inv-loop μ-loop
 is-free-requires c κs = search needs
 
+delay-requires : tie.Need-delay-requires Inv-loop μ-loop
+delay-requires c κs = search needs
+
 nearer-requires : tie.Need-nearer-requires Inv-loop μ-loop
 nearer-requires c κs = search needs
 
@@ -38,6 +41,7 @@ nearest-spec =
     μ-loop
     loop-holds
     is-free-requires
+    delay-requires
     nearer-requires
     add-k
     loop-less
