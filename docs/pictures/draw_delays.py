@@ -9,6 +9,7 @@ from pathlib import Path
 HERE = Path(__file__).resolve().parent
 COLOURS = ["#1f5fa8", "#b4451f", "#3c7d3c"]
 WIDTH, HEIGHT, LEFT, TOP, RIGHT, BOTTOM = 760, 470, 64, 24, 24, 56
+LEGEND = 350
 MOST_DELAY = 16.0
 
 
@@ -79,9 +80,9 @@ def legend(drives):
         per_track, tracks, switch = drive
         name = f"one track of {per_track:,}" if tracks == 1 else f"{tracks} tracks of {per_track}, switch {switch}"
         y = TOP + 16 + 20 * i
-        yield f'<circle cx="440" cy="{y - 4}" r="3" fill="{colour}"/>'
-        yield f'<path d="M452,{y - 4} L482,{y - 4}" stroke="{colour}" stroke-dasharray="5 3"/>'
-        yield f'<text x="490" y="{y}">{name}: measured, formula</text>'
+        yield f'<circle cx="{LEGEND}" cy="{y - 4}" r="3" fill="{colour}"/>'
+        yield f'<path d="M{LEGEND + 12},{y - 4} L{LEGEND + 42},{y - 4}" stroke="{colour}" stroke-dasharray="5 3"/>'
+        yield f'<text x="{LEGEND + 50}" y="{y}">{name}: measured, formula</text>'
 
 
 def main():

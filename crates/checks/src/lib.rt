@@ -31,10 +31,10 @@ fn state_fits(s: State, image: usize) -> bool
 fn tables_fit(g: Geometry, map: usize, places: usize, numbers: usize, used: usize) -> bool
     ensures { λ r. ⌜ r ≡ (eqb map (g .l) && eqb places (piecesFor (g .l)) && eqb numbers (piecesFor (g .l)) && eqb used (usedBytes (g .n))) ⌝ }
 {
+    let pieces = Geometry::pieces_for(g.l) as usize;
     if map != g.l as usize {
         return false;
     }
-    let pieces = Geometry::pieces_for(g.l) as usize;
     if places != pieces {
         return false;
     }

@@ -71,8 +71,8 @@ impl Geometry {
     pub fn pieces_for(l: u32) -> u32
         ensures { λ r. ⌜ r ≡ piecesFor l ⌝ }
     {
-        l / Geometry::ENTRIES
-            + (l % Geometry::ENTRIES + (Geometry::ENTRIES - 1)) / Geometry::ENTRIES
+        let padded = l as u64 + (Geometry::ENTRIES - 1) as u64;
+        (padded / Geometry::ENTRIES as u64) as u32
     }
 
     // The piece that holds a block's entry.
@@ -100,8 +100,8 @@ impl Geometry {
     pub fn used_bytes(self) -> u32
         ensures { λ r. ⌜ r ≡ usedBytes (self .n) ⌝ }
     {
-        let n = self.n;
-        n / 8 + (n % 8 + 7) / 8
+        let padded = self.n as u64 + 7;
+        (padded / 8) as u32
     }
 
     // L is 1 to 24,576; N is 2P + 2 to 65,536.

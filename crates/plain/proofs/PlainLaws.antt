@@ -1,7 +1,10 @@
 -- States and results in plain numbers, by the tests that the code makes.
-use Prim.Native.Nat.{ℕ}
+use Prim.Native.Nat.{ℕ, _<_, _≤_}
 use mathlib.Core.Path.{_≡_, refl, sym, ap, _∙_}
 use mathlib.Core.Bool.{Bool, true, false}
+use mathlib.Core.Logic.{⊎-elim}
+use native.Mathlib.Nat.{eq-or-lt-of-le}
+use native.Mathlib.Omega.{arith}
 use borrow.Author.Tests.{eq-eqb, ne-eqb}
 use Rattle.state.specs.declared.State.{State}
 use Rattle.state.specs.declared.Phase.{Phase}
@@ -13,17 +16,19 @@ use Rattle.plain.specs.declared.CState.{CState}
 use Rattle.state.specs.State.{phaseNumber}
 use Rattle.plain.specs.Plain.{phaseOf, stateIn, stateOf, plainIn, plainOf, stateLeft, joined, resultOf}
 
-pub phase-running : (n : ℕ) → n ≡ 0 → Running ≡ phaseOf n
+pub phase-cut : (n : ℕ) → 1 < n → Cut ≡ phaseOf n
 unfolding phaseOf
-phase-running n e = rw (eq-eqb n 0 e) refl
+phase-cut n h = rw (ne-eqb n 0 (λ (z : n ≡ 0). omega arith), ne-eqb n 1 (λ (z : n ≡ 1). omega arith)) refl
 
-pub phase-parked : (n : ℕ) → (n ≡ 0 → ⊥) → n ≡ 1 → Parked ≡ phaseOf n
+pub phase-parked : (n : ℕ) → n ≡ 1 → Parked ≡ phaseOf n
 unfolding phaseOf
-phase-parked n d e = rw (ne-eqb n 0 d, eq-eqb n 1 e) refl
+phase-parked n e = rw (ne-eqb n 0 (λ (z : n ≡ 0). omega arith), eq-eqb n 1 e) refl
 
-pub phase-cut : (n : ℕ) → (n ≡ 0 → ⊥) → (n ≡ 1 → ⊥) → Cut ≡ phaseOf n
+pub phase-running : (n : ℕ) → n ≤ 1 → (n ≡ 1 → ⊥) → Running ≡ phaseOf n
 unfolding phaseOf
-phase-cut n d e = rw (ne-eqb n 0 d, ne-eqb n 1 e) refl
+phase-running n h d =
+    let e : n ≡ 0 = ⊎-elim (λ (z : n ≡ 1). absurd (d z)) (λ (z : n < 1). omega arith) (eq-or-lt-of-le h) in
+    rw (eq-eqb n 0 e) refl
 
 pub state-is : (c : CState) (p : Phase) → p ≡ phaseOf (c .phase) → stateIn c p ≡ stateOf c
 state-is c p e = ap (stateIn c) e

@@ -24,10 +24,10 @@ abbrev pub stateIn : CState → Phase → State
 stateIn c phase =
     record {
       geometry = record { n = c .n; l = c .l };
-      drive = record { sectors = c .«per_track»; tracks = c .tracks; switch = c .«head_switch» };
       tail = c .tail;
       number = c .number;
       phase = phase;
+      drive = record { sectors = c .«per_track»; tracks = c .tracks; switch = c .«head_switch» };
     }
 
 abbrev pub stateOf : CState → State

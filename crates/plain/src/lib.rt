@@ -55,13 +55,13 @@ pub struct CResult {
 fn phase_of(number: u32) -> Phase
     ensures { λ r. ⌜ r ≡ phaseOf number ⌝ }
 {
-    if number == 0 {
-        return Phase::Running;
+    if 1 < number {
+        return Phase::Cut;
     }
     if number == 1 {
         return Phase::Parked;
     }
-    Phase::Cut
+    Phase::Running
 }
 
 fn phase_number(phase: Phase) -> u32
@@ -86,10 +86,10 @@ pub fn state_of(c: CState) -> State
     };
     State {
         geometry,
-        drive,
         tail: c.tail,
         number: c.number,
         phase,
+        drive,
     }
 }
 

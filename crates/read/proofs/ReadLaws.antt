@@ -3,12 +3,17 @@ use Prim.Native.Nat.{ℕ, _*_, _+_, _-_, _≤_, _<_}
 use mathlib.Core.Path.{_≡_, refl, sym, _∙_, ap}
 use mathlib.Core.Logic.{⊎-elim}
 use mathlib.Core.Bool.{Bool, true, false, not, cond, _&&_}
-use mathlib.Core.List.{List, []}
+use mathlib.Core.List.{List, [], _∷_}
 use native.Mathlib.Omega.{arith}
 use lib.ListN.{length}
 use lib.Dec.{eqb, ltb, leb}
 use borrow.Author.Tests.{eqb-true, ne-eqb, lt-ltb, le-ltb, ltb-true, leb-true, le-leb, lt-leb, not-true, not-false}
+use types.Run.{OneOf}
+use denote.Enum.Declared.{tagOf}
 use Rattle.state.specs.declared.State.{State}
+use Rattle.state.specs.declared.Phase.{Phase}
+use Rattle.state.specs.declared.Phase.the-variants.{Running, Parked, Cut}
+use Rattle.state.proofs.Phase.{the-type}
 use Rattle.answer.specs.declared.Refusal.{Refusal}
 use Rattle.answer.specs.Answer.{lengths, storesAlone}
 use Rattle.answer.specs.declared.Answer.{Answer}
@@ -42,6 +47,12 @@ entry-low n entry d k e h = rw (ne-eqb entry 0 d, ← e, lt-leb 1 k h) refl
 pub entry-high : (n entry : ℕ) → (entry ≡ 0 → ⊥) → (k : ℕ) → k ≡ sectorOf entry → 1 ≤ k → leb k (n - 1) ≡ entryReadable n entry
 unfolding entryReadable
 entry-high n entry d k e h = rw (ne-eqb entry 0 d, ← e, le-leb 1 k h) refl
+
+-- The arm of running and parked is one: what it is told is the number of the variant.
+pub readable-arm : (p : Phase) → OneOf (0 ∷ 1 ∷ []) (tagOf the-type p) → isReadable p ≡ true
+readable-arm Running h = refl
+readable-arm Parked h = refl
+readable-arm Cut h = absurd (⊎-elim (λ (z : _≡_ {A = ℕ} 2 0). omega arith) (λ (z : _≡_ {A = ℕ} 2 1). omega arith) h)
 
 -- The verdict on the lengths is v.
 module _ (s : State) (im mp pl nu us : List ℕ) (block out : ℕ) (v : Verdict)

@@ -77,8 +77,7 @@ fn read_verdict(
             let entry = map[block as usize];
             let phase = s.phase;
             match phase {
-                Phase::Running => entry_verdict(g.n, entry),
-                Phase::Parked => entry_verdict(g.n, entry),
+                Phase::Running | Phase::Parked => entry_verdict(g.n, entry),
                 Phase::Cut => Verdict::Refuse(Refusal::WrongPhase),
             }
         }

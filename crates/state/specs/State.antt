@@ -15,7 +15,7 @@ phaseNumber Cut = 2
 
 -- The state with another phase.
 abbrev pub inPhase : State → Phase → State
-inPhase s phase = record { geometry = s .geometry; drive = s .drive; tail = s .tail; number = s .number; phase = phase }
+inPhase s phase = record { geometry = s .geometry; tail = s .tail; number = s .number; phase = phase; drive = s .drive }
 
 abbrev pub parkedState : State → State
 parkedState s = inPhase s Parked
@@ -25,7 +25,7 @@ abbrev pub cutState : State → State
 cutState s = inPhase s Cut
 
 abbrev pub freshState : Geometry → Drive → ℕ → ℕ → State
-freshState g drive tail number = record { geometry = g; drive = drive; tail = tail; number = number; phase = Running }
+freshState g drive tail number = record { geometry = g; tail = tail; number = number; phase = Running; drive = drive }
 
 -- With a new tail and number, as a commit leaves it.
 abbrev pub committedState : State → ℕ → ℕ → State
@@ -33,7 +33,7 @@ committedState s tail number = freshState (s .geometry) (s .drive) tail number
 
 -- After 8, 9 or their own 10, format and recover leave their N, L and drive, tail and number 0, phase cut.
 abbrev pub lostState : Geometry → Drive → State
-lostState g drive = record { geometry = g; drive = drive; tail = 0; number = 0; phase = Cut }
+lostState g drive = record { geometry = g; tail = 0; number = 0; phase = Cut; drive = drive }
 
 -- Write, drop and park need running; read needs running or parked.
 abbrev pub isRunning : Phase → Bool

@@ -14,11 +14,11 @@ pub enum Phase {
 
 pub struct State {
     pub geometry: Geometry,
-    pub drive: Drive,
     // The sector of the newest closed commit's closing map sector, and its number.
     pub tail: u32,
     pub number: u32,
     pub phase: Phase,
+    pub drive: Drive,
 }
 
 impl State {
@@ -28,10 +28,10 @@ impl State {
     {
         State {
             geometry: g,
-            drive,
             tail,
             number,
             phase: Phase::Running,
+            drive,
         }
     }
 
@@ -41,10 +41,10 @@ impl State {
     {
         State {
             geometry: g,
-            drive,
             tail: 0,
             number: 0,
             phase: Phase::Cut,
+            drive,
         }
     }
 
@@ -55,10 +55,10 @@ impl State {
         let drive = self.drive;
         State {
             geometry,
-            drive,
             tail: self.tail,
             number: self.number,
             phase: Phase::Parked,
+            drive,
         }
     }
 
@@ -69,10 +69,10 @@ impl State {
         let drive = self.drive;
         State {
             geometry,
-            drive,
             tail: self.tail,
             number: self.number,
             phase: Phase::Cut,
+            drive,
         }
     }
 
@@ -84,10 +84,10 @@ impl State {
         let drive = self.drive;
         State {
             geometry,
-            drive,
             tail,
             number,
             phase: Phase::Running,
+            drive,
         }
     }
 }

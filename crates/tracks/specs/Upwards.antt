@@ -12,7 +12,9 @@ sectorAfter n k = cond (ltb (suc k) n) (suc k) 1
 -- The first free sector from k on, looking at `steps` sectors at most.
 unfoldable pub firstFree : ℕ → (ℕ → Bool) → ℕ → ℕ → ℕ
 firstFree n isUsed zero k = k
-firstFree n isUsed (suc steps) k = cond (isUsed k) (firstFree n isUsed steps (sectorAfter n k)) k
+firstFree n isUsed (suc steps) k =
+    let later = firstFree n isUsed steps (sectorAfter n k) in
+    cond (isUsed k) later k
 
 -- Document 01 counts no sectors skipped.
 abbrev pub upwards : Choice

@@ -65,10 +65,10 @@ pub fn state_of(b: &[u32; board::SIZE]) -> State {
     let drive = drive_of(b, board::PER_TRACK);
     State {
         geometry,
-        drive,
         tail: board::get(b, board::TAIL, 0),
         number: board::get(b, board::NUMBER, 0),
         phase: phase_of(board::get(b, board::PHASE, 0)),
+        drive,
     }
 }
 

@@ -1,7 +1,7 @@
 -- Each refusal is the first that applies, by the laws of ReadLaws.
 use mathlib.Core.Path.{ap}
 use Rattle.state.specs.State.{isReadable}
-use Rattle.read.proofs.ReadLaws.{lengths-refused, block-refused, phase-refused, readable-judged, in-map, some-sectors}
+use Rattle.read.proofs.ReadLaws.{readable-arm, lengths-refused, block-refused, phase-refused, readable-judged, in-map, some-sectors}
 use borrow.Author.Needs.{needs}
 use Rattle.read.proofs.read_verdict.Statement.{statement}
 use Rattle.read.proofs.read_verdict.Tie as tie
@@ -34,28 +34,15 @@ shared-slice-read-entry c =
     let a = c .before .before .before .before .before .before .before .before .before .before .before .before .args in
     in-map (a .s) (a .image .now) (a .map .now) (a .places .now) (a .numbers .now) (a .used .now) (a .block) (a .out) (the-state-verdict .result) (the-state-verdict .ensures) (the-enum-told .given .1) (the-if1 .left)
 
-enum-told-2 : tie.Need-enum-told-2
-enum-told-2 c = search needs
-
 entry-verdict-requires : tie.Need-entry-verdict-requires
 entry-verdict-requires c κs =
-    let the-state-verdict = c .before .before .before .before .before .before .before .before .state-verdict in
-    let the-enum-told = c .before .before .before .before .before .before .enum-told in
-    let a = c .before .before .before .before .before .before .before .before .before .before .before .before .before .before .args in
+    let the-state-verdict = c .before .before .before .before .before .before .before .state-verdict in
+    let the-enum-told = c .before .before .before .before .before .enum-told in
+    let a = c .before .before .before .before .before .before .before .before .before .before .before .before .before .args in
     some-sectors (a .s) (a .image .now) (a .map .now) (a .places .now) (a .numbers .now) (a .used .now) (a .block) (a .out) (the-state-verdict .result) (the-state-verdict .ensures) (the-enum-told .given .1)
 
-enum-told-3 : tie.Need-enum-told-3
-enum-told-3 c = search needs
-
-entry-verdict-requires-2 : tie.Need-entry-verdict-requires-2
-entry-verdict-requires-2 c κs =
-    let the-state-verdict = c .before .before .before .before .before .before .before .before .state-verdict in
-    let the-enum-told = c .before .before .before .before .before .before .enum-told in
-    let a = c .before .before .before .before .before .before .before .before .before .before .before .before .before .before .args in
-    some-sectors (a .s) (a .image .now) (a .map .now) (a .places .now) (a .numbers .now) (a .used .now) (a .block) (a .out) (the-state-verdict .result) (the-state-verdict .ensures) (the-enum-told .given .1)
-
-enum-told-4 : tie.Need-enum-told-4
-enum-told-4 c = search needs
+enum-told-2 : tie.Need-enum-told-2
+enum-told-2 c = search needs
 
 returns-2 : tie.Need-returns-2
 returns-2 c =
@@ -64,26 +51,20 @@ returns-2 c =
 
 returns-3 : tie.Need-returns-3
 returns-3 c =
-    let the-state-verdict = c .before .before .before .before .before .before .before .before .before .state-verdict in
-    let the-enum-told = c .before .before .before .before .before .before .before .enum-told in
-    let the-if1 = c .before .before .before .before .if1 in
-    readable-judged _ _ _ _ _ _ _ _ (the-state-verdict .result) (the-state-verdict .ensures) (the-enum-told .given .1) (the-if1 .left)
-    (c .entry-verdict .result) (ap isReadable (c .before .enum-told2 .given .1)) (c .entry-verdict .ensures)
-
-returns-4 : tie.Need-returns-4
-returns-4 c =
-    let the-state-verdict = c .before .before .before .before .before .before .before .before .before .state-verdict in
-    let the-enum-told = c .before .before .before .before .before .before .before .enum-told in
-    let the-if1 = c .before .before .before .before .if1 in
-    readable-judged _ _ _ _ _ _ _ _ (the-state-verdict .result) (the-state-verdict .ensures) (the-enum-told .given .1) (the-if1 .left)
-    (c .entry-verdict2 .result) (ap isReadable (c .before .enum-told3 .given .1)) (c .entry-verdict2 .ensures)
-
-returns-5 : tie.Need-returns-5
-returns-5 c =
+    let the-match2 = c .before .match2 in
     let the-state-verdict = c .before .before .before .before .before .before .before .before .state-verdict in
     let the-enum-told = c .before .before .before .before .before .before .enum-told in
     let the-if1 = c .before .before .before .if1 in
-    phase-refused _ _ _ _ _ _ _ _ (the-state-verdict .result) (the-state-verdict .ensures) (the-enum-told .given .1) (the-if1 .left) (ap isReadable (c .enum-told4 .given .1))
+    let a = c .before .before .before .before .before .before .before .before .before .before .before .before .before .before .args in
+    readable-judged _ _ _ _ _ _ _ _ (the-state-verdict .result) (the-state-verdict .ensures) (the-enum-told .given .1) (the-if1 .left)
+    (c .entry-verdict .result) (readable-arm (a .s .phase) (the-match2 .keys1)) (c .entry-verdict .ensures)
+
+returns-4 : tie.Need-returns-4
+returns-4 c =
+    let the-state-verdict = c .before .before .before .before .before .before .before .before .state-verdict in
+    let the-enum-told = c .before .before .before .before .before .before .enum-told in
+    let the-if1 = c .before .before .before .if1 in
+    phase-refused _ _ _ _ _ _ _ _ (the-state-verdict .result) (the-state-verdict .ensures) (the-enum-told .given .1) (the-if1 .left) (ap isReadable (c .enum-told2 .given .1))
 
 pub read-verdict-spec : {M : Type 1} → statement M
 read-verdict-spec =
@@ -95,12 +76,8 @@ read-verdict-spec =
     returns
     mul-entry
     shared-slice-read-entry
-    enum-told-2
     entry-verdict-requires
-    enum-told-3
-    entry-verdict-requires-2
-    enum-told-4
+    enum-told-2
     returns-2
     returns-3
-    returns-4
-    returns-5)
+    returns-4)
