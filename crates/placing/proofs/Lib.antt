@@ -1,3 +1,2 @@
 -- Laws that this crate's proofs cite, and its callers' may.
-pub mod TrackLaws
 pub mod PlaceLaws

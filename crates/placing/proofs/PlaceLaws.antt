@@ -14,8 +14,9 @@ use Rattle.tracks.specs.Placing.{Found, trackOf, positionOf, delay, leastDelay,
 use Rattle.laws.proofs.Bounded.{lt?, eq?, clash, cond-true, cond-false}
 use Rattle.laws.proofs.Delays.{DriveFits, track-inside, delay-there, delay-short, delay-own, delay-first, delay-switch, Nearest, nearest-alone, none-free}
 use Rattle.power.specs.Power.{made}
-use Rattle.placing.specs.Searching.{turned, AllPassed, LowestFree, NoneWithin, Chosen}
-use Rattle.placing.proofs.TrackLaws.{turned-inside}
+use Rattle.searching.specs.Searching.{turned, AllPassed, LowestFree, NoneWithin}
+use Rattle.placing.specs.Choosing.{Chosen}
+use Rattle.searching.proofs.TrackLaws.{turned-inside}
 
 used-or : (b : Bool) → (b ≡ false → ⊥) → b ≡ true
 used-or true e = refl

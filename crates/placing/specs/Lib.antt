@@ -1,2 +1,2 @@
--- What the searches along a track and across the tracks say.
-pub mod Searching
+-- What a search for a place gives.
+pub mod Choosing

@@ -6,12 +6,12 @@ use native.Mathlib.Omega.{arith}
 use borrow.Author.Needs.{needs}
 use Rattle.volume.specs.Tables.{bitAt}
 use Rattle.laws.proofs.Delays.{drive-fits}
-use Rattle.placing.specs.Searching.{NoneWithin}
+use Rattle.searching.specs.Searching.{NoneWithin}
 use Rattle.placing.proofs.PlaceLaws.{track-low, other-chosen, other-nowhere, chosen-nowhere}
 use Rattle.placing.proofs.find_elsewhere.Statement.{statement}
 use Rattle.placing.proofs.find_elsewhere.Tie as tie
 use Rattle.placing.proofs.nowhere.Reads as nowhere-reads
-use Rattle.placing.proofs.search_tracks.Reads as search-tracks-reads
+use Rattle.searching.proofs.search_tracks.Reads as search-tracks-reads
 
 sub-position : tie.Need-sub-position
 sub-position c =

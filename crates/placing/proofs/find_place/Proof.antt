@@ -5,14 +5,14 @@ use native.Mathlib.Omega.{arith}
 use borrow.Author.Needs.{needs}
 use Rattle.volume.specs.Tables.{bitAt}
 use Rattle.laws.proofs.Delays.{drive-fits}
-use Rattle.placing.specs.Searching.{AllPassed}
+use Rattle.searching.specs.Searching.{AllPassed}
 use Rattle.placing.proofs.PlaceLaws.{track-low, track-high, track-ends, steps-one, steps-more, steps-few, steps-most, own-chosen, one-nowhere, chosen-nowhere}
 use Rattle.placing.proofs.find_place.Statement.{statement}
 use Rattle.placing.proofs.find_place.Tie as tie
 use Rattle.placing.proofs.find_elsewhere.Reads as find-elsewhere-reads
 use Rattle.placing.proofs.nowhere.Reads as nowhere-reads
 use Rattle.placing.proofs.own_positions.Reads as own-positions-reads
-use Rattle.placing.proofs.search_track.Reads as search-track-reads
+use Rattle.searching.proofs.search_track.Reads as search-track-reads
 
 own-positions-requires : tie.Need-own-positions-requires
 own-positions-requires c κs = search needs

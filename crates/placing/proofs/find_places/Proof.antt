@@ -11,12 +11,12 @@ use Rattle.volume.specs.Tables.{bitAt}
 use Rattle.power.specs.Power.{made}
 use Rattle.laws.proofs.Filling.{Filled, filled-none, filled-length, filled-more}
 use Rattle.laws.proofs.Delays.{drive-fits, track-inside, after-inside}
-use Rattle.placing.specs.Searching.{Known}
-use Rattle.placing.proofs.TrackLaws.{known-none, known-kept}
+use Rattle.searching.specs.Searching.{Known}
+use Rattle.searching.proofs.TrackLaws.{known-none, known-kept}
 use Rattle.placing.proofs.PlaceLaws.{next-start, next-track, Placed, placed-none, place-here, placed-more, charged-few, billed-none, billed-more}
 use Rattle.placing.proofs.find_places.Statement.{statement}
 use Rattle.placing.proofs.find_places.Tie as tie
-use Rattle.placing.proofs.around.Reads as around-reads
+use Rattle.searching.proofs.around.Reads as around-reads
 use Rattle.placing.proofs.charge.Reads as charge-reads
 use Rattle.placing.proofs.find_place.Reads as find-place-reads
 use Rattle.placing.proofs.first_of.Reads as first-of-reads

@@ -6,11 +6,11 @@ use native.Mathlib.Omega.{arith}
 use borrow.Author.Needs.{needs}
 use Rattle.layout.specs.Bounded.{at}
 use Rattle.volume.specs.Tables.{bitAt}
-use Rattle.placing.proofs.TrackLaws.{at-position, run-more, none-before, known-more}
-use Rattle.placing.proofs.look_at.Statement.{statement}
-use Rattle.placing.proofs.look_at.Tie as tie
-use Rattle.placing.proofs.lowest_at.Reads as lowest-at-reads
-use Rattle.placing.proofs.noted.Reads as noted-reads
+use Rattle.searching.proofs.TrackLaws.{at-position, run-more, none-before, known-more}
+use Rattle.searching.proofs.look_at.Statement.{statement}
+use Rattle.searching.proofs.look_at.Tie as tie
+use Rattle.searching.proofs.lowest_at.Reads as lowest-at-reads
+use Rattle.searching.proofs.noted.Reads as noted-reads
 
 lowest-at-requires : tie.Need-lowest-at-requires
 lowest-at-requires c κs =

@@ -5,13 +5,13 @@ use native.Mathlib.Omega.{arith}
 use lib.ListN.{length}
 use borrow.Author.Needs.{needs}
 use Rattle.volume.specs.Tables.{bitAt}
-use Rattle.placing.specs.Searching.{LowestFree, NoneWithin, Known}
-use Rattle.placing.proofs.TrackLaws.{run-more, first-position, next-position, none-yet, none-more, one-more, full-passed}
-use Rattle.placing.proofs.search_tracks.Statement.{statement}
-use Rattle.placing.proofs.search_tracks.Tie as tie
-use Rattle.placing.proofs.around.Reads as around-reads
-use Rattle.placing.proofs.full_until.Reads as full-until-reads
-use Rattle.placing.proofs.look_at.Reads as look-at-reads
+use Rattle.searching.specs.Searching.{LowestFree, NoneWithin, Known}
+use Rattle.searching.proofs.TrackLaws.{run-more, first-position, next-position, none-yet, none-more, one-more, full-passed}
+use Rattle.searching.proofs.search_tracks.Statement.{statement}
+use Rattle.searching.proofs.search_tracks.Tie as tie
+use Rattle.searching.proofs.around.Reads as around-reads
+use Rattle.searching.proofs.full_until.Reads as full-until-reads
+use Rattle.searching.proofs.look_at.Reads as look-at-reads
 
 abbrev Inv-loop : tie.InvT-loop
 Inv-loop used known₀ n size position at₀ skipped₀ known at skipped =

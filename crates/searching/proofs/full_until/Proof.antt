@@ -6,11 +6,11 @@ use native.Mathlib.Omega.{arith}
 use borrow.Author.Needs.{needs}
 use Rattle.layout.specs.Bounded.{at}
 use Rattle.laws.proofs.Bounded.{lt?}
-use Rattle.placing.specs.Searching.{allTracks}
-use Rattle.placing.proofs.TrackLaws.{run-more}
-use Rattle.placing.proofs.full_until.Statement.{statement}
-use Rattle.placing.proofs.full_until.Tie as tie
-use Rattle.placing.proofs.nearer.Reads as nearer-reads
+use Rattle.searching.specs.Searching.{allTracks}
+use Rattle.searching.proofs.TrackLaws.{run-more}
+use Rattle.searching.proofs.full_until.Statement.{statement}
+use Rattle.searching.proofs.full_until.Tie as tie
+use Rattle.searching.proofs.nearer.Reads as nearer-reads
 
 abbrev Inv-loop : tie.InvT-loop
 Inv-loop known size position steps end k₀ k = (position ≤ k) × (k ≤ end) × ((j : ℕ) → position ≤ j → j < k → at known j ≡ allTracks)

@@ -15,7 +15,7 @@ use Rattle.volume.specs.Tables.{bitAt}
 use Rattle.laws.proofs.Bounded.{lt?, eq?, cond-true, cond-false, allBelow-at}
 use Rattle.laws.proofs.Filling.{zeros-get}
 use Rattle.bits.proofs.WordLaws.{bit, word-full}
-use Rattle.placing.specs.Searching.{turned, AllPassed, UsedAt, NoneWithin, Known}
+use Rattle.searching.specs.Searching.{turned, AllPassed, UsedAt, NoneWithin, Known}
 
 -- Sectors from k on that can be skipped at once: they are used, and neither the steps nor the sectors end before they do.
 abbrev pub Run : ℕ → ℕ → (ℕ → Bool) → ℕ → ℕ → Type 0

@@ -5,12 +5,12 @@ use native.Mathlib.Omega.{arith}
 use borrow.Author.Tests.{not-true, not-false}
 use borrow.Author.Needs.{needs}
 use Rattle.volume.specs.Tables.{bitAt}
-use Rattle.placing.specs.Searching.{turned, AllPassed}
-use Rattle.placing.proofs.TrackLaws.{turned-none, turned-inside, run-turned, run-passed, some-left}
-use Rattle.placing.proofs.search_track.Statement.{statement}
-use Rattle.placing.proofs.search_track.Tie as tie
-use Rattle.placing.proofs.around.Reads as around-reads
-use Rattle.placing.proofs.used_run.Reads as used-run-reads
+use Rattle.searching.specs.Searching.{turned, AllPassed}
+use Rattle.searching.proofs.TrackLaws.{turned-none, turned-inside, run-turned, run-passed, some-left}
+use Rattle.searching.proofs.search_track.Statement.{statement}
+use Rattle.searching.proofs.search_track.Tie as tie
+use Rattle.searching.proofs.around.Reads as around-reads
+use Rattle.searching.proofs.used_run.Reads as used-run-reads
 use Rattle.bits.proofs.is_set.Reads as is-set-reads
 
 abbrev Inv-loop : tie.InvT-loop

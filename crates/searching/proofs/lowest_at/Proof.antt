@@ -6,10 +6,10 @@ use native.Mathlib.Omega.{arith}
 use borrow.Author.Tests.{not-true, not-false}
 use borrow.Author.Needs.{needs}
 use Rattle.volume.specs.Tables.{bitAt}
-use Rattle.placing.specs.Searching.{UsedAt}
-use Rattle.placing.proofs.TrackLaws.{at-next}
-use Rattle.placing.proofs.lowest_at.Statement.{statement}
-use Rattle.placing.proofs.lowest_at.Tie as tie
+use Rattle.searching.specs.Searching.{UsedAt}
+use Rattle.searching.proofs.TrackLaws.{at-next}
+use Rattle.searching.proofs.lowest_at.Statement.{statement}
+use Rattle.searching.proofs.lowest_at.Tie as tie
 use Rattle.bits.proofs.is_set.Reads as is-set-reads
 
 abbrev Inv-loop : tie.InvT-loop

@@ -1,7 +1,7 @@
 -- Each answer is what the test decided.
 use borrow.Author.Tests.{lt-ltb, le-ltb}
-use Rattle.placing.proofs.around.Statement.{statement}
-use Rattle.placing.proofs.around.Tie as tie
+use Rattle.searching.proofs.around.Statement.{statement}
+use Rattle.searching.proofs.around.Tie as tie
 
 returns : tie.Need-returns
 returns c = simp (lt-ltb _ _ (c .if1 .taken))

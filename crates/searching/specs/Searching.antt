@@ -3,9 +3,7 @@ use Prim.Native.Nat.{ℕ, _+_, _*_, _-_, _%_, _<_}
 use mathlib.Core.Path.{_≡_}
 use mathlib.Core.Bool.{Bool, true, false}
 use mathlib.Core.List.{List}
-use Rattle.geometry.specs.declared.Drive.{Drive}
 use Rattle.layout.specs.Bounded.{at}
-use Rattle.tracks.specs.Placing.{trackOf, leastDelay}
 
 -- The sector of a track, of `size` sectors from `first` on, that is under the head w positions after `start`.
 abbrev pub turned : ℕ → ℕ → ℕ → ℕ → ℕ
@@ -36,10 +34,3 @@ abbrev pub Known : List ℕ → (ℕ → Bool) → ℕ → ℕ → Type 0
 Known known isUsed n size =
     (position : ℕ) → (at known position ≡ allTracks → UsedAt isUsed size position n)
     × (at known position < allTracks → UsedAt isUsed size position (position + at known position * size))
-
--- A search's answer, with the first sector of its track: the choice of least delay.
-pub record Chosen (d : Drive) (n : ℕ) (isUsed : ℕ → Bool) (start sector skipped first : ℕ) : Type 0 where
-  pub is : record { sector = sector; skipped = skipped } ≡ (leastDelay d .choose) n isUsed start
-  pub below : sector < n
-  pub short : skipped < d .switch + d .sectors
-  pub track : first ≡ trackOf d sector * d .sectors

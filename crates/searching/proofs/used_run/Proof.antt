@@ -1,10 +1,10 @@
 -- A word that starts at k and is full, or what a byte allows.
 use borrow.Author.Needs.{needs}
 use Rattle.volume.specs.Tables.{bitAt}
-use Rattle.placing.proofs.TrackLaws.{run-word}
-use Rattle.placing.proofs.used_run.Statement.{statement}
-use Rattle.placing.proofs.used_run.Tie as tie
-use Rattle.placing.proofs.byte_run.Reads as byte-run-reads
+use Rattle.searching.proofs.TrackLaws.{run-word}
+use Rattle.searching.proofs.used_run.Statement.{statement}
+use Rattle.searching.proofs.used_run.Tie as tie
+use Rattle.searching.proofs.byte_run.Reads as byte-run-reads
 use Rattle.bits.proofs.word_at.Reads as word-at-reads
 
 byte-run-requires : tie.Need-byte-run-requires

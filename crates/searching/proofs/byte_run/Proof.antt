@@ -2,9 +2,9 @@
 use native.Mathlib.Omega.{arith}
 use borrow.Author.Needs.{needs}
 use Rattle.volume.specs.Tables.{bitAt}
-use Rattle.placing.proofs.TrackLaws.{run-one, run-byte}
-use Rattle.placing.proofs.byte_run.Statement.{statement}
-use Rattle.placing.proofs.byte_run.Tie as tie
+use Rattle.searching.proofs.TrackLaws.{run-one, run-byte}
+use Rattle.searching.proofs.byte_run.Statement.{statement}
+use Rattle.searching.proofs.byte_run.Tie as tie
 
 returns : tie.Need-returns
 returns c =
