@@ -154,7 +154,8 @@ vlog_result vlog_drop(vlog_state state,
                       const uint32_t *blocks, size_t blocks_length,
                       uint32_t allowance);
 
-/* Fills out, 512 bytes, with a block. A block never written, or dropped, is zeros. */
+/* Fills out, 512 bytes, with a block. A block never written, or dropped, is zeros. The state comes back as it was handed
+ * in, so that a caller that reads one block after another can go on with the state that it has. */
 vlog_result vlog_read(vlog_state state,
                       const uint8_t *image, size_t image_length,
                       const uint32_t *map, size_t map_length,
