@@ -1,10 +1,10 @@
 -- The choice of least delay, found along a track and across the tracks; and places taken one after the other.
-use Prim.Native.Nat.{ℕ, zero, suc, _+_, _*_, _-_, _/_, _%_, _≤_, _<_}
+use Prim.Native.Nat.{ℕ, suc, _+_, _*_, _-_, _/_, _%_, _≤_, _<_}
 use mathlib.Core.Path.{_≡_, refl, sym, _∙_, ap, ap₂, fun-ext}
 use mathlib.Core.Logic.{⊎-elim}
 use mathlib.Core.Bool.{Bool, true, false, cond, _||_}
 use native.Mathlib.Numerals.{add-one}
-use native.Mathlib.Nat.{mod-lt, mod-le, mod-eq-of-lt, mod-self, mod-add-mod, add-mod-mod, div-add-mod', div-eq-of-lt, zero-mul, zero-div, zero-mod, mul-add-div-right, mul-le-mul-left, mul-one}
+use native.Mathlib.Nat.{mod-lt, mod-eq-of-lt, mod-self, mod-add-mod, add-mod-mod, div-add-mod', div-eq-of-lt, zero-mul, zero-div, zero-mod, mul-add-div-right, mul-one}
 use native.Mathlib.Omega.{arith}
 use lib.Dec.{eqb, ltb}
 use borrow.Author.Tests.{lt-ltb, le-ltb, eq-eqb, ne-eqb}

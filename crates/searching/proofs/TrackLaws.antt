@@ -2,7 +2,7 @@
 use Prim.Native.Nat.{ℕ, _+_, _*_, _-_, _/_, _%_, _^_, _≤_, _<_}
 use mathlib.Core.Path.{_≡_, refl, sym, _∙_, ap, ap₂}
 use mathlib.Core.Logic.{⊎-elim}
-use mathlib.Core.Bool.{Bool, true, false, cond}
+use mathlib.Core.Bool.{Bool, true, cond}
 use mathlib.Core.List.{List}
 use native.Mathlib.Nat.{mod-lt, mod-eq-of-lt, mod-self, mod-add-mod, add-mod-right, add-mul-mod-self-right, add-mul, zero-mul, mod-le, mul-le-mul-right}
 use native.Mathlib.Omega.{arith}

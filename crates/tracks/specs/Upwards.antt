@@ -3,7 +3,7 @@
 use Prim.Native.Nat.{ℕ, zero, suc}
 use mathlib.Core.Bool.{Bool, cond}
 use lib.Dec.{ltb}
-use Rattle.tracks.specs.Placing.{Found, Choice}
+use Rattle.tracks.specs.Placing.{Choice}
 
 -- The sector after k: upwards, and from N - 1 on to 1.
 abbrev pub sectorAfter : ℕ → ℕ → ℕ

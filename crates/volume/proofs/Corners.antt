@@ -531,7 +531,9 @@ unfolding wraps reachedAlready supersededLater higherBranch roomExactly bytesInO
     refusal10 recoveryCut recoveredAgain newestFirst firstRead doneAlready memberParked unsoundWalk unsoundScan closingRecycled signedParkSector refusal7 formatCut overwritten blankAt
     copied signedAt namingAt parkedAt numbered signed
 corners =
-    volumeB (wraps ∷ reachedAlready ∷ supersededLater ∷ higherBranch ∷ roomExactly ∷ bytesInOrder ∷ refusal1 ∷ refusal2 ∷ refusal3 ∷ refusal4 ∷ refusal5 ∷ refusal8 ∷ refusal9 ∷ dataFirst ∷ refusal10 ∷ recoveryCut ∷ recoveredAgain ∷ newestFirst ∷ firstRead ∷ doneAlready ∷ memberParked ∷ unsoundWalk ∷ unsoundScan ∷ closingRecycled ∷ signedParkSector ∷ [])
+    volumeB (wraps ∷ reachedAlready ∷ supersededLater ∷ higherBranch ∷ roomExactly ∷ bytesInOrder ∷ refusal1 ∷ refusal2 ∷ refusal3 ∷ refusal4 ∷ refusal5
+    ∷ refusal8 ∷ refusal9 ∷ dataFirst ∷ refusal10 ∷ recoveryCut ∷ recoveredAgain ∷ newestFirst ∷ firstRead
+    ∷ doneAlready ∷ memberParked ∷ unsoundWalk ∷ unsoundScan ∷ closingRecycled ∷ signedParkSector ∷ [])
     ∷ volumeA (refusal7 ∷ [])
     ∷ record { format = record { n = 4; l = 2; drive = oneTrack 4; stores = 4 }; rows = formatCut ∷ [] }
     ∷ []

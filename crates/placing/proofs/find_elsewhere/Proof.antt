@@ -1,9 +1,8 @@
 -- Found on some track, or nowhere.
-use Prim.Native.Nat.{ℕ, _+_, _*_, _-_, _%_, _≤_, _<_}
-use mathlib.Core.Path.{_≡_, _∙_, sym, refl, subst}
+use Prim.Native.Nat.{ℕ, _+_, _-_, _%_, _<_}
+use mathlib.Core.Path.{refl, subst}
 use native.Mathlib.Nat.{mod-lt, mod-le}
 use native.Mathlib.Omega.{arith}
-use borrow.Author.Needs.{needs}
 use Rattle.volume.specs.Tables.{bitAt}
 use Rattle.laws.proofs.Delays.{drive-fits}
 use Rattle.searching.specs.Searching.{NoneWithin}

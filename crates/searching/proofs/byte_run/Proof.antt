@@ -1,5 +1,4 @@
 -- A byte that starts at k and is full, or k alone.
-use native.Mathlib.Omega.{arith}
 use borrow.Author.Needs.{needs}
 use Rattle.volume.specs.Tables.{bitAt}
 use Rattle.searching.proofs.TrackLaws.{run-one, run-byte}

@@ -1,9 +1,8 @@
 -- The positions before k are known to be full.
-use Prim.Native.Nat.{ℕ, _+_, _-_, _≤_, _<_}
+use Prim.Native.Nat.{ℕ, _-_, _≤_, _<_}
 use mathlib.Core.Path.{_≡_, _∙_, ap}
 use mathlib.Core.Logic.{⊎-elim}
 use native.Mathlib.Omega.{arith}
-use borrow.Author.Needs.{needs}
 use Rattle.layout.specs.Bounded.{at}
 use Rattle.laws.proofs.Bounded.{lt?}
 use Rattle.searching.specs.Searching.{allTracks}

@@ -1,7 +1,4 @@
 -- Nothing is kept of the position, or it is known to be full; or found on some track, or on none, and as much is known of the position then.
-use Prim.Native.Nat.{ℕ, _+_, _*_, _%_, _≤_, _<_}
-use mathlib.Core.Path.{_≡_, _∙_, sym, refl}
-use mathlib.Core.Logic.{⊎-elim}
 use native.Mathlib.Omega.{arith}
 use borrow.Author.Needs.{needs}
 use Rattle.layout.specs.Bounded.{at}

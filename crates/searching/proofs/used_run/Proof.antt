@@ -1,6 +1,5 @@
 -- A word that starts at k and is full, or what a byte allows.
 use borrow.Author.Needs.{needs}
-use Rattle.volume.specs.Tables.{bitAt}
 use Rattle.searching.proofs.TrackLaws.{run-word}
 use Rattle.searching.proofs.used_run.Statement.{statement}
 use Rattle.searching.proofs.used_run.Tie as tie

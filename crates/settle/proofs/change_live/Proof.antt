@@ -15,7 +15,9 @@ use Rattle.settle.proofs.change_live.Statement.{statement}
 use Rattle.settle.proofs.change_live.Tie as tie
 
 abbrev Inv-pieces : tie.InvT-pieces
-Inv-pieces places₀ numbers₀ written taken count number next₀ k₀ p₀ places numbers next k p = (p ≤ length places₀) × (length places ≡ length places₀) × (length numbers ≡ length numbers₀) × (k ≡ count + countBelow (flagged written) p) × (next ≡ number + countBelow (flagged written) p)
+Inv-pieces places₀ numbers₀ written taken count number next₀ k₀ p₀ places numbers next k p =
+    (p ≤ length places₀) × (length places ≡ length places₀) × (length numbers ≡ length numbers₀)
+    × (k ≡ count + countBelow (flagged written) p) × (next ≡ number + countBelow (flagged written) p)
     × (at places ≡ live (flagged written) (λ q. at taken (count + countBelow (flagged written) q)) (at places₀) p) × (at numbers ≡ live (flagged written) (λ q. suc (number + countBelow (flagged written) q)) (at numbers₀) p)
 
 abbrev μ-pieces : tie.MeasureT-pieces

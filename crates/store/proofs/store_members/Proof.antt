@@ -71,7 +71,9 @@ returns c =
     storing-fails (flagged (a .written .now)) (stores (a .s) (a .map .now) (a .blocks .now) (a .news .now) (a .taken .now)
     (a .branches .now) (a .written .now) (a .count) (a .members)) (sectorAt (a .image .now)) (a .allowance) (l .p) (piecesFor (a .s .geometry .l))
     (sectorAt (l .image)) (omega arith) (is-flagged (a .written .now) (l .p) (c .before .if1 .left))
-    (subst (λ (x : ℕ). Storing (flagged (a .written .now)) (stores (a .s) (a .map .now) (a .blocks .now) (a .news .now) (a .taken .now) (a .branches .now) (a .written .now) (a .count) (a .members)) (sectorAt (a .image .now)) (a .allowance) (l .p) x (sectorAt (l .image))) (c .if2 .taken) (l .inv .4))
+    (subst
+    (λ (x : ℕ). Storing (flagged (a .written .now)) (stores (a .s) (a .map .now) (a .blocks .now) (a .news .now) (a .taken .now) (a .branches .now) (a .written .now) (a .count) (a .members)) (sectorAt (a .image .now)) (a .allowance) (l .p) x (sectorAt (l .image)))
+    (c .if2 .taken) (l .inv .4))
 
 store-member-requires : tie.Need-store-member-requires Inv-pieces μ-pieces
 store-member-requires c κs =
@@ -122,7 +124,8 @@ returns-2 c =
     let l = c .before .pieces in
     let e : l .p ≡ piecesFor (a .s .geometry .l) = (omega arith) in
     storing-ends (flagged (a .written .now)) (stores (a .s) (a .map .now) (a .blocks .now) (a .news .now) (a .taken .now) (a .branches .now) (a .written .now) (a .count) (a .members)) (sectorAt (a .image .now)) (a .allowance) (piecesFor (a .s .geometry .l)) (l .left) (sectorAt (l .image))
-    (subst (λ (x : ℕ). Storing (flagged (a .written .now)) (stores (a .s) (a .map .now) (a .blocks .now) (a .news .now) (a .taken .now) (a .branches .now) (a .written .now) (a .count) (a .members)) (sectorAt (a .image .now)) (a .allowance) x (l .left) (sectorAt (l .image))) e (l .inv .4))
+    (subst
+    (λ (x : ℕ). Storing (flagged (a .written .now)) (stores (a .s) (a .map .now) (a .blocks .now) (a .news .now) (a .taken .now) (a .branches .now) (a .written .now) (a .count) (a .members)) (sectorAt (a .image .now)) (a .allowance) x (l .left) (sectorAt (l .image))) e (l .inv .4))
 
 pub store-members-spec : {M : Type 1} → statement M
 store-members-spec =
