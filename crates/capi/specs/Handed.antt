@@ -5,8 +5,10 @@ use Rattle.volume.specs.Tables.{Memory}
 use Rattle.volume.specs.Store.{After}
 use Rattle.volume.specs.Calls.{ReadAfter}
 use Rattle.plain.specs.declared.CState.{CState}
+use Rattle.volume.specs.Batch.{BatchAfter}
 use Rattle.plain.specs.declared.CResult.{CResult}
-use Rattle.plain.specs.Plain.{resultOf}
+use Rattle.plain.specs.declared.CBatchResult.{CBatchResult}
+use Rattle.plain.specs.Plain.{resultOf, batchResultOf}
 
 pub record Handed : Type 0 where
   pub result : CResult
@@ -30,3 +32,15 @@ readHanded result memory out = record { result = result; memory = memory; out = 
 
 abbrev pub readInNumbers : CState → ReadAfter → ReadHanded
 readInNumbers c a = readHanded (resultOf c (a .outcome)) (a .memory) (a .out)
+
+-- Of a batch: the words of its answers too.
+pub record BatchHanded : Type 0 where
+  pub result : CBatchResult
+  pub memory : Memory
+  pub answers : List ℕ
+
+abbrev pub batchHanded : CBatchResult → Memory → List ℕ → BatchHanded
+batchHanded result memory answers = record { result = result; memory = memory; answers = answers }
+
+abbrev pub batchInNumbers : CState → BatchAfter → BatchHanded
+batchInNumbers c a = batchHanded (batchResultOf c (a .outcome)) (a .memory) (a .answers)

@@ -1,11 +1,13 @@
-// The six calls, exported. Each has the promise of the call it makes, in numbers.
+// The calls, exported. Each has the promise of the call it makes, in numbers.
 ghost use mathlib.Core.Path.{_≡_};
 ghost use Rattle.volume.specs.Tables.{memory};
 ghost use Rattle.volume.specs.Format.{formatOf};
 ghost use Rattle.volume.specs.Calls.{writeOf, dropOf, readOf, parkOf};
 ghost use Rattle.volume.specs.Recover.{recoverOf};
+ghost use Rattle.volume.specs.Batch.{batchOf};
 ghost use Rattle.plain.specs.Plain.{stateOf, settingsIn};
-ghost use Rattle.capi.specs.Handed.{handed, inNumbers, readHanded, readInNumbers};
+ghost use Rattle.capi.specs.Handed.{handed, inNumbers, readHanded, readInNumbers, batchHanded, batchInNumbers};
+use plain::CBatchResult;
 use plain::CResult;
 use plain::CSettings;
 use plain::CState;
@@ -147,4 +149,38 @@ pub extern "C" fn vlog_recover(
     let settings = plain::settings_of(given);
     let o = recover::recover(s, image, map, places, numbers, used, settings, allowance);
     plain::result_of(c, o)
+}
+
+// Makes up to 32 commits, one after the other.
+#[no_mangle]
+pub extern "C" fn vlog_batch(
+    c: CState,
+    image: &mut [u8],
+    map: &mut [u32],
+    places: &mut [u32],
+    numbers: &mut [u32],
+    used: &mut [u8],
+    commits: &[u32],
+    blocks: &[u32],
+    bytes: &[u8],
+    allowance: u32,
+    answers: &mut [u32],
+) -> CBatchResult
+    ensures { λ r. ⌜ batchHanded r (memory (now (image .exit)) (now (map .exit)) (now (places .exit)) (now (numbers .exit)) (now (used .exit))) (now (answers .exit)) ≡ batchInNumbers c (batchOf (stateOf c) (memory (now (image .entry)) (now (map .entry)) (now (places .entry)) (now (numbers .entry)) (now (used .entry))) (now (commits .entry)) (now (blocks .entry)) (now (bytes .entry)) allowance (now (answers .entry))) ⌝ }
+{
+    let s = plain::state_of(c);
+    let o = batch::batch(
+        s,
+        image,
+        map,
+        places,
+        numbers,
+        used,
+        commits,
+        blocks,
+        bytes,
+        allowance,
+        answers,
+    );
+    plain::batch_result_of(c, o)
 }

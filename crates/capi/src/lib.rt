@@ -1,2 +1,2 @@
-// The six calls for C and Rust.
+// The calls for C and Rust.
 pub mod calls;

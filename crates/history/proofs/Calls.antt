@@ -3,7 +3,7 @@ use Prim.Native.Nat.{ℕ, zero, suc, _+_, _*_, _-_, _/_, _≤_, _<_}
 use mathlib.Core.Path.{_≡_, refl, sym, _∙_, ap, subst}
 use mathlib.Core.Logic.{inr, ⊎-elim}
 use mathlib.Core.Bool.{Bool, true, false, cond, true≢false}
-use mathlib.Core.List.{List}
+use mathlib.Core.List.{List, [], _∷_}
 use mathlib.Core.Option.{some}
 use native.Mathlib.Nat.{not-suc-le-zero}
 use native.Mathlib.Omega.{arith}
@@ -16,9 +16,10 @@ use Rattle.state.specs.declared.State.{State}
 use Rattle.answer.specs.declared.Refusal.{Refusal}
 use Rattle.answer.specs.declared.Refusal.the-variants.{BlockNumbers, WrongPhase}
 use Rattle.answer.specs.declared.Verdict.the-variants.{Pass}
+use Rattle.answer.specs.Answer.{refusalNumber, costOf}
 use Rattle.geometry.specs.Geometry.{within, piecesFor, settingsOf, driveFits}
 use Rattle.state.specs.State.{freshState, isRunning, isReadable}
-use Rattle.layout.specs.Bounded.{at, updated, updates}
+use Rattle.layout.specs.Bounded.{at, updated, updates, isZero}
 use Rattle.layout.specs.MapSector.{MapSector}
 use Rattle.layout.specs.Entry.{blank, isEmpty, sectorOf, restored}
 use Rattle.layout.specs.ParkRecord.{parkRecord}
@@ -30,13 +31,14 @@ use Rattle.volume.specs.Rules.{Rules}
 use Rattle.volume.specs.Commit.{Change, commitAction}
 use Rattle.volume.specs.Calls.{viewOf, stateFits, commitChecks, commitOf, writeChange, dropChange, roomFor, writeBy, dropBy, entryReadable, readChecks, blockOf, readJudged, readOf, parkChecks, parkAction, parkOf}
 use Rattle.volume.specs.Recover.{Log, findingOf, imageView, recoveryAction, recovered, recoverOf}
-use Rattle.history.specs.History.{worldOf, accepted, Disk, putBlocks}
+use Rattle.volume.specs.Batch.{Commit, commitMade, Answered, commitsMade, commitsIn, batchChecks, batchBy}
+use Rattle.history.specs.History.{batch, World, batchRun, made, worldOf, accepted, acceptances, Disk, putBlocks, diskCommit, diskCommits, CommitsKept}
 use Rattle.laws.proofs.Bounded.{bool?, lt?, eq?, clash, or-r, or-l, updated-here, updated-other}
 use Rattle.laws.proofs.Codec.{stored-unsigned, restored-stored, restored-empty}
 use Rattle.laws.proofs.Names.{block, sectorNamed, within-is}
 use Rattle.laws.proofs.Placing.{Choosing}
 use Rattle.laws.proofs.Sizes.{Fits, view-same}
-use Rattle.laws.proofs.Judged.{verdict?, cleared, not-false, performed-cut, performed-whole}
+use Rattle.laws.proofs.Judged.{refusal-some, verdict?, cleared, not-false, performed-cut, performed-whole}
 use Rattle.laws.proofs.CommitPassed.{CommitPassed, commit-passed}
 use Rattle.agreement.proofs.Plan.{Given, started}
 use Rattle.agreement.proofs.Kept.{write-given, drop-given}
@@ -45,6 +47,16 @@ use Rattle.history.proofs.Clearing.{view-parked}
 use Rattle.history.proofs.CutCommit.{Settling}
 use Rattle.history.proofs.Recovery.{Finds, recovers}
 use Rattle.history.proofs.Steps.{refused-not, Standing, running, parked, cut, Sized, sized-with, Step, commit-step}
+
+-- What commits leave to the next call.
+abbrev pub leftBy : Answered → World
+leftBy a = record { state = a .state; memory = a .memory }
+
+-- Where no commit was answered the disk stays.
+none-taken : (cs : List Commit) (disk : Disk) → diskCommits cs [] disk ≡ disk
+unfolding diskCommits
+none-taken [] disk = refl
+none-taken (c ∷ cs) disk = refl
 
 -- A refused call.
 refused-step : (g : Geometry) (s : State) (m : Memory) (r : Refusal) (disk disk′ : Disk) → Sized g m
@@ -109,13 +121,14 @@ module _ (rules : Rules) (law : Choosing rules) (g : Geometry) (fit : Fits g) wh
         ))
         allowance
 
-    pub drop-stands : (head : ℕ) (blocks : List ℕ) (allowance : ℕ)
-        → Step g m (dropBy rules s m head blocks allowance) disk (putBlocks disk blocks (λ _. blank))
-    unfolding dropBy putBlocks dropChange
-    drop-stands head blocks allowance =
-        commit-stands s m size disk stands head (dropChange blocks) (λ _. blank) true true
+    -- A drop, whatever is said of bytes that it is lent.
+    drop-stands-lent : (head : ℕ) (blocks : List ℕ) (bytesFit : Bool) (allowance : ℕ)
+        → Step g m (commitOf rules s m head (dropChange blocks) bytesFit true allowance) disk (putBlocks disk blocks (λ _. blank))
+    unfolding putBlocks dropChange
+    drop-stands-lent head blocks bytesFit allowance =
+        commit-stands s m size disk stands head (dropChange blocks) (λ _. blank) bytesFit true
         (λ drive tail number q settled unparked c. (
-          drop-given rules (freshState g drive tail number) m head blocks true true (settled .committed .ground .agreed .words) c,
+          drop-given rules (freshState g drive tail number) m head blocks bytesFit true (settled .committed .ground .agreed .words) c,
           record {
             settled = settled;
             unparked = unparked;
@@ -125,6 +138,77 @@ module _ (rules : Rules) (law : Choosing rules) (g : Geometry) (fit : Fits g) wh
           },
         ))
         allowance
+
+    pub drop-stands : (head : ℕ) (blocks : List ℕ) (allowance : ℕ)
+        → Step g m (dropBy rules s m head blocks allowance) disk (putBlocks disk blocks (λ _. blank))
+    unfolding dropBy
+    drop-stands head blocks allowance = drop-stands-lent head blocks true allowance
+
+    -- A commit of a batch.
+    pub one-stands : (c : Commit) (allowance : ℕ) → Step g m (commitMade rules s m c allowance) disk (diskCommit c disk)
+    unfolding commitMade diskCommit
+    one-stands c allowance =
+        ⊎-elim (λ (e : eqb (c .kind) 0 ≡ true). rw e (write-stands (c .head) (c .blocks) (c .bytes) allowance))
+        (λ (e : eqb (c .kind) 0 ≡ false).
+        ⊎-elim (λ (f : eqb (c .kind) 1 ≡ true). rw (e, f) (drop-stands-lent (c .head) (c .blocks) (eqb (length (c .bytes)) 0) allowance))
+        (λ (f : eqb (c .kind) 1 ≡ false). rw (e, f) (refused-step g s m BlockNumbers disk (putBlocks disk (c .blocks) (λ _. blank)) size stands))
+        (bool? (eqb (c .kind) 1)))
+        (bool? (eqb (c .kind) 0))
+
+  -- Commits one after the other: what each keeps, how the volume then stands, and the lengths.
+  pub record CommitsStand (s : State) (m : Memory) (cs : List Commit) (allowance : ℕ) (disk : Disk) : Type 0 where
+    pub kept : CommitsKept rules g s m cs allowance
+    pub stands : Standing g (leftBy (commitsMade rules s m cs allowance)) (diskCommits cs (acceptances (commitsMade rules s m cs allowance .outcomes)) disk)
+    pub sized : Sized g (commitsMade rules s m cs allowance .memory)
+
+  pub commits-stand : (cs : List Commit) (s : State) (m : Memory) (allowance : ℕ) (disk : Disk) → Sized g m
+      → Standing g (record { state = s; memory = m }) disk → CommitsStand s m cs allowance disk
+  unfolding commitsMade CommitsKept diskCommits acceptances
+  commits-stand [] s m allowance disk size stands = record { kept = tt; stands = stands; sized = size }
+  commits-stand (c ∷ cs) s m allowance disk size stands =
+      let step = one-stands s m size disk stands c allowance in
+      let r = commitMade rules s m c allowance in
+      ⊎-elim (λ (e : accepted r ≡ true).
+      let on = subst (λ (b : Bool). Standing g (worldOf r) (cond b (diskCommit c disk) disk)) e (step .stands) in
+      let more = commits-stand cs (r .outcome .state) (r .memory) (allowance - costOf (r .outcome .answer) .stores) (diskCommit c disk) (step .sized) on in
+      record {
+        kept = λ z. (step .kept e, more .kept);
+        stands = rw e (more .stands);
+        sized = rw e (more .sized);
+      })
+      (λ (e : accepted r ≡ false).
+      let on = subst (λ (b : Bool). Standing g (worldOf r) (cond b (diskCommit c disk) disk)) e (step .stands) in
+      record {
+        kept = λ z. absurd (true≢false (sym z ∙ e));
+        stands = rw (e, none-taken cs disk) on;
+        sized = rw e (step .sized);
+      })
+      (bool? (accepted r))
+
+  -- A batch.
+  pub record BatchStands (w : World) (words blocks bytes : List ℕ) (allowance : ℕ) (answers : List ℕ) (disk : Disk) : Type 0 where
+    pub kept : accepted (made rules g w (batch words blocks bytes allowance answers)) ≡ true
+        → CommitsKept rules g (w .state) (w .memory) (commitsIn words blocks bytes) allowance
+    pub stands : Standing g (worldOf (made rules g w (batch words blocks bytes allowance answers)))
+        (diskCommits (commitsIn words blocks bytes) (acceptances (batchRun rules w words blocks bytes allowance answers .outcomes)) disk)
+    pub sized : Sized g (made rules g w (batch words blocks bytes allowance answers) .memory)
+
+  pub batch-stands : (w : World) (words blocks bytes : List ℕ) (allowance : ℕ) (answers : List ℕ) (disk : Disk) → Sized g (w .memory) → Standing g w disk
+      → BatchStands w words blocks bytes allowance answers disk
+  unfolding made batchBy batchRun acceptances
+  batch-stands w words blocks bytes allowance answers disk size stands =
+      let v = judged (batchChecks (w .state) (w .memory) words (length blocks) (length bytes) (length answers)) in
+      let cs = commitsIn words blocks bytes in
+      ⊎-elim (λ (e : v ≡ Pass).
+      let u = commits-stand cs (w .state) (w .memory) allowance disk size stands in
+      record { kept = λ z. u .kept; stands = rw e (u .stands); sized = rw e (u .sized) })
+      (λ x.
+      record {
+        kept = λ z. clash (isZero (refusalNumber (x .0))) (rw (x .1) at z) (refusal-some (x .0));
+        stands = rw (x .1, none-taken cs disk) stands;
+        sized = rw (x .1) size;
+      })
+      (verdict? v)
 
 -- A park record over a blank sector 0.
 module _ (g : Geometry) (fit : Fits g) (image : ℕ → List ℕ) (t : Tables) (tail number : ℕ) (disk : Disk)

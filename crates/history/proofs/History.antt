@@ -1,5 +1,5 @@
 -- Demand 3, in one piece. For every N, L and drive in range, any bytes the image, the tables and the state held before, a format that
--- was accepted, and every list of writes, drops, reads, parks and recoveries with any arguments, drives and allowances, each of which
+-- was accepted, and every list of writes, drops, batches, reads, parks and recoveries with any arguments, drives and allowances, each of which
 -- gets image, tables and state as the last one left them, refused and cut ones too:
 --   (a) each accepted read in the list gives its block as the plain disk then has it;
 --   (b) after each accepted commit the used map marks sector 0 and the live sectors and no other, so all it superseded is free, and
@@ -35,7 +35,7 @@ use Rattle.volume.specs.Format.{sectorsIn, volumeIn, imageFits, tablesFit, size
 use Rattle.volume.specs.Rules.{Rules, base}
 use Rattle.volume.specs.Calls.{readOf, readJudged}
 use Rattle.volume.specs.Recover.{Log, recoveryAction, recovered, recoverOf}
-use Rattle.history.specs.History.{Call, write, drop, read, park, recover, World, made, worldOf, accepted, Disk, zeroDisk, diskAfter, Kept, storesIn, recoveryStores, Recovers, Faithful}
+use Rattle.history.specs.History.{Call, write, drop, batch, read, park, recover, World, made, worldOf, accepted, outcomesOf, acceptances, Disk, zeroDisk, diskAfter, Kept, storesIn, recoveryStores, Recovers, Faithful}
 use Rattle.laws.proofs.Bounded.{lt?, clash, and-l, and-r}
 use Rattle.laws.proofs.Names.{within-is}
 use Rattle.laws.proofs.Placing.{Choosing, base-chooses}
@@ -45,7 +45,7 @@ use Rattle.history.proofs.Fresh.{format-settles, blank-0}
 use Rattle.history.proofs.Recovery.{Finds, recovers}
 use Rattle.laws.proofs.Judged.{verdict?, cleared, not-false, performed-cut, performed-whole}
 use Rattle.history.proofs.Steps.{refused-not, Standing, running, Sized, sized-with}
-use Rattle.history.proofs.Calls.{write-stands, drop-stands, park-stays, committed-some, recover-stays, read-world, block-is, read-gives, read-passes}
+use Rattle.history.proofs.Calls.{write-stands, drop-stands, batch-stands, park-stays, committed-some, recover-stays, read-world, block-is, read-gives, read-passes}
 
 -- Where the lengths are right and the drive holds the sectors, none of 1, 11 and 2 applies to a recovery.
 size-passes : (g : Geometry) (drive : Drive) (m : Memory) → Fits g → driveFits (g .n) drive ≡ true → Sized g m
@@ -104,7 +104,7 @@ module _ (g : Geometry) (fit : Fits g) (m : Memory) (size : Sized g m)
 module _ (rules : Rules) (law : Choosing rules) (g : Geometry) (fit : Fits g) where
   -- Every list from a volume that stands.
   faithful : (calls : List Call) (w : World) (disk : Disk) → Sized g (w .memory) → Standing g w disk → Faithful rules g calls w disk
-  unfolding Faithful Kept made diskAfter
+  unfolding Faithful Kept made outcomesOf acceptances diskAfter
   faithful [] w disk size stands =
       let c = committed-some g fit (w .state) (w .memory) size disk stands stands in
       recovers-all g fit (w .memory) size (c .0) (c .1) (c .2) disk (c .3)
@@ -113,6 +113,9 @@ module _ (rules : Rules) (law : Choosing rules) (g : Geometry) (fit : Fits g) wh
       (step .kept, faithful calls _ _ (step .sized) (step .stands))
   faithful (drop head blocks allowance ∷ calls) w disk size stands =
       let step = drop-stands rules law g fit (w .state) (w .memory) size disk stands head blocks allowance in
+      (step .kept, faithful calls _ _ (step .sized) (step .stands))
+  faithful (batch words blocks bytes allowance answers ∷ calls) w disk size stands =
+      let step = batch-stands rules law g fit w words blocks bytes allowance answers disk size stands in
       (step .kept, faithful calls _ _ (step .sized) (step .stands))
   faithful (read block out ∷ calls) w disk size stands =
       let same = read-world g fit (w .state) (w .memory) size disk stands block out in (

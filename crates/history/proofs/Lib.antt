@@ -1,4 +1,5 @@
--- Whole histories, from the invariant to the theorem in History; the stores that a cut leaves; and the theorem of what a program sees.
+-- Whole histories, from the invariant to the theorem in History; the stores that a cut leaves; the theorem of what a program sees; and
+-- a batch as its commits made singly.
 pub mod Invariant
 pub mod Scan
 pub mod Clearing
@@ -12,3 +13,4 @@ pub mod Calls
 pub mod History
 pub mod Cut
 pub mod Seen
+pub mod Singly

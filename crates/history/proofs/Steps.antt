@@ -123,13 +123,15 @@ module _ (rules : Rules) (law : Choosing rules) (g : Geometry) (fit : Fits g) (m
         let now = live-is g (image′ start) (tables′ start) (tail′ start) (number′ start) (disk′ on) fit new in
         let before = live-is g (m .image) (m .tables) tail number disk fit (on .settled .committed) in
         record {
-          used = λ k. new .ground .used-all k ∙ ap (λ (xs : List ℕ). usedBy xs k) (sym now);
+          marked = record {
+            used = λ k. new .ground .used-all k ∙ ap (λ (xs : List ℕ). usedBy xs k) (sym now);
+            reached = λ p h. live-reached g (image′ start) (tables′ start) (tail′ start) (number′ start) (disk′ on) fit new p (new .ground .chain p h);
+          };
           freed = λ k e f.
               let x = elem-named (g .l) (m .tables .entry) (m .tables .place) k (subst (λ (xs : List ℕ). elem k xs ≡ true) before e) in
               let low = on .settled .committed .ground .agreed .sound .low (x .0) (x .1) in
               let at = x .2 in
               new .ground .used-all k ∙ unused (namedBy (g .l) (tables′ start .entry) (tables′ start .place)) k (λ (z : k ≡ 0). omega arith) (subst (λ (xs : List ℕ). elem k xs ≡ false) now f);
-          reached = λ p h. live-reached g (image′ start) (tables′ start) (tail′ start) (number′ start) (disk′ on) fit new p (new .ground .chain p h);
         }
 
     is-whole : (allowance : ℕ) → length (action .stores) ≤ allowance → Step g m (performed allowance action m) disk changed

@@ -10,11 +10,12 @@ use Rattle.state.specs.declared.State.{State}
 use Rattle.state.specs.declared.Phase.{Phase}
 use Rattle.state.specs.declared.Phase.the-variants.{Running, Parked, Cut}
 use Rattle.state.specs.declared.Outcome.{Outcome}
+use Rattle.state.specs.declared.BatchOutcome.{BatchOutcome}
 use Rattle.answer.specs.declared.Answer.{Answer}
-use Rattle.answer.specs.Answer.{isRefusal, numberOf, costOf, wayOf, readsOf}
+use Rattle.answer.specs.Answer.{isRefusal, verdictNumber, numberOf, costOf, wayOf, readsOf}
 use Rattle.plain.specs.declared.CState.{CState}
 use Rattle.state.specs.State.{phaseNumber}
-use Rattle.plain.specs.Plain.{phaseOf, stateIn, stateOf, plainIn, plainOf, stateLeft, joined, resultOf}
+use Rattle.plain.specs.Plain.{phaseOf, stateIn, stateOf, plainIn, plainOf, stateLeft, joined, resultOf, phaseLeft, batchJoined, batchResultOf}
 
 pub phase-cut : (n : ℕ) → 1 < n → Cut ≡ phaseOf n
 unfolding phaseOf
@@ -58,3 +59,19 @@ result-is c o answer stores skipped way read left a b k d e f =
     ∙ ap (λ (x : ℕ). joined (numberOf (o .answer)) (costOf (o .answer)) x read left) d
     ∙ ap (λ (x : ℕ). joined (numberOf (o .answer)) (costOf (o .answer)) (wayOf (o .answer)) x left) e
     ∙ ap (joined (numberOf (o .answer)) (costOf (o .answer)) (wayOf (o .answer)) (readsOf (o .answer))) f
+
+-- The phase after commits.
+pub phase-changed : (came : ℕ) (phase : Phase) (r : ℕ) → came ≡ 0 → r ≡ phaseNumber phase → r ≡ phaseLeft came phase
+unfolding phaseLeft
+phase-changed came phase r e f = rw (eq-eqb came 0 e) f
+
+pub phase-kept : (came : ℕ) (phase : Phase) → (came ≡ 0 → ⊥) → came ≡ phaseLeft came phase
+unfolding phaseLeft
+phase-kept came phase d = rw (ne-eqb came 0 d) refl
+
+pub batch-result-is : (c : CState) (o : BatchOutcome) (answer phase : ℕ) → answer ≡ verdictNumber (o .verdict) → phase ≡ phaseLeft (c .phase) (o .state .phase)
+    → batchJoined answer (o .answered) (o .cost) (plainIn (o .state) phase) ≡ batchResultOf c o
+unfolding batchResultOf
+batch-result-is c o answer phase a p =
+    ap (λ (x : ℕ). batchJoined x (o .answered) (o .cost) (plainIn (o .state) phase)) a
+    ∙ ap (λ (x : ℕ). batchJoined (verdictNumber (o .verdict)) (o .answered) (o .cost) (plainIn (o .state) x)) p

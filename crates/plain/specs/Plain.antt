@@ -8,12 +8,14 @@ use Rattle.state.specs.declared.Phase.{Phase}
 use Rattle.state.specs.declared.Phase.the-variants.{Running, Parked, Cut}
 use Rattle.state.specs.State.{phaseNumber}
 use Rattle.state.specs.declared.Outcome.{Outcome}
+use Rattle.state.specs.declared.BatchOutcome.{BatchOutcome}
 use Rattle.answer.specs.declared.Cost.{Cost}
 use Rattle.answer.specs.declared.Answer.{Answer}
-use Rattle.answer.specs.Answer.{isRefusal, numberOf, costOf, wayOf, readsOf}
+use Rattle.answer.specs.Answer.{isRefusal, verdictNumber, numberOf, costOf, wayOf, readsOf}
 use Rattle.plain.specs.declared.CState.{CState}
 use Rattle.plain.specs.declared.CSettings.{CSettings}
 use Rattle.plain.specs.declared.CResult.{CResult}
+use Rattle.plain.specs.declared.CBatchResult.{CBatchResult}
 
 -- A number that is no phase is neither running nor readable, as cut is.
 unfoldable pub phaseOf : ℕ → Phase
@@ -79,3 +81,29 @@ unfoldable pub resultOf : CState → Outcome → CResult
 resultOf c o =
     joined (numberOf (o .answer)) (costOf (o .answer)) (wayOf (o .answer)) (readsOf (o .answer))
     (stateLeft c (o .answer) (o .state))
+
+-- Commits change the phase of a running volume alone; any other goes back as it came, a number that is no phase too.
+unfoldable pub phaseLeft : ℕ → Phase → ℕ
+phaseLeft came phase = cond (eqb came 0) (phaseNumber phase) came
+
+abbrev pub batchJoined : ℕ → ℕ → Cost → CState → CBatchResult
+batchJoined answer answered cost left =
+    record {
+      answer = answer;
+      answered = answered;
+      stores = cost .stores;
+      skipped = cost .skipped;
+      n = left .n;
+      l = left .l;
+      tail = left .tail;
+      number = left .number;
+      phase = left .phase;
+      «per_track» = left .«per_track»;
+      tracks = left .tracks;
+      «head_switch» = left .«head_switch»;
+    }
+
+-- The numbers of what a batch handed back that was handed the state c.
+unfoldable pub batchResultOf : CState → BatchOutcome → CBatchResult
+batchResultOf c o =
+    batchJoined (verdictNumber (o .verdict)) (o .answered) (o .cost) (plainIn (o .state) (phaseLeft (c .phase) (o .state .phase)))

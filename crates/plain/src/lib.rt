@@ -1,11 +1,12 @@
 // A state and a result in plain numbers, as they cross to C.
 ghost use mathlib.Core.Path.{_≡_};
 ghost use Rattle.state.specs.State.{phaseNumber};
-ghost use Rattle.plain.specs.Plain.{phaseOf, stateOf, plainOf, stateLeft, resultOf, settingsIn};
+ghost use Rattle.plain.specs.Plain.{phaseOf, stateOf, plainOf, stateLeft, resultOf, settingsIn, phaseLeft, batchResultOf};
 use answer::Answer;
 use geometry::Drive;
 use geometry::Geometry;
 use geometry::Settings;
+use state::BatchOutcome;
 use state::Outcome;
 use state::Phase;
 use state::State;
@@ -41,6 +42,24 @@ pub struct CResult {
     pub skipped: u32,
     pub way: u32,
     pub read: u32,
+    pub n: u32,
+    pub l: u32,
+    pub tail: u32,
+    pub number: u32,
+    pub phase: u32,
+    pub per_track: u32,
+    pub tracks: u32,
+    pub head_switch: u32,
+}
+
+// What a batch hands back: the refusal of the call as a whole, or 0; how many commits were answered and what they cost together;
+// and the state after the last of them.
+#[repr(C)]
+pub struct CBatchResult {
+    pub answer: u32,
+    pub answered: u32,
+    pub stores: u32,
+    pub skipped: u32,
     pub n: u32,
     pub l: u32,
     pub tail: u32,
@@ -157,5 +176,42 @@ pub fn result_of(c: CState, o: Outcome) -> CResult
         per_track: left.per_track,
         tracks: left.tracks,
         head_switch: left.head_switch,
+    }
+}
+
+// The phase after commits: only that of a running volume can have changed, and a number that is no phase goes back as it came.
+fn phase_left(came: u32, phase: Phase) -> u32
+    ensures { λ r. ⌜ r ≡ phaseLeft came phase ⌝ }
+{
+    if came == 0 {
+        return phase_number(phase);
+    }
+    came
+}
+
+pub fn batch_result_of(c: CState, o: BatchOutcome) -> CBatchResult
+    ensures { λ r. ⌜ r ≡ batchResultOf c o ⌝ }
+{
+    let verdict = o.verdict;
+    let cost = o.cost;
+    let s = o.state;
+    let g = s.geometry;
+    let drive = s.drive;
+    let after = s.phase;
+    let answer = verdict.number();
+    let phase = phase_left(c.phase, after);
+    CBatchResult {
+        answer,
+        answered: o.answered,
+        stores: cost.stores,
+        skipped: cost.skipped,
+        n: g.n,
+        l: g.l,
+        tail: s.tail,
+        number: s.number,
+        phase,
+        per_track: drive.sectors,
+        tracks: drive.tracks,
+        head_switch: drive.switch,
     }
 }
