@@ -17,7 +17,7 @@ use Rattle.volume.specs.Store.{After, refused}
 use Rattle.volume.specs.Rules.{base}
 use Rattle.volume.specs.Calls.{commitOf, dropChange, writeOf}
 use Rattle.layout.specs.Bounded.{at, sumBelow}
-use Rattle.volume.specs.Batch.{Commit, commitMade, blocksOf, bytesOf, commitAt}
+use Rattle.batches.specs.Batch.{Commit, commitMade, blocksOf, bytesOf, commitAt}
 use Rattle.laws.proofs.Bounded.{bool?}
 use Rattle.laws.proofs.Placing.{base-chooses}
 use Rattle.batch_checks.proofs.BatchLaws.{sum-grows}

@@ -21,7 +21,7 @@ use Rattle.volume.specs.Store.{After, Action, performed, storesBelow}
 use Rattle.volume.specs.Rules.{base}
 use Rattle.volume.specs.Commit.{Change, Plan, planned, dataStore, memberStore, commitStores, planAction, commitAction}
 use Rattle.volume.specs.Calls.{viewOf, stateFits, commitChecks, commitOf, writeChange, dropChange, roomFor, writeBy}
-use Rattle.volume.specs.Batch.{Commit, commitMade}
+use Rattle.batches.specs.Batch.{Commit, commitMade}
 use Rattle.laws.proofs.Bounded.{lt?, bool?, and-r, count-le}
 use Rattle.laws.proofs.Delays.{DriveFits, drive-fits, delay-short}
 use Rattle.laws.proofs.Stores.{below-length}

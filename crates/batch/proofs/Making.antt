@@ -19,7 +19,7 @@ use Rattle.volume.specs.Tables.{Memory}
 use Rattle.volume.specs.Store.{After, after}
 use Rattle.volume.specs.Rules.{base}
 use Rattle.volume.specs.Calls.{tablesAgree}
-use Rattle.volume.specs.Batch.{Commit, commitMade, Answered, answeredFirst, commitsMade, totalCost, commitsLent, blocksOf, bytesOf, commitAt, commitsIn, answerOf, answersWith, BatchAfter, batchDone}
+use Rattle.batches.specs.Batch.{Commit, commitMade, Answered, answeredFirst, commitsMade, totalCost, commitsLent, blocksOf, bytesOf, commitAt, commitsIn, answerOf, answersWith, BatchAfter, batchDone}
 use Rattle.verdict.specs.Known.{KnownAgreed}
 use Rattle.batch.specs.Batch.{batchLeft}
 use Rattle.batch.proofs.Costs.{Few, made-few}

@@ -20,7 +20,7 @@ use Rattle.volume.specs.Refusals.{applies, firstOf, judged}
 use Rattle.volume.specs.Format.{tablesFit}
 use Rattle.volume.specs.Rules.{base}
 use Rattle.volume.specs.Calls.{stateFits}
-use Rattle.volume.specs.Batch.{commitsLent, blocksOf, bytesOf, commitsIn, commitsMade, batchFits, batchChecks, BatchAfter, batchDone, batchJudged, batchBy, batchOf}
+use Rattle.batches.specs.Batch.{commitsLent, blocksOf, bytesOf, commitsIn, commitsMade, batchFits, batchChecks, BatchAfter, batchDone, batchJudged, batchBy, batchOf}
 use Rattle.laws.proofs.Bounded.{and-l, and-r}
 use Rattle.laws.proofs.Judged.{cleared, not-false}
 use Rattle.checks.specs.Left.{lent}

@@ -6,7 +6,7 @@ use lib.ListN.{length}
 use Rattle.state.specs.declared.BatchOutcome.{BatchOutcome}
 use Rattle.layout.specs.Bounded.{sumBelow}
 use Rattle.volume.specs.Tables.{Memory}
-use Rattle.volume.specs.Batch.{BatchAfter, batchCommits, commitWords, answerWords, commitsLent, blocksOf, bytesOf}
+use Rattle.batches.specs.Batch.{BatchAfter, batchCommits, commitWords, answerWords, commitsLent, blocksOf, bytesOf}
 
 abbrev pub batchLeft : BatchOutcome → Memory → List ℕ → BatchAfter
 batchLeft outcome memory answers = record { outcome = outcome; memory = memory; answers = answers }

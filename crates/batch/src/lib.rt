@@ -9,7 +9,7 @@ ghost use Rattle.volume.specs.Tables.{memory};
 ghost use Rattle.volume.specs.Rules.{base};
 ghost use Rattle.volume.specs.Store.{after};
 ghost use Rattle.verdict.specs.Known.{KnownAgreed};
-ghost use Rattle.volume.specs.Batch.{batchCommits, commitWords, answerWords, blocksOf, bytesOf, commitAt, answerOf, commitMade, commitsIn, commitsMade, batchDone, batchOf};
+ghost use Rattle.batches.specs.Batch.{batchCommits, commitWords, answerWords, blocksOf, bytesOf, commitAt, answerOf, commitMade, commitsIn, commitsMade, batchDone, batchOf};
 ghost use Rattle.batch.specs.Batch.{batchLeft, Lent};
 ghost use Rattle.answer.specs.declared.Verdict.the-variants.{Pass};
 use answer::Answer;

@@ -20,7 +20,7 @@ use Rattle.answer.specs.Answer.{lengths}
 use Rattle.layout.specs.Bounded.{sumBelow, isZero}
 use Rattle.volume.specs.Refusals.{applies, firstOf, judged}
 use Rattle.volume.specs.Calls.{stateChecks}
-use Rattle.volume.specs.Batch.{batchFits, batchChecks, commitsLent, blocksOf, bytesOf}
+use Rattle.batches.specs.Batch.{batchFits, batchChecks, commitsLent, blocksOf, bytesOf}
 use Rattle.laws.proofs.Bounded.{bool?, eq?, lt?}
 use Rattle.laws.proofs.Judged.{later, lengths-refused, lengths-passed}
 use Rattle.checks.specs.Left.{lent}

@@ -9,7 +9,7 @@ ghost use Rattle.layout.specs.Bounded.{at, sumBelow};
 ghost use Rattle.answer.specs.declared.Refusal.the-variants.{CommitCount};
 ghost use Rattle.answer.specs.declared.Verdict.the-variants.{Pass, Refuse};
 ghost use Rattle.volume.specs.Refusals.{judged};
-ghost use Rattle.volume.specs.Batch.{batchCommits, commitWords, answerWords, batchFits, batchChecks};
+ghost use Rattle.batches.specs.Batch.{batchCommits, commitWords, answerWords, batchFits, batchChecks};
 ghost use Rattle.checks.specs.Left.{lent};
 use answer::Refusal;
 use answer::Verdict;

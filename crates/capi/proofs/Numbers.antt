@@ -8,7 +8,7 @@ use Rattle.state.specs.declared.BatchOutcome.{BatchOutcome}
 use Rattle.volume.specs.Tables.{Memory}
 use Rattle.volume.specs.Store.{After, after}
 use Rattle.volume.specs.Calls.{ReadAfter}
-use Rattle.volume.specs.Batch.{BatchAfter}
+use Rattle.batches.specs.Batch.{BatchAfter}
 use Rattle.checks.specs.Left.{readLeft}
 use Rattle.batch.specs.Batch.{batchLeft}
 use Rattle.plain.specs.declared.CState.{CState}

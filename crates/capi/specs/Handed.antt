@@ -5,7 +5,7 @@ use Rattle.volume.specs.Tables.{Memory}
 use Rattle.volume.specs.Store.{After}
 use Rattle.volume.specs.Calls.{ReadAfter}
 use Rattle.plain.specs.declared.CState.{CState}
-use Rattle.volume.specs.Batch.{BatchAfter}
+use Rattle.batches.specs.Batch.{BatchAfter}
 use Rattle.plain.specs.declared.CResult.{CResult}
 use Rattle.plain.specs.declared.CBatchResult.{CBatchResult}
 use Rattle.plain.specs.Plain.{resultOf, batchResultOf}

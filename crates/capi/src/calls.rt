@@ -4,7 +4,7 @@ ghost use Rattle.volume.specs.Tables.{memory};
 ghost use Rattle.volume.specs.Format.{formatOf};
 ghost use Rattle.volume.specs.Calls.{writeOf, dropOf, readOf, parkOf};
 ghost use Rattle.volume.specs.Recover.{recoverOf};
-ghost use Rattle.volume.specs.Batch.{batchOf};
+ghost use Rattle.batches.specs.Batch.{batchOf};
 ghost use Rattle.plain.specs.Plain.{stateOf, settingsIn};
 ghost use Rattle.capi.specs.Handed.{handed, inNumbers, readHanded, readInNumbers, batchHanded, batchInNumbers};
 use plain::CBatchResult;

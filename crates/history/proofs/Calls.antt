@@ -31,7 +31,7 @@ use Rattle.volume.specs.Rules.{Rules}
 use Rattle.volume.specs.Commit.{Change, commitAction}
 use Rattle.volume.specs.Calls.{viewOf, stateFits, commitChecks, commitOf, writeChange, dropChange, roomFor, writeBy, dropBy, entryReadable, readChecks, blockOf, readJudged, readOf, parkChecks, parkAction, parkOf}
 use Rattle.volume.specs.Recover.{Log, findingOf, imageView, recoveryAction, recovered, recoverOf}
-use Rattle.volume.specs.Batch.{Commit, commitMade, Answered, commitsMade, commitsIn, batchChecks, batchBy}
+use Rattle.batches.specs.Batch.{Commit, commitMade, Answered, commitsMade, commitsIn, batchChecks, batchBy}
 use Rattle.history.specs.History.{batch, World, batchRun, made, worldOf, accepted, acceptances, Disk, putBlocks, diskCommit, diskCommits, CommitsKept}
 use Rattle.laws.proofs.Bounded.{bool?, lt?, eq?, clash, or-r, or-l, updated-here, updated-other}
 use Rattle.laws.proofs.Codec.{stored-unsigned, restored-stored, restored-empty}

@@ -38,7 +38,7 @@ use Rattle.volume.specs.Commit.{Change, planAction, commitAction}
 use Rattle.volume.specs.Calls.{viewOf, commitChecks, commitOf, writeChange, dropChange, writeBy, dropBy, readChecks, readJudged, readOf, parkChecks, parkAction, parkOf}
 use Rattle.volume.specs.Recover.{Log, Finding, found, missing, branchCount, isBlank, parkSectorCleared, walkedLog, walkComplete, walkFinding, closedUpTo, scannedLog, scanDamaged, scanStores, scanFinding}
 use Rattle.volume.specs.Recover.{walkStarts, findingFrom, findingOf, recoveryAction, recovered, imageView, recoverOf}
-use Rattle.volume.specs.Batch.{Commit, commitMade, Answered, commitsMade, totalCost, commitsIn, batchChecks, batchBy}
+use Rattle.batches.specs.Batch.{Commit, commitMade, Answered, commitsMade, totalCost, commitsIn, batchChecks, batchBy}
 use Rattle.history.specs.History.{Call, write, drop, batch, read, park, recover, World, made, accepted, storesIn}
 use Rattle.history.specs.Cut.{commitList, commitsList, listed, allowed}
 use Rattle.laws.proofs.Bounded.{bool?, lt?, clash}

@@ -25,7 +25,7 @@ use Rattle.volume.specs.Refusals.{judged}
 use Rattle.volume.specs.Rules.{base}
 use Rattle.volume.specs.Calls.{ReadAfter, readOf}
 use Rattle.volume.specs.Recover.{recoverOf}
-use Rattle.volume.specs.Batch.{Commit, commitMade, Answered, commitsMade, commitsIn, batchChecks, answerOf, answersWith, BatchAfter, batchBy, batchOf}
+use Rattle.batches.specs.Batch.{Commit, commitMade, Answered, commitsMade, commitsIn, batchChecks, answerOf, answersWith, BatchAfter, batchBy, batchOf}
 use Rattle.history.specs.History.{Call, write, drop, batch, read, park, recover, World, wholeOutcome, batchRun, made, worldOf, accepted, outcomesOf, acceptances, Disk, zeroDisk, diskAfter, Marked, CommitKept, CommitsKept, Kept, recoveryStores, Recovers, Faithful}
 use Rattle.history.specs.Seen.{Buffers, heldIn, Seen, isAccepted, FormatMeets, Meets, Run, seenAcceptances, KeptSeen, RecoversSeen, FaithfulSeen}
 use Rattle.laws.proofs.Bounded.{bool?, lt?, clash}

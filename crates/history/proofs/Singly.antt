@@ -12,7 +12,7 @@ use Rattle.layout.specs.Bounded.{isZero}
 use Rattle.volume.specs.Store.{After}
 use Rattle.volume.specs.Rules.{Rules}
 use Rattle.volume.specs.Calls.{dropBy}
-use Rattle.volume.specs.Batch.{Commit, commitMade, Answered, answeredFirst, commitsMade}
+use Rattle.batches.specs.Batch.{Commit, commitMade, Answered, answeredFirst, commitsMade}
 use Rattle.history.specs.History.{World, made, worldOf, accepted}
 use Rattle.history.specs.Singly.{allSingle, single, madeSingly}
 use Rattle.laws.proofs.Bounded.{bool?, and-l, and-r}

@@ -13,7 +13,7 @@ use Rattle.volume.specs.Rules.{Rules}
 use Rattle.volume.specs.Format.{volumeIn}
 use Rattle.volume.specs.Commit.{Change, commitAction}
 use Rattle.volume.specs.Calls.{viewOf, writeChange, dropChange, parkAction}
-use Rattle.volume.specs.Batch.{Commit, commitMade, commitsIn}
+use Rattle.batches.specs.Batch.{Commit, commitMade, commitsIn}
 use Rattle.history.specs.History.{Call, write, drop, batch, read, park, recover, World, accepted, recoveryStores}
 
 abbrev pub commitList : Rules → World → ℕ → Change → List Store

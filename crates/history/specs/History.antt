@@ -25,7 +25,7 @@ use Rattle.volume.specs.Tables.{Tables, Memory, sectorAt, namedBy, usedBy}
 use Rattle.volume.specs.Store.{Store, After, after, memoryWith}
 use Rattle.volume.specs.Refusals.{judged}
 use Rattle.volume.specs.Rules.{Rules}
-use Rattle.volume.specs.Batch.{Commit, commitMade, Answered, commitsMade, commitsIn, batchChecks, batchBy}
+use Rattle.batches.specs.Batch.{Commit, commitMade, Answered, commitsMade, commitsIn, batchChecks, batchBy}
 use Rattle.volume.specs.Calls.{writeBy, dropBy, readOf, parkOf}
 use Rattle.volume.specs.Recover.{Finding, found, missing, imageView, newestClosing, closedUpTo, scanPlace, scannedLog, findingOf, recoverOf}
 

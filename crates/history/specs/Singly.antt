@@ -9,7 +9,7 @@ use Rattle.geometry.specs.declared.Geometry.{Geometry}
 use Rattle.answer.specs.Answer.{costOf}
 use Rattle.layout.specs.Bounded.{isZero}
 use Rattle.volume.specs.Rules.{Rules}
-use Rattle.volume.specs.Batch.{Commit, Answered, answeredFirst}
+use Rattle.batches.specs.Batch.{Commit, Answered, answeredFirst}
 use Rattle.history.specs.History.{Call, write, drop, World, made, worldOf, accepted}
 
 -- A call makes a write, or a drop without bytes.

@@ -8,13 +8,12 @@ use Rattle.geometry.specs.declared.Drive.{Drive}
 use Rattle.geometry.proofs.Sized.{sized, tracked, asked}
 use Rattle.state.specs.State.{freshState}
 use Rattle.answer.specs.declared.Answer.the-variants.{Accepted}
-use Rattle.answer.specs.Answer.{storesAlone, numberOf}
+use Rattle.answer.specs.Answer.{storesAlone, verdictNumber, numberOf}
 use Rattle.volume.specs.Tables.{memory}
 use Rattle.volume.specs.Refusals.{applies, firstOf, judged}
 use Rattle.volume.specs.Store.{after}
 use Rattle.volume.specs.Format.{imageFits, tablesFit, sizeChecks, formatOf}
 use Rattle.volume.specs.Calls.{stateFits, stateChecks, readOf}
-use Rattle.volume.proofs.Lent.{verdictNumber}
 use Rattle.volume.proofs.Rows.{Call, gives, outcomeOf, enough, write, drop, park, recoverOn}
 use Rattle.volume.proofs.ByHand.{overwritten, blankAt, copied}
 

@@ -7,9 +7,7 @@ use mathlib.Core.List.{List, [], _∷_, _++_, map}
 use lib.ListN.{length, replicate, take, drop}
 use Rattle.geometry.proofs.Sized.{sized, oneTrack, asked}
 use Rattle.state.specs.State.{freshState}
-use Rattle.answer.specs.Answer.{refusalNumber, numberOf}
-use Rattle.answer.specs.declared.Verdict.{Verdict}
-use Rattle.answer.specs.declared.Verdict.the-variants.{Pass, Refuse}
+use Rattle.answer.specs.Answer.{verdictNumber, numberOf}
 use Rattle.layout.specs.Bounded.{allBelow, countBelow, best, all, elem, distinct, same, listFrom, gathered}
 use Rattle.layout.specs.Word.{wordsOf, bytesOf, wordSum, startsWith, balanced}
 use Rattle.layout.specs.MapSector.{MapSector, encoded, branchesFit, valid, decoded}
@@ -126,10 +124,6 @@ record Lent : Type 0 where
   used : ℕ
   onState : ℕ
   given : ℕ
-
-abbrev pub verdictNumber : Verdict → ℕ
-verdictNumber Pass = 0
-verdictNumber (Refuse r) = refusalNumber r
 
 lentGives : Lent → List ℕ
 unfolding memory applies firstOf judged imageFits tablesFit sizeChecks stateFits

@@ -5,7 +5,7 @@ use native.Mathlib.Omega.{arith}
 use lib.ListN.{length}
 use Rattle.layout.specs.Bounded.{at}
 use Rattle.volume.specs.Tables.{memory}
-use Rattle.volume.specs.Batch.{blocksOf, bytesOf}
+use Rattle.batches.specs.Batch.{blocksOf, bytesOf}
 use Rattle.batch.specs.Batch.{batchLeft}
 use Rattle.batch.proofs.Commits.{part-inside, sum-fits, lent-keeps}
 use Rattle.batch.proofs.Making.{Making, making-starts, within-left, skipped-fits, making-more, making-stops, making-ends}

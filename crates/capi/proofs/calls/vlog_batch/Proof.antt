@@ -2,7 +2,7 @@
 use Rattle.capi.proofs.Numbers.{batch-in-numbers}
 use Rattle.state.specs.declared.State.{State}
 use Rattle.volume.specs.Tables.{memory}
-use Rattle.volume.specs.Batch.{batchOf}
+use Rattle.batches.specs.Batch.{batchOf}
 use borrow.Author.Needs.{needs}
 use Rattle.capi.proofs.calls.vlog_batch.Statement.{statement}
 use Rattle.capi.proofs.calls.vlog_batch.Tie as tie

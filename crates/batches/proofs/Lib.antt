@@ -1,0 +1,2 @@
+-- The rows that a wrong definition of a batch runs into.
+pub mod Rows
