@@ -3,7 +3,9 @@ use Prim.Native.Nat.{ℕ}
 use mathlib.Core.Bool.{Bool, true, false}
 use mathlib.Core.List.{List, [], _∷_, _++_}
 use Rattle.answer.specs.declared.Refusal.{Refusal}
-use Rattle.answer.specs.declared.Refusal.the-variants.{Size, WrongSettings, BufferLength, BlockNumbers, WrongPhase, Inconsistent, NoRoom, NumbersUsedUp}
+use Rattle.answer.specs.declared.Refusal.the-variants.{Size, WrongSettings, BufferLength, CommitCount, BlockNumbers, WrongPhase, Inconsistent, NoRoom, NumbersUsedUp}
+use Rattle.answer.specs.declared.Verdict.{Verdict}
+use Rattle.answer.specs.declared.Verdict.the-variants.{Pass, Refuse}
 use Rattle.answer.specs.declared.Loss.{Loss}
 use Rattle.answer.specs.declared.Loss.the-variants.{NoLog, DamagedLog}
 use Rattle.answer.specs.declared.Cost.{Cost}
@@ -16,7 +18,7 @@ abbrev pub lengths : List Refusal
 lengths = Size ∷ WrongSettings ∷ BufferLength ∷ []
 
 abbrev pub named : List Refusal
-named = BlockNumbers ∷ []
+named = CommitCount ∷ BlockNumbers ∷ []
 
 abbrev pub standing : List Refusal
 standing = WrongPhase ∷ Inconsistent ∷ NoRoom ∷ NumbersUsedUp ∷ []
@@ -28,11 +30,17 @@ abbrev pub refusalNumber : Refusal → ℕ
 refusalNumber Size = 1
 refusalNumber WrongSettings = 11
 refusalNumber BufferLength = 2
+refusalNumber CommitCount = 12
 refusalNumber BlockNumbers = 3
 refusalNumber WrongPhase = 4
 refusalNumber Inconsistent = 5
 refusalNumber NoRoom = 6
 refusalNumber NumbersUsedUp = 7
+
+-- 0 where no refusal applies.
+abbrev pub verdictNumber : Verdict → ℕ
+verdictNumber Pass = 0
+verdictNumber (Refuse r) = refusalNumber r
 
 abbrev pub lossNumber : Loss → ℕ
 lossNumber NoLog = 8

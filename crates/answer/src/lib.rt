@@ -1,7 +1,7 @@
 // The answers of the calls, and the numbers that document 01 gives them.
 ghost use mathlib.Core.Path.{_≡_};
 ghost use Rattle.answer.specs.declared.Answer.the-variants.{Accepted, Walked, Scanned, PowerFailed};
-ghost use Rattle.answer.specs.Answer.{refusalNumber, lossNumber, storesAlone, isRefusal, numberOf, costOf, wayOf, readsOf};
+ghost use Rattle.answer.specs.Answer.{refusalNumber, verdictNumber, lossNumber, storesAlone, isRefusal, numberOf, costOf, wayOf, readsOf};
 
 // Why a call was turned back before it did anything: everything lent, and the state, is left as it came.
 pub enum Refusal {
@@ -11,6 +11,8 @@ pub enum Refusal {
     WrongSettings,
     // 2: a lent buffer has the wrong length.
     BufferLength,
+    // 12: a batch has no commit, or more than 32.
+    CommitCount,
     // 3: count, order or range of the block numbers, or the head.
     BlockNumbers,
     // 4: the phase does not allow this call.
@@ -31,6 +33,7 @@ impl Refusal {
             Refusal::Size => 1,
             Refusal::WrongSettings => 11,
             Refusal::BufferLength => 2,
+            Refusal::CommitCount => 12,
             Refusal::BlockNumbers => 3,
             Refusal::WrongPhase => 4,
             Refusal::Inconsistent => 5,
@@ -63,6 +66,18 @@ impl Loss {
 pub enum Verdict {
     Pass,
     Refuse(Refusal),
+}
+
+impl Verdict {
+    // 0, or the number of the refusal.
+    pub fn number(self) -> u32
+        ensures { λ r. ⌜ r ≡ verdictNumber self ⌝ }
+    {
+        match self {
+            Verdict::Pass => 0,
+            Verdict::Refuse(refusal) => refusal.number(),
+        }
+    }
 }
 
 // What a call cost: the sectors it stored, and the sum of the delays to their places.

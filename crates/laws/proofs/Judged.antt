@@ -9,7 +9,7 @@ use lib.ListN.{length, take}
 use lib.Dec.{eqb}
 use borrow.Author.Tests.{lt-ltb, le-ltb, eqb-true}
 use Rattle.answer.specs.declared.Refusal.{Refusal}
-use Rattle.answer.specs.declared.Refusal.the-variants.{Size, WrongSettings, BufferLength, BlockNumbers, WrongPhase, Inconsistent, NoRoom, NumbersUsedUp}
+use Rattle.answer.specs.declared.Refusal.the-variants.{Size, WrongSettings, BufferLength, CommitCount, BlockNumbers, WrongPhase, Inconsistent, NoRoom, NumbersUsedUp}
 use Rattle.answer.specs.declared.Loss.{Loss}
 use Rattle.answer.specs.declared.Loss.the-variants.{NoLog, DamagedLog}
 use Rattle.answer.specs.declared.Answer.the-variants.{PowerFailed}
@@ -29,6 +29,7 @@ pub refusal-some : (r : Refusal) → isZero (refusalNumber r) ≡ false
 refusal-some Size = refl
 refusal-some WrongSettings = refl
 refusal-some BufferLength = refl
+refusal-some CommitCount = refl
 refusal-some BlockNumbers = refl
 refusal-some WrongPhase = refl
 refusal-some Inconsistent = refl
@@ -53,6 +54,7 @@ unfolding isIn
 ordered Size = refl
 ordered WrongSettings = refl
 ordered BufferLength = refl
+ordered CommitCount = refl
 ordered BlockNumbers = refl
 ordered WrongPhase = refl
 ordered Inconsistent = refl

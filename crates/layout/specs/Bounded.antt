@@ -1,6 +1,6 @@
 -- Tests, counts and searches over the numbers below a bound, and over lists. Those over a bound recurse on it, so that
 -- each says what a loop that counts upwards has found so far.
-use Prim.Native.Nat.{ℕ, zero, suc}
+use Prim.Native.Nat.{ℕ, zero, suc, _+_}
 use mathlib.Core.Bool.{Bool, true, false, cond, not, _&&_, _||_}
 use mathlib.Core.List.{List, [], _∷_}
 use lib.ListN.{getD}
@@ -22,6 +22,11 @@ anyBelow test (suc n) = anyBelow test n || test n
 unfoldable pub countBelow : (ℕ → Bool) → ℕ → ℕ
 countBelow test zero = 0
 countBelow test (suc n) = let before = countBelow test n in cond (test n) (suc before) before
+
+-- The sum of f over 0 to n - 1.
+unfoldable pub sumBelow : (ℕ → ℕ) → ℕ → ℕ
+sumBelow f zero = 0
+sumBelow f (suc n) = sumBelow f n + f n
 
 -- The one of 0 to n - 1 with the greatest key, of equal ones the lowest. A key of 0 stands for "not a candidate".
 unfoldable pub best : (ℕ → ℕ) → ℕ → ℕ

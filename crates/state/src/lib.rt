@@ -2,6 +2,8 @@
 ghost use mathlib.Core.Path.{_≡_};
 ghost use Rattle.state.specs.State.{parkedState, cutState, committedState, freshState, lostState};
 use answer::Answer;
+use answer::Cost;
+use answer::Verdict;
 use geometry::Drive;
 use geometry::Geometry;
 
@@ -95,5 +97,14 @@ impl State {
 // What a call hands back.
 pub struct Outcome {
     pub answer: Answer,
+    pub state: State,
+}
+
+// What a batch of commits hands back: the verdict on the call as a whole, how many commits were answered, what they cost together,
+// and the state after the last of them.
+pub struct BatchOutcome {
+    pub verdict: Verdict,
+    pub answered: u32,
+    pub cost: Cost,
     pub state: State,
 }

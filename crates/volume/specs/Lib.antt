@@ -1,4 +1,5 @@
--- What a reader must believe of the volume: the tables and every call of document 01, in its order, one file a subject.
+-- What a reader must believe of the volume: the tables and every call of documents 01 and 02, in their order, one file a
+-- subject.
 pub mod Commit
 pub mod Tables
 pub mod Refusals
@@ -7,3 +8,4 @@ pub mod Format
 pub mod Rules
 pub mod Calls
 pub mod Recover
+pub mod Batch

@@ -71,6 +71,7 @@ fn refusal_words(refusal: Refusal) {
         Refusal::Size => say(b"size"),
         Refusal::WrongSettings => say(b"settings"),
         Refusal::BufferLength => say(b"buffer length"),
+        Refusal::CommitCount => say(b"commits"),
         Refusal::BlockNumbers => say(b"blocks or head"),
         Refusal::WrongPhase => say(b"phase"),
         Refusal::Inconsistent => say(b"tables"),

@@ -73,31 +73,42 @@ module _ (s : State) (im mp pl nu us : List ℕ) (head : ℕ) (blocks : List ℕ
         ∙ write-is Pass e
 
   -- A drop needs no room of its own: where the tables are sound, P sectors are free.
-  room-kept : checked true 0 ≡ judged (commitChecks base s m head blocks true true)
-  unfolding commitChecks judged firstOf applies tablesAgree memory
-  room-kept =
-      ⊎-elim (λ (e : consistent (s .geometry) (tablesOf mp pl nu us) (s .tail) (s .number) ≡ true).
-      let room = sound (s .geometry) (tablesOf mp pl nu us) (s .tail) (s .number) e .room in
-      rw (le-ltb (freeSectors (s .geometry .n) (bitAt us)) (0 + piecesFor (s .geometry .l)) (omega arith)) refl)
-      (λ (e : consistent (s .geometry) (tablesOf mp pl nu us) (s .tail) (s .number) ≡ false). rw e refl)
-      (bool? (consistent (s .geometry) (tablesOf mp pl nu us) (s .tail) (s .number)))
+  module _ (fit : Bool) where
+    abbrev dropped : After
+    dropped = commitOf base s m head (dropChange blocks) fit true allowance
 
-  drop-is : (v : Verdict) → v ≡ checked true 0
-      → unlessRefused v s m (performed allowance (commitAction base s (m .tables) (viewOf (s .geometry) (m .image)) head (dropChange blocks)) m)
-      ≡ dropOf s m head blocks allowance
-  unfolding dropBy commitOf dropChange
-  drop-is v e =
-      ap (λ (w : Verdict). unlessRefused w s m (performed allowance (commitAction base s (m .tables) (viewOf (s .geometry) (m .image)) head (dropChange blocks)) m))
-      (e ∙ room-kept)
+    room-kept : checked fit 0 ≡ judged (commitChecks base s m head blocks fit true)
+    unfolding commitChecks judged firstOf applies tablesAgree memory
+    room-kept =
+        ⊎-elim (λ (e : consistent (s .geometry) (tablesOf mp pl nu us) (s .tail) (s .number) ≡ true).
+        let room = sound (s .geometry) (tablesOf mp pl nu us) (s .tail) (s .number) e .room in
+        rw (le-ltb (freeSectors (s .geometry .n) (bitAt us)) (0 + piecesFor (s .geometry .l)) (omega arith)) refl)
+        (λ (e : consistent (s .geometry) (tablesOf mp pl nu us) (s .tail) (s .number) ≡ false). rw e refl)
+        (bool? (consistent (s .geometry) (tablesOf mp pl nu us) (s .tail) (s .number)))
 
-  pub drop-refused : (r : Refusal) → Refuse r ≡ checked true 0 → after (record { answer = Refused r; state = s }) m ≡ dropOf s m head blocks allowance
-  drop-refused r e = drop-is (Refuse r) e
+    drop-is : (v : Verdict) → v ≡ checked fit 0
+        → unlessRefused v s m (performed allowance (commitAction base s (m .tables) (viewOf (s .geometry) (m .image)) head (dropChange blocks)) m) ≡ dropped
+    unfolding commitOf dropChange
+    drop-is v e =
+        ap (λ (w : Verdict). unlessRefused w s m (performed allowance (commitAction base s (m .tables) (viewOf (s .geometry) (m .image)) head (dropChange blocks)) m))
+        (e ∙ room-kept)
 
-  pub drop-done : (bytes : List ℕ) (r : After) → Pass ≡ checked true 0
-      → r ≡ performed allowance (commitAction base s (tablesOf mp pl nu us) (viewOf (s .geometry) (sectorAt im)) head (changeBy blocks bytes 0)) m
-      → r ≡ dropOf s m head blocks allowance
-  unfolding memory
-  drop-done bytes r e f = f ∙ drop-is Pass e
+    pub drop-refused : (r : Refusal) → Refuse r ≡ checked fit 0 → after (record { answer = Refused r; state = s }) m ≡ dropped
+    drop-refused r e = drop-is (Refuse r) e
+
+    pub drop-passed : Pass ≡ checked fit 0 → Pass ≡ checked true 0
+    drop-passed e = e ∙ ap (λ (b : Bool). checked b 0) (commit-passed base s m head blocks fit _ (sym e) .bytes)
+
+    pub drop-done : (bytes : List ℕ) (r : After) → Pass ≡ checked fit 0
+        → r ≡ performed allowance (commitAction base s (tablesOf mp pl nu us) (viewOf (s .geometry) (sectorAt im)) head (changeBy blocks bytes 0)) m
+        → r ≡ dropped
+    unfolding memory
+    drop-done bytes r e f = f ∙ drop-is Pass e
+
+pub drop-single : (s : State) (m : Memory) (head : ℕ) (blocks : List ℕ) (allowance : ℕ) (r : After)
+    → r ≡ commitOf base s m head (dropChange blocks) true true allowance → r ≡ dropOf s m head blocks allowance
+unfolding dropBy
+drop-single s m head blocks allowance r e = e
 
 pub fit-judged : (s : State) (m : Memory) (head : ℕ) (blocks : List ℕ) (v : Verdict) (fit fit′ room : Bool)
     → v ≡ judged (commitChecks base s m head blocks fit room) → fit ≡ fit′ → v ≡ judged (commitChecks base s m head blocks fit′ room)

@@ -32,12 +32,13 @@ standing-verdict-requires c κs =
     let the-enum-told = c .before .before .before .enum-told in
     let the-state-verdict = c .before .before .before .before .before .state-verdict in
     let a = c .before .before .before .before .before .before .before .before .before .before .before .before .args in
+    let the-pre = c .before .before .before .before .before .before .before .before .before .before .before .before .pre in
     let v = the-state-verdict .result in
     let f = the-state-verdict .ensures in
     let e = the-enum-told .given .1 in
     let few = few-blocks (a .s) (a .image .now) (a .map .now) (a .places .now) (a .numbers .now) (a .used .now) (a .head) (a .blocks .now) (a .fit) (a .count) v f e
     (the-blocks-fit .result) (the-blocks-fit .ensures) (the-if1 .left) in
-    (state-passed _ _ _ _ _ _ (a .head) (a .blocks .now) _ (a .count) v f e, (lengths-passed _ _ _ _ _ _ (a .head) (a .blocks .now) _ (a .count) v f e, omega arith))
+    (state-passed _ _ _ _ _ _ (a .head) (a .blocks .now) _ (a .count) v f e, (lengths-passed _ _ _ _ _ _ (a .head) (a .blocks .now) _ (a .count) v f e, (omega arith, the-pre .1)))
 
 returns-2 : tie.Need-returns-2
 returns-2 c =
