@@ -1,6 +1,8 @@
 // Answers a paper: each line of standard input is a call on a volume, and its answer is written on standard output.
+mod backlog;
 mod calls;
 mod desk;
+mod gather;
 mod given;
 
 use desk::Desk;
@@ -21,10 +23,21 @@ fn answer_lines(
     while left > 0 {
         reader = line_reader::next_line(&mut window, reader);
         desk = desk::answer_next(desk, &window, reader, image, map, places, numbers, used);
+        let turn = backlog::answer_backlog(
+            desk,
+            &mut window,
+            reader.passed(),
+            image,
+            map,
+            places,
+            numbers,
+            used,
+        );
+        desk = turn.desk;
+        reader = turn.reader;
         if desk.stopped {
             return;
         }
-        reader = reader.passed();
         left -= 1;
     }
 }
