@@ -14,6 +14,6 @@ batchLeft outcome memory answers = record { outcome = outcome; memory = memory; 
 -- At most 32 commits, whose counts add up to the lengths of the block numbers and of the bytes, and room for their answers.
 pub record Lent (words : List ℕ) (blocks bytes answers : ℕ) : Type 0 where
   pub few : commitsLent words ≤ batchCommits
-  pub blocks : sumBelow (blocksOf words) (commitsLent words) ≡ blocks
-  pub bytes : sumBelow (bytesOf words) (commitsLent words) ≡ bytes
-  pub answers : answers ≡ answerWords * commitsLent words
+  pub named : sumBelow (blocksOf words) (commitsLent words) ≡ blocks
+  pub brought : sumBelow (bytesOf words) (commitsLent words) ≡ bytes
+  pub room : answers ≡ answerWords * commitsLent words

@@ -168,7 +168,6 @@ fn make_commits(
     answers: &mut [u32],
 ) -> BatchOutcome
     requires { ⌜ Lent (now words) (length (now blocks)) (length (now bytes)) (length (now answers)) ⌝ }
-    requires { ⌜ length (now map) ≡ s .geometry .l ⌝ }
     ensures { λ r. ⌜ batchLeft r (memory (now (image .exit)) (now (map .exit)) (now (places .exit)) (now (numbers .exit)) (now (used .exit))) (now (answers .exit)) ≡ batchDone (commitsMade base s (memory (now (image .entry)) (now (map .entry)) (now (places .entry)) (now (numbers .entry)) (now (used .entry))) (commitsIn (now (words .entry)) (now (blocks .entry)) (now (bytes .entry))) allowance) (now (answers .entry)) ⌝ }
 {
     let commits = words.len() / COMMIT_WORDS;

@@ -2,14 +2,14 @@
 use Prim.Native.Nat.{ℕ, zero, suc, _+_, _*_, _-_, _/_, _≤_, _<_}
 use mathlib.Core.Path.{_≡_, refl, sym, _∙_, ap, subst}
 use mathlib.Core.Logic.{inr, ⊎-elim}
-use mathlib.Core.Bool.{Bool, true, false, cond, not, true≢false}
+use mathlib.Core.Bool.{Bool, true, false, cond, true≢false}
 use mathlib.Core.List.{List}
 use mathlib.Core.Option.{some}
 use native.Mathlib.Nat.{not-suc-le-zero}
 use native.Mathlib.Omega.{arith}
 use lib.ListN.{length, take}
 use lib.Dec.{ltb, eqb}
-use borrow.Author.Tests.{ltb-true, ltb-false, lt-ltb, eqb-true, eq-eqb}
+use borrow.Author.Tests.{ltb-true, lt-ltb, eqb-true, eq-eqb}
 use Rattle.geometry.specs.declared.Geometry.{Geometry}
 use Rattle.geometry.specs.declared.Drive.{Drive}
 use Rattle.state.specs.declared.State.{State}
@@ -22,7 +22,7 @@ use Rattle.layout.specs.Bounded.{at, updated, updates}
 use Rattle.layout.specs.MapSector.{MapSector}
 use Rattle.layout.specs.Entry.{blank, isEmpty, sectorOf, restored}
 use Rattle.layout.specs.ParkRecord.{parkRecord}
-use Rattle.volume.specs.Tables.{Tables, Memory, zeroTables, sectorAt, freeSectors}
+use Rattle.volume.specs.Tables.{Tables, Memory, zeroTables, sectorAt}
 use Rattle.volume.specs.Refusals.{applies, firstOf, judged}
 use Rattle.volume.specs.Store.{After, applied, performed, refused, after}
 use Rattle.volume.specs.Format.{sectorsIn, sizeChecks}
@@ -31,17 +31,19 @@ use Rattle.volume.specs.Commit.{Change, commitAction}
 use Rattle.volume.specs.Calls.{viewOf, stateFits, commitChecks, commitOf, writeChange, dropChange, roomFor, writeBy, dropBy, entryReadable, readChecks, blockOf, readJudged, readOf, parkChecks, parkAction, parkOf}
 use Rattle.volume.specs.Recover.{Log, findingOf, imageView, recoveryAction, recovered, recoverOf}
 use Rattle.history.specs.History.{worldOf, accepted, Disk, putBlocks}
-use Rattle.laws.proofs.Bounded.{bool?, lt?, eq?, clash, or-r, or-l, not-of, updated-here, updated-other}
-use Rattle.laws.proofs.Codec.{stored-unsigned, restored-stored, restored-empty, entry-sector, entry-full, entry-word}
+use Rattle.laws.proofs.Bounded.{bool?, lt?, eq?, clash, or-r, or-l, updated-here, updated-other}
+use Rattle.laws.proofs.Codec.{stored-unsigned, restored-stored, restored-empty}
 use Rattle.laws.proofs.Names.{block, sectorNamed, within-is}
 use Rattle.laws.proofs.Placing.{Choosing}
 use Rattle.laws.proofs.Sizes.{Fits, view-same}
+use Rattle.laws.proofs.Judged.{verdict?, cleared, not-false, performed-cut, performed-whole}
+use Rattle.laws.proofs.CommitPassed.{CommitPassed, commit-passed}
+use Rattle.agreement.proofs.Plan.{Given, started}
+use Rattle.agreement.proofs.Kept.{write-given, drop-given}
 use Rattle.history.proofs.Invariant.{Committed, Settled, ground-moves}
 use Rattle.history.proofs.Clearing.{view-parked}
-use Rattle.history.proofs.Plan.{Given}
+use Rattle.history.proofs.CutCommit.{Settling}
 use Rattle.history.proofs.Recovery.{Finds, recovers}
-use Rattle.laws.proofs.Judged.{verdict?, cleared, not-false, performed-cut, performed-whole}
-use Rattle.laws.proofs.CommitPassed.{CommitPassed, all-apart, commit-passed}
 use Rattle.history.proofs.Steps.{refused-not, Standing, running, parked, cut, Sized, sized-with, Step, commit-step}
 
 -- A refused call.
@@ -61,7 +63,7 @@ module _ (rules : Rules) (law : Choosing rules) (g : Geometry) (fit : Fits g) wh
       (given : (drive : Drive) (tail number : ℕ) → s ≡ freshState g drive tail number
       → Settled g (m .image) (m .tables) tail number disk → m .image 0 ≡ blank
       → CommitPassed rules (freshState g drive tail number) m head (change .blocks) bytesFit hasRoom
-      → Given rules (freshState g drive tail number) (m .tables) (m .image) disk head change values) where
+      → (u : Given rules (freshState g drive tail number) (m .tables) (m .image) head change) × Settling (started law u) disk values) where
     abbrev changed : Disk
     changed = updates disk (at (change .blocks)) values (length (change .blocks))
 
@@ -72,7 +74,7 @@ module _ (rules : Rules) (law : Choosing rules) (g : Geometry) (fit : Fits g) wh
         let c = commit-passed rules s m head (change .blocks) bytesFit hasRoom e in
         let u = given drive tail number q settled unparked (subst (λ (x : State). CommitPassed rules x m head (change .blocks) bytesFit hasRoom) q c) in
         subst (λ (x : State). Step g m (performed allowance (commitAction rules x (m .tables) (viewOf (x .geometry) (m .image)) head change) m) disk changed)
-        (sym q) (commit-step rules law g fit m size drive tail number disk settled unparked head change values u allowance)
+        (sym q) (commit-step rules law g fit m size drive tail number disk head change values (u .0) (u .1) allowance)
     passed allowance e (parked drive tail number q settled) =
         let c = commit-passed rules s m head (change .blocks) bytesFit hasRoom e in
         absurd (true≢false (sym (c .phase) ∙ ap (λ (x : State). isRunning (x .phase)) q))
@@ -89,40 +91,22 @@ module _ (rules : Rules) (law : Choosing rules) (g : Geometry) (fit : Fits g) wh
         (verdict? (judged (commitChecks rules s m head (change .blocks) bytesFit hasRoom)))
 
   module _ (s : State) (m : Memory) (size : Sized g m) (disk : Disk) (stands : Standing g (record { state = s; memory = m }) disk) where
-    room-fits : (blocks : List ℕ) (drive : Drive) (tail number : ℕ) → s ≡ freshState g drive tail number → roomFor s m blocks ≡ true
-        → length blocks + piecesFor (g .l) ≤ freeSectors (g .n) (m .tables .isUsed)
-    unfolding roomFor
-    room-fits blocks drive tail number q e =
-        let r = subst (λ (x : State). not (ltb (freeSectors (x .geometry .n) (m .tables .isUsed)) (length blocks + piecesFor (x .geometry .l))) ≡ true) q e in
-        ltb-false (freeSectors (g .n) (m .tables .isUsed)) (length blocks + piecesFor (g .l))
-        (not-of (ltb (freeSectors (g .n) (m .tables .isUsed)) (length blocks + piecesFor (g .l))) r)
-
     pub write-stands : (head : ℕ) (blocks bytes : List ℕ) (allowance : ℕ)
         → Step g m (writeBy rules s m head blocks bytes allowance) disk (putBlocks disk blocks (sectorAt bytes))
     unfolding writeBy putBlocks writeChange
     write-stands head blocks bytes allowance =
         commit-stands s m size disk stands head (writeChange blocks bytes) (sectorAt bytes) (eqb (length bytes) (512 * length blocks)) (roomFor s m blocks)
-        (λ drive tail number q settled unparked c.
-        record {
-          fit = fit;
-          drive = c .drive;
-          settled = settled;
-          unparked = unparked;
-          inside = c .named .inside;
-          some = c .named .some;
-          blocks = c .named .below;
-          apart = all-apart blocks (c .named .ascending);
-          few = omega arith;
-          unsigned = λ i h. stored-unsigned g (sectorAt bytes i);
-          full = λ i k h low high. entry-full (sectorAt bytes i) k low;
-          sector = λ i k h low high. entry-sector (sectorAt bytes i) k high;
-          word = λ i k h low high. entry-word (sectorAt bytes i) k high;
-          back = λ i k h low high. restored-stored (sectorAt bytes i) k low high;
-          gone = λ i k h b. absurd (omega arith);
-          emptied = λ i h b. absurd (omega arith);
-          room = room-fits blocks drive tail number q (c .room);
-          numbers = c .numbers;
-        })
+        (λ drive tail number q settled unparked c. (
+          write-given rules (freshState g drive tail number) m head blocks (eqb (length bytes) (512 * length blocks)) (roomFor s m blocks)
+              (settled .committed .ground .agreed .words) c bytes (subst (λ (x : State). roomFor x m blocks ≡ true) q (c .room)),
+          record {
+            settled = settled;
+            unparked = unparked;
+            unsigned = λ i h. stored-unsigned g (sectorAt bytes i);
+            back = λ i k h low high. restored-stored (sectorAt bytes i) k low high;
+            emptied = λ i h b. absurd (omega arith);
+          },
+        ))
         allowance
 
     pub drop-stands : (head : ℕ) (blocks : List ℕ) (allowance : ℕ)
@@ -130,27 +114,16 @@ module _ (rules : Rules) (law : Choosing rules) (g : Geometry) (fit : Fits g) wh
     unfolding dropBy putBlocks dropChange
     drop-stands head blocks allowance =
         commit-stands s m size disk stands head (dropChange blocks) (λ _. blank) true true
-        (λ drive tail number q settled unparked c.
-        record {
-          fit = fit;
-          drive = c .drive;
-          settled = settled;
-          unparked = unparked;
-          inside = c .named .inside;
-          some = c .named .some;
-          blocks = c .named .below;
-          apart = all-apart blocks (c .named .ascending);
-          few = omega arith;
-          unsigned = λ i h. absurd (not-suc-le-zero h);
-          full = λ i k h low high. absurd (not-suc-le-zero h);
-          sector = λ i k h low high. absurd (not-suc-le-zero h);
-          word = λ i k h low high. absurd (not-suc-le-zero h);
-          back = λ i k h low high. absurd (not-suc-le-zero h);
-          gone = λ i k h b. refl;
-          emptied = λ i h b. refl;
-          room = let r = settled .committed .ground .sound .room in omega arith;
-          numbers = c .numbers;
-        })
+        (λ drive tail number q settled unparked c. (
+          drop-given rules (freshState g drive tail number) m head blocks true true (settled .committed .ground .agreed .words) c,
+          record {
+            settled = settled;
+            unparked = unparked;
+            unsigned = λ i h. absurd (not-suc-le-zero h);
+            back = λ i k h low high. absurd (not-suc-le-zero h);
+            emptied = λ i h b. refl;
+          },
+        ))
         allowance
 
 -- A park record over a blank sector 0.
@@ -177,7 +150,7 @@ module _ (g : Geometry) (fit : Fits g) (image : ℕ → List ℕ) (t : Tables) (
           ground = ground-moves parkImage fit
               (λ x h.
               updated-other image 0 (sectorNamed (g .l) (t .entry) (t .place) x) (parkRecord (record { number = number; tail = tail }))
-              (λ (z : sectorNamed (g .l) (t .entry) (t .place) x ≡ 0). let low = c .ground .sound .low x h in omega arith))
+              (λ (z : sectorNamed (g .l) (t .entry) (t .place) x ≡ 0). let low = c .ground .agreed .sound .low x h in omega arith))
               (c .ground);
           apart = λ j k a b e f. c .apart j k a b (was j a e) (was k b f);
           latest = λ k a e. c .latest k a (was k a e);
@@ -316,7 +289,7 @@ module _ (g : Geometry) (fit : Fits g) (m : Memory) (size : Sized g m) (drive : 
   entry-readable : (b : ℕ) → b < g .l → entryReadable (g .n) (m .tables .entry b) ≡ true
   unfolding entryReadable
   entry-readable b h =
-      let sound = settled .committed .ground .sound in
+      let sound = settled .committed .ground .agreed .sound in
       ⊎-elim (λ (z : isEmpty (m .tables .entry b) ≡ true). or-l (isEmpty (m .tables .entry b)) _ z)
       (λ (z : isEmpty (m .tables .entry b) ≡ false).
       or-r (isEmpty (m .tables .entry b)) (within 1 (g .n - 1) (sectorOf (m .tables .entry b)))

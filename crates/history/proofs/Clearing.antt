@@ -25,8 +25,9 @@ use Rattle.laws.proofs.Codec.{blank-unsigned, park-unsigned}
 use Rattle.laws.proofs.Names.{Name, piece, block, Named, sectorNamed}
 use Rattle.laws.proofs.Stores.{Among, first, among-none, among-cases, among-append, among-left, among-right, among-take, Outcome, applied-cases, applied-skip, applied-at, below-has, below-own}
 use Rattle.laws.proofs.Sizes.{Fits, view-at, view-below, view-same}
+use Rattle.agreement.proofs.Agreed.{number-most}
 use Rattle.history.proofs.Invariant.{Committed, Settled, ground-moves}
-use Rattle.history.proofs.Scan.{number-some, number-most}
+use Rattle.history.proofs.Scan.{number-some}
 
 -- A blank sector is not signed, also as the view has it.
 pub view-blank : (g : Geometry) (image : ℕ → List ℕ) (k : ℕ) → image k ≡ blank → (a : MapSector) → imageView g image k ≡ some a → ⊥
@@ -81,13 +82,13 @@ module _ (g : Geometry) (image : ℕ → List ℕ) (t : Tables) (tail number : �
         let w = f s a in
         let at : w .0 ≡ k = ap (λ (r : Store). r .sector) (sym (w .1)) ∙ e in
         ⊎-elim (λ (z : number < numberIn (imageView g image (w .0))). calm x h (subst (λ (j : ℕ). number < numberIn (imageView g image j)) at z))
-        (λ (z : w .0 ≡ 0). let low = c .ground .sound .low x h in omega arith) (w .2))
+        (λ (z : w .0 ≡ 0). let low = c .ground .agreed .sound .low x h in omega arith) (w .2))
       where
         calm : (x : Name) → Named (g .l) (t .entry) (t .place) x → number < numberIn (imageView g image (sectorNamed (g .l) (t .entry) (t .place) x)) → ⊥
         calm (piece p) h z =
-            let w = c .ground .live p h in
+            let w = c .ground .agreed .live p h in
             let q = number-some (imageView g image (t .place p)) (w .0) (w .1) ∙ w .3 in
-            let most = number-most g image t tail number disk fit c p h in
+            let most = number-most (c .ground .agreed .sound) p h in
             omega arith
         calm (block b) h z =
             let q = number-unsigned (imageView g image (sectorOf (t .entry b)))

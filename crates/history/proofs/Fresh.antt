@@ -22,12 +22,11 @@ use Rattle.history.specs.History.{zeroDisk, Reaches, itself, through}
 use Rattle.laws.proofs.Bounded.{lt?, clash, elem-here, best-unique, tabled-at, tabled-past, count-same, count-le}
 use Rattle.laws.proofs.Codec.{isWord, WellFormed, decoded-encoded, blank-unsigned}
 use Rattle.laws.proofs.Names.{Name, piece, block, Named, sectorNamed, Sound, elem-named, named-distinct, within-is}
-use Rattle.history.proofs.Room.{free-count, named-length}
-use Rattle.laws.proofs.Stores.{Outcome, applied-cases, applied-skip, applied-at, below-has, below-own}
+use Rattle.laws.proofs.Stores.{Outcome, applied-cases, applied-skip, applied-at, applied-append, below-has, below-own}
 use Rattle.laws.proofs.Sizes.{Fits, some-pieces, view-at, view-below}
+use Rattle.agreement.proofs.Room.{free-count, named-length}
+use Rattle.agreement.proofs.Members.{entries-count, entries-words, entries-past-l}
 use Rattle.history.proofs.Invariant.{Ground, Settled}
-use Rattle.history.proofs.Members.{entries-count, entries-words, entries-past-l}
-use Rattle.laws.proofs.Stores.{applied-append}
 
 constant : (f : ℕ → ℕ) (from n : ℕ) → ((k : ℕ) → f k ≡ 0) → listFrom f from n ≡ replicate n 0
 unfolding listFrom
@@ -245,16 +244,18 @@ module _ (g : Geometry) (fit : Fits g) (before : ℕ → List ℕ) where
   ground =
       let most = fit .most in
       record {
-        sound = sound;
+        agreed = record {
+          sound = sound;
+          words = λ b h. rw (entry-0 b) (omega arith);
+          live = λ p h. (
+            freshPiece (g .l) p,
+            ap (imageView g image′) (place-at p h) ∙ view-piece p h,
+            refl,
+            sym (number-at p h),
+            no-entries (g .l) p ∙ ap (λ (f : ℕ → ℕ). pieceEntries (g .l) f p) (zero-entries),
+          );
+        };
         high = omega arith;
-        words = λ b h. rw (entry-0 b) (omega arith);
-        live = λ p h. (
-          freshPiece (g .l) p,
-          ap (imageView g image′) (place-at p h) ∙ view-piece p h,
-          refl,
-          sym (number-at p h),
-          no-entries (g .l) p ∙ ap (λ (f : ℕ → ℕ). pieceEntries (g .l) f p) (zero-entries),
-        );
         closes = λ m e.
             let w = signed-pieces (piecesFor (g .l)) m e in
             ap (λ (x : MapSector). x .closing) (w .3) ∙ eq-eqb (suc (w .0)) (piecesFor (g .l)) (sym (w .2));

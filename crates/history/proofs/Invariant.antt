@@ -11,21 +11,18 @@ use Rattle.layout.specs.Bounded.{best}
 use Rattle.layout.specs.MapSector.{MapSector, View}
 use Rattle.layout.specs.Entry.{blank, isEmpty, sectorOf, restored}
 use Rattle.layout.specs.ParkRecord.{parkRecord}
-use Rattle.volume.specs.Tables.{Tables, namedBy, usedBy, pieceEntries}
+use Rattle.volume.specs.Tables.{Tables, namedBy, usedBy}
 use Rattle.volume.specs.Recover.{imageView}
 use Rattle.history.specs.History.{Disk, Reaches, itself, through}
 use Rattle.laws.proofs.Bounded.{best-below}
-use Rattle.laws.proofs.Names.{Name, piece, block, Named, sectorNamed, Sound}
+use Rattle.laws.proofs.Names.{Name, piece, block, Named, sectorNamed}
 use Rattle.laws.proofs.Sizes.{Fits, view-same, some-pieces}
+use Rattle.agreement.proofs.Agreed.{Agreed}
 
 -- What the image says of the sectors that the tables name, and of no others.
 pub record Ground (g : Geometry) (image : ℕ → List ℕ) (t : Tables) (tail number : ℕ) (disk : Disk) : Type 0 where
-  pub sound : Sound g t tail number
+  pub agreed : Agreed g image t tail number
   pub high : number < 2 ^ 32
-  pub words : (b : ℕ) → b < g .l → t .entry b < 2 ^ 32
-  pub live : (p : ℕ) → p < piecesFor (g .l)
-      → (m : MapSector) × (imageView g image (t .place p) ≡ some m) × (m .piece ≡ p) × (m .number ≡ t .number p)
-      × (m .entries ≡ pieceEntries (g .l) (t .entry) p)
   pub closes : (m : MapSector) → imageView g image tail ≡ some m → m .closing ≡ true
   pub chain : (p : ℕ) → p < piecesFor (g .l) → Reaches (imageView g image) (t .place) (piecesFor (g .l)) tail p
   pub empty : (b : ℕ) → b < g .l → isEmpty (t .entry b) ≡ true → disk b ≡ blank
@@ -71,15 +68,17 @@ ground-moves {g} {image} {t} {tail} {number} {disk} other fit f u =
     λ p h. view-same g other image (t .place p) (f (piece p) h) in
     let newest = best-below (t .number) (piecesFor (g .l)) (some-pieces (g .l) (fit .some)) in
     record {
-      sound = u .sound;
+      agreed = record {
+        sound = u .agreed .sound;
+        words = u .agreed .words;
+        live = λ p h. let w = u .agreed .live p h in (w .0, moved p h ∙ w .1, w .2, w .3, w .4);
+      };
       high = u .high;
-      words = u .words;
-      live = λ p h. let w = u .live p h in (w .0, moved p h ∙ w .1, w .2, w .3, w .4);
       closes = λ m e.
           u .closes m
-          (subst (λ (k : ℕ). imageView g image k ≡ some m) (sym (u .sound .tail-is))
+          (subst (λ (k : ℕ). imageView g image k ≡ some m) (sym (u .agreed .sound .tail-is))
           (sym (moved (best (t .number) (piecesFor (g .l))) newest)
-          ∙ subst (λ (k : ℕ). imageView g other k ≡ some m) (u .sound .tail-is) e));
+          ∙ subst (λ (k : ℕ). imageView g other k ≡ some m) (u .agreed .sound .tail-is) e));
       chain = λ p h. reaches-moves (imageView g other) moved (u .chain p h);
       empty = u .empty;
       full = λ b h e. ap (restored (t .entry b)) (f (block b) (h, e)) ∙ u .full b h e;

@@ -2,10 +2,6 @@
 pub mod Invariant
 pub mod Scan
 pub mod Clearing
-pub mod Listing
-pub mod Room
-pub mod Plan
-pub mod Members
 pub mod CutCommit
 pub mod WholeCommit
 pub mod Fresh

@@ -65,8 +65,8 @@ module _ (g : Geometry) (image : ℕ → List ℕ) (t : Tables) (tail number : �
   module _ (settled : Settled g image t tail number disk) (parked : image 0 ≡ parkRecord (record { number = number; tail = tail })) where
     tail-low : 1 ≤ tail
     tail-low =
-        rw (settled .committed .ground .sound .tail-is)
-        (settled .committed .ground .sound .low (piece (best (t .number) (piecesFor (g .l))))
+        rw (settled .committed .ground .agreed .sound .tail-is)
+        (settled .committed .ground .agreed .sound .low (piece (best (t .number) (piecesFor (g .l))))
         (best-below (t .number) (piecesFor (g .l)) (some-pieces (g .l) (fit .some))))
 
     tail-below : tail < g .n
@@ -91,9 +91,9 @@ module _ (g : Geometry) (image : ℕ → List ℕ) (t : Tables) (tail number : �
         and-i (allBelow (λ p. not (isZero (t .place p))) (piecesFor (g .l))) _
         (allBelow-is (λ p. not (isZero (t .place p))) (piecesFor (g .l))
         (λ p h.
-        let low = settled .committed .ground .sound .low (piece p) h in
+        let low = settled .committed .ground .agreed .sound .low (piece p) h in
         ap not (ne-eqb (t .place p) 0 (λ (e : t .place p ≡ 0). omega arith))))
-        (sound-consistent g t tail number (settled .committed .ground .sound))
+        (sound-consistent g t tail number (settled .committed .ground .agreed .sound))
 
     starts : walkStarts (g .n) record-here (imageView g image tail) ≡ true
     unfolding walkStarts

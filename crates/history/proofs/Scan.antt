@@ -17,9 +17,10 @@ use Rattle.layout.specs.MapSector.{MapSector}
 use Rattle.volume.specs.Tables.{Tables, namedBy, usedBy, pieceEntries}
 use Rattle.volume.specs.Recover.{numberIn, entryIn, closingNumber, pieceNumber, tablesFrom, found, newestClosing, closedUpTo, scanPlace, signedNumbers, scannedLog, scanDamaged, scanStores, scanFinding, imageView}
 use Rattle.history.specs.History.{Disk}
-use Rattle.laws.proofs.Bounded.{bool?, lt?, eq?, clash, and-l, and-r, not-of, cond-true, cond-false, best-unique, best-below, best-most, tabled-at, tabled-past, listFrom-at, gathered-distinct, anyBelow-none}
+use Rattle.laws.proofs.Bounded.{bool?, lt?, eq?, clash, and-l, and-r, not-of, cond-true, cond-false, best-unique, best-below, tabled-at, tabled-past, listFrom-at, gathered-distinct, anyBelow-none}
 use Rattle.laws.proofs.Names.{piece, sound-consistent}
 use Rattle.laws.proofs.Sizes.{Fits, some-pieces, view-below}
+use Rattle.agreement.proofs.Agreed.{number-most}
 use Rattle.history.proofs.Invariant.{Ground, Committed}
 
 pub option? : {A : Type 0} (o : Option A) → (o ≡ none) ⊎ ((a : A) × (o ≡ some a))
@@ -96,22 +97,18 @@ module _ (g : Geometry) (image : ℕ → List ℕ) (t : Tables) (tail number : �
 
   number-low : 1 ≤ number
   unfolding newest ground
-  number-low = rw (ground .sound .number-is) (ground .sound .from1 newest newest-below)
+  number-low = rw (ground .agreed .sound .number-is) (ground .agreed .sound .from1 newest newest-below)
 
   -- The tail is signed and closing, and has the number.
   pub tail-says : (m : MapSector) × (imageView g image tail ≡ some m) × (m .number ≡ number) × (m .closing ≡ true) × (m .piece < piecesFor (g .l))
   unfolding newest ground
   tail-says =
-      let w = ground .live newest newest-below in
-      let e = subst (λ (k : ℕ). imageView g image k ≡ some (w .0)) (sym (ground .sound .tail-is)) (w .1) in
-      (w .0, e, w .3 ∙ sym (ground .sound .number-is), ground .closes (w .0) e, subst (λ (p : ℕ). p < piecesFor (g .l)) (sym (w .2)) newest-below)
+      let w = ground .agreed .live newest newest-below in
+      let e = subst (λ (k : ℕ). imageView g image k ≡ some (w .0)) (sym (ground .agreed .sound .tail-is)) (w .1) in
+      (w .0, e, w .3 ∙ sym (ground .agreed .sound .number-is), ground .closes (w .0) e, subst (λ (p : ℕ). p < piecesFor (g .l)) (sym (w .2)) newest-below)
 
   tail-below : tail < g .n
   tail-below = let w = tail-says in view-below g image tail (w .0) (w .1)
-
-  pub number-most : (p : ℕ) → p < piecesFor (g .l) → t .number p ≤ number
-  unfolding newest ground
-  number-most p h = rw (ground .sound .number-is) (best-most (t .number) (piecesFor (g .l)) p h)
 
   pub finds-tail : newestClosing (g .n) (imageView g image) ≡ tail
   unfolding newestClosing
@@ -138,9 +135,9 @@ module _ (g : Geometry) (image : ℕ → List ℕ) (t : Tables) (tail number : �
   pub finds-place : (p : ℕ) → p < piecesFor (g .l) → scanPlace (g .n) (imageView g image) number p ≡ t .place p
   unfolding scanPlace ground
   finds-place p h =
-      let w = ground .live p h in
-      let most = number-most p h in
-      let low = ground .sound .from1 p h in
+      let w = ground .agreed .live p h in
+      let most = number-most (c .ground .agreed .sound) p h in
+      let low = ground .agreed .sound .from1 p h in
       let num = w .3 in
       best-unique (λ k. pieceNumber number p (imageView g image k)) (g .n) (t .place p) (view-below g image (t .place p) (w .0) (w .1))
       (λ j b d.
@@ -164,7 +161,7 @@ module _ (g : Geometry) (image : ℕ → List ℕ) (t : Tables) (tail number : �
     entries-at : (b : ℕ) → b < g .l → entryIn (indexOf b) (imageView g image (t .place (pieceOf b))) ≡ t .entry b
     unfolding ground entryIn
     entries-at b h =
-        let w = ground .live (pieceOf b) (omega arith) in
+        let w = ground .agreed .live (pieceOf b) (omega arith) in
         ap (entryIn (indexOf b)) (w .1) ∙ ap (λ (es : List ℕ). at es (indexOf b)) (w .4) ∙ piece-entry (g .l) (t .entry) b h
 
     same-entries : tabled 0 (g .l) (λ b. entryIn (indexOf b) (imageView g image (tabled 0 (piecesFor (g .l)) places (pieceOf b)))) ≡ t .entry
@@ -184,7 +181,7 @@ module _ (g : Geometry) (image : ℕ → List ℕ) (t : Tables) (tail number : �
     same-numbers =
         fun-ext (λ p.
         ⊎-elim (λ (h : p < piecesFor (g .l)).
-        let w = ground .live p h in
+        let w = ground .agreed .live p h in
         tabled-at 0 (piecesFor (g .l)) (λ p. numberIn (imageView g image (tabled 0 (piecesFor (g .l)) places p))) p h
         ∙ ap (λ (f : ℕ → ℕ). numberIn (imageView g image (f p))) same-places
         ∙ number-some (imageView g image (t .place p)) (w .0) (w .1) ∙ w .3)
@@ -225,9 +222,9 @@ module _ (g : Geometry) (image : ℕ → List ℕ) (t : Tables) (tail number : �
   none-missing =
       anyBelow-none (λ p. isZero (pieceNumber number p (imageView g image (scanPlace (g .n) (imageView g image) number p)))) (piecesFor (g .l))
       (λ p h.
-      let w = ground .live p h in
-      let low = ground .sound .from1 p h in
-      let most = number-most p h in
+      let w = ground .agreed .live p h in
+      let low = ground .agreed .sound .from1 p h in
+      let most = number-most (c .ground .agreed .sound) p h in
       let num = w .3 in
       let e = ap (λ (k : ℕ). pieceNumber number p (imageView g image k)) (finds-place p h)
       ∙ piece-is number p (imageView g image (t .place p)) (w .0) (w .1) (w .2) (omega arith) ∙ w .3 in
@@ -235,7 +232,7 @@ module _ (g : Geometry) (image : ℕ → List ℕ) (t : Tables) (tail number : �
 
   undamaged : scanDamaged g (imageView g image) number (record { tables = t; tail = tail; number = number }) ≡ false
   unfolding scanDamaged ground
-  undamaged = rw (numbers-distinct, none-missing, sound-consistent g t tail number (ground .sound)) refl
+  undamaged = rw (numbers-distinct, none-missing, sound-consistent g t tail number (ground .agreed .sound)) refl
 
   -- The scan is accepted, and what it found is the last closed commit.
   pub scan-finds : scanFinding g (imageView g image) (image 0)

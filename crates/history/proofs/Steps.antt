@@ -1,7 +1,7 @@
 -- Each call keeps the volume's standing: running and settled, parked and settled, or cut and committed.
 use Prim.Native.Nat.{ℕ, _*_, _≤_, _<_}
 use mathlib.Core.Path.{_≡_, refl, sym, _∙_, ap, subst}
-use mathlib.Core.Logic.{_⊎_, ⊎-elim}
+use mathlib.Core.Logic.{⊎-elim}
 use mathlib.Core.Bool.{true, false, cond, true≢false}
 use mathlib.Core.List.{List}
 use native.Mathlib.Omega.{arith}
@@ -18,7 +18,7 @@ use Rattle.state.specs.State.{freshState, parkedState}
 use Rattle.layout.specs.Bounded.{at, elem, updates}
 use Rattle.layout.specs.Entry.{blank}
 use Rattle.volume.specs.Tables.{Tables, Memory, namedBy, usedBy}
-use Rattle.volume.specs.Store.{After, Action, applied, performed, refused, memoryWith, after}
+use Rattle.volume.specs.Store.{After, Action, applied, performed, refused, memoryWith}
 use Rattle.volume.specs.Format.{tablesFit}
 use Rattle.volume.specs.Rules.{Rules}
 use Rattle.volume.specs.Commit.{Change, planAction, commitAction}
@@ -29,13 +29,15 @@ use Rattle.laws.proofs.Bounded.{lt?, or-none}
 use Rattle.laws.proofs.Names.{elem-named}
 use Rattle.laws.proofs.Placing.{Choosing}
 use Rattle.laws.proofs.Sizes.{Fits}
+use Rattle.laws.proofs.Judged.{refusal-some, performed-cut, performed-whole}
+use Rattle.agreement.proofs.Plan.{Given, Start, started, plan}
+use Rattle.agreement.proofs.Members.{tables′}
+use Rattle.agreement.proofs.Stored.{image′}
+use Rattle.agreement.proofs.Sound.{tail′, number′}
 use Rattle.history.proofs.Invariant.{Committed, Settled, reaches-below}
 use Rattle.history.proofs.Scan.{finds-tail, finds-number, finds-place, scans-log}
-use Rattle.history.proofs.Plan.{Given, Start, plan}
-use Rattle.history.proofs.Members.{tables′}
-use Rattle.history.proofs.CutCommit.{cut-commit}
-use Rattle.history.proofs.WholeCommit.{image′, tail′, number′, disk′, whole-commit, whole-blank}
-use Rattle.laws.proofs.Judged.{refusal-some, performed-cut, performed-whole}
+use Rattle.history.proofs.CutCommit.{Settling, cut-commit}
+use Rattle.history.proofs.WholeCommit.{disk′, whole-commit, whole-blank}
 
 -- A refused call leaves the world as it was, and is not accepted.
 pub refused-not : (r : Refusal) (s : State) (m : Memory) → accepted (refused r s m) ≡ false
@@ -88,26 +90,15 @@ pub record Step (g : Geometry) (m : Memory) (r : After) (disk disk′ : Disk) : 
   pub sized : Sized g (r .memory)
 
 -- A running volume.
-module _ (rules : Rules) (law : Choosing rules) (g : Geometry) (fit : Fits g) (m : Memory) (size : Sized g m) (drive : Drive) (tail number : ℕ) (disk : Disk)
-    (settled : Settled g (m .image) (m .tables) tail number disk) (unparked : m .image 0 ≡ blank) where
+module _ (rules : Rules) (law : Choosing rules) (g : Geometry) (fit : Fits g) (m : Memory) (size : Sized g m) (drive : Drive)
+    (tail number : ℕ) (disk : Disk) where
   abbrev s0 : State
   s0 = freshState g drive tail number
 
-  module _ (head : ℕ) (change : Change) (values : ℕ → List ℕ) (given : Given rules s0 (m .tables) (m .image) disk head change values) where
+  module _ (head : ℕ) (change : Change) (values : ℕ → List ℕ) (given : Given rules s0 (m .tables) (m .image) head change)
+      (on : Settling (started law given) disk values) where
     abbrev start : Start
-    start =
-        record {
-          rules = rules;
-          law = law;
-          s = s0;
-          t = m .tables;
-          image = m .image;
-          disk = disk;
-          head = head;
-          change = change;
-          after = values;
-          given = given;
-        }
+    start = started law given
 
     abbrev action : Action
     action = commitAction rules s0 (m .tables) (viewOf g (m .image)) head change
@@ -121,24 +112,24 @@ module _ (rules : Rules) (law : Choosing rules) (g : Geometry) (fit : Fits g) (m
         subst (λ (r : After). Step g m r disk changed) (sym (performed-cut allowance action m h))
         (record {
           kept = λ e. absurd (true≢false (sym e));
-          stands = cut refl (m .tables) tail number (cut-commit start allowance h);
+          stands = cut refl (m .tables) tail number (cut-commit on allowance h);
           sized = sized-with g m (applied (take allowance (action .stores)) (m .image)) (m .tables) size;
         })
 
     -- Used exactly what is live, freed what is not, and all of it reached.
     commit-kept : CommitKept g m (memoryWith m (image′ start) (tables′ start))
     commit-kept =
-        let new = whole-commit start .committed in
-        let now = live-is g (image′ start) (tables′ start) (tail′ start) (number′ start) (disk′ start) fit new in
-        let before = live-is g (m .image) (m .tables) tail number disk fit (settled .committed) in
+        let new = whole-commit on .committed in
+        let now = live-is g (image′ start) (tables′ start) (tail′ start) (number′ start) (disk′ on) fit new in
+        let before = live-is g (m .image) (m .tables) tail number disk fit (on .settled .committed) in
         record {
           used = λ k. new .ground .used-all k ∙ ap (λ (xs : List ℕ). usedBy xs k) (sym now);
           freed = λ k e f.
               let x = elem-named (g .l) (m .tables .entry) (m .tables .place) k (subst (λ (xs : List ℕ). elem k xs ≡ true) before e) in
-              let low = settled .committed .ground .sound .low (x .0) (x .1) in
+              let low = on .settled .committed .ground .agreed .sound .low (x .0) (x .1) in
               let at = x .2 in
               new .ground .used-all k ∙ unused (namedBy (g .l) (tables′ start .entry) (tables′ start .place)) k (λ (z : k ≡ 0). omega arith) (subst (λ (xs : List ℕ). elem k xs ≡ false) now f);
-          reached = λ p h. live-reached g (image′ start) (tables′ start) (tail′ start) (number′ start) (disk′ start) fit new p (new .ground .chain p h);
+          reached = λ p h. live-reached g (image′ start) (tables′ start) (tail′ start) (number′ start) (disk′ on) fit new p (new .ground .chain p h);
         }
 
     is-whole : (allowance : ℕ) → length (action .stores) ≤ allowance → Step g m (performed allowance action m) disk changed
@@ -147,7 +138,7 @@ module _ (rules : Rules) (law : Choosing rules) (g : Geometry) (fit : Fits g) (m
         subst (λ (r : After). Step g m r disk changed) (sym (performed-whole allowance action m h))
         (record {
           kept = λ e. commit-kept;
-          stands = running drive (tail′ start) (number′ start) refl (whole-commit start) (whole-blank start);
+          stands = running drive (tail′ start) (number′ start) refl (whole-commit on) (whole-blank on);
           sized = sized-with g m (image′ start) (tables′ start) size;
         })
 

@@ -31,11 +31,11 @@ module _ (g : Geometry) (image : ℕ → List ℕ) (t : Tables) (tail number : �
   c = settled .committed
 
   place-some : (p : ℕ) → p < piecesFor (g .l) → t .place p ≡ 0 → ⊥
-  place-some p h e = let low = c .ground .sound .low (piece p) h in omega arith
+  place-some p h e = let low = c .ground .agreed .sound .low (piece p) h in omega arith
 
   live-number : (p : ℕ) → p < piecesFor (g .l) → numberIn (imageView g image (t .place p)) ≡ t .number p
   unfolding numberIn
-  live-number p h = let w = c .ground .live p h in ap numberIn (w .1) ∙ w .3
+  live-number p h = let w = c .ground .agreed .live p h in ap numberIn (w .1) ∙ w .3
 
   -- Done pieces have their live sector; what waits is of its piece, not newer than the piece's live one, and not done.
   record Good (w : Walk) : Type 0 where
@@ -106,7 +106,7 @@ module _ (g : Geometry) (image : ℕ → List ℕ) (t : Tables) (tail number : �
 
   waiting-live : (w : Walk) (q : ℕ) → q < piecesFor (g .l) → w .waiting q ≡ t .place q → waitingNumber view w q ≡ t .number q
   waiting-live w q h e =
-      let v = c .ground .live q h in
+      let v = c .ground .agreed .live q h in
       waiting-is w q (v .0) (λ (z : w .waiting q ≡ 0). place-some q h (sym e ∙ z)) (ap view e ∙ v .1) ∙ v .3
 
   next-good : (w : Walk) (holder target : ℕ) (m : MapSector) → Good w → imageView g image target ≡ some m → waits? w holder m ≡ true → Good (next w target m)
@@ -151,7 +151,7 @@ module _ (g : Geometry) (image : ℕ → List ℕ) (t : Tables) (tail number : �
       → Ready (targetWaits view holder w (t .place q) (view (t .place q))) q
   unfolding Ready Read
   target-ready holder w good q h lower =
-      let v = c .ground .live q h in
+      let v = c .ground .agreed .live q h in
       let m = v .0 in
       let piece-is : m .piece ≡ q = v .2 in
       let number-is : m .number ≡ t .number q = v .3 in
@@ -179,13 +179,13 @@ module _ (g : Geometry) (image : ℕ → List ℕ) (t : Tables) (tail number : �
     where
       already : (q : ℕ) → q < piecesFor (g .l) → t .number q ≤ waitingNumber view w q → w .waiting q ≡ t .place q
       already q h y =
-          let low = c .ground .sound .from1 q h in
+          let low = c .ground .agreed .sound .from1 q h in
           ⊎-elim (λ (z : w .waiting q ≡ 0).
           let e : waitingNumber view w q ≡ 0 = cond-true (isZero (w .waiting q)) 0 (numberIn (view (w .waiting q))) (eq-eqb (w .waiting q) 0 z) in
           absurd (omega arith))
           (λ (z : w .waiting q ≡ 0 → ⊥).
           let v = good .waits q z in
-          let u = c .ground .live q h in
+          let u = c .ground .agreed .live q h in
           let a = waiting-is w q (v .0) z (v .1) in
           let b = v .3 in
           let d = u .3 in
@@ -260,8 +260,8 @@ module _ (g : Geometry) (image : ℕ → List ℕ) (t : Tables) (tail number : �
   newest-ready w b top most (itself h e v) = b .starts top h e
   newest-ready w b top most (through {q = q} {a = a} {b = m} r e h f v lt) =
       let hq = reaches-below r in
-      let lq = c .ground .live q hq in
-      let lt′ = c .ground .live top h in
+      let lq = c .ground .agreed .live q hq in
+      let lt′ = c .ground .agreed .live top h in
       let na : a .number ≡ t .number q = (let same : a ≡ lq .0 = let x = lq .1 in cc in ap (λ (x : MapSector). x .number) same ∙ lq .3) in
       let nb : m .number ≡ t .number top = (let same : m ≡ lt′ .0 = let x = lt′ .1 in cc in ap (λ (x : MapSector). x .number) same ∙ lt′ .3) in
       b .links q hq (λ (z : w .taken q ≡ 0). let x = most q hq z in omega arith) top h
@@ -288,7 +288,7 @@ module _ (g : Geometry) (image : ℕ → List ℕ) (t : Tables) (tail number : �
     top-undone =
         let most = best-most (step-key w) (piecesFor (g .l)) p0 h0 in
         let key = key-undone p0 u0 in
-        let low = c .ground .sound .from1 p0 h0 in
+        let low = c .ground .agreed .sound .from1 p0 h0 in
         ⊎-elim (λ (z : w .taken top ≡ 0). z)
         (λ (z : w .taken top ≡ 0 → ⊥).
         let e : step-key w top ≡ 0 = cond-false (isZero (w .taken top)) (t .number top) 0 (ne-eqb (w .taken top) 0 z) in
@@ -316,7 +316,7 @@ module _ (g : Geometry) (image : ℕ → List ℕ) (t : Tables) (tail number : �
     chooses =
         best-unique (waitingNumber view w) (piecesFor (g .l)) top top-below
         (λ r h d.
-        let low = c .ground .sound .from1 top top-below in
+        let low = c .ground .agreed .sound .from1 top top-below in
         let num = top-number in
         ⊎-elim (λ (z : w .waiting r ≡ 0).
         let e : waitingNumber view w r ≡ 0 = cond-true (isZero (w .waiting r)) 0 (numberIn (view (w .waiting r))) (eq-eqb (w .waiting r) 0 z) in
@@ -326,7 +326,7 @@ module _ (g : Geometry) (image : ℕ → List ℕ) (t : Tables) (tail number : �
         let x = waiting-is w r (v .0) z (v .1) in
         let y = v .3 in
         let m = top-most r h (v .4) in
-        ⊎-elim (λ (k : t .number r ≡ t .number top). absurd (d (c .ground .sound .numbers r top h top-below k)))
+        ⊎-elim (λ (k : t .number r ≡ t .number top). absurd (d (c .ground .agreed .sound .numbers r top h top-below k)))
         (λ (k : t .number r ≡ t .number top → ⊥). omega arith) (eq? (t .number r) (t .number top)))
         (eq? (w .waiting r) 0))
 
@@ -341,7 +341,7 @@ module _ (g : Geometry) (image : ℕ → List ℕ) (t : Tables) (tail number : �
     step-is =
         let some : isZero (waitingNumber view w top) ≡ false =
         ne-eqb (waitingNumber view w top) 0
-        (λ (z : waitingNumber view w top ≡ 0). let n1 = top-number in let low = c .ground .sound .from1 top top-below in omega arith) in
+        (λ (z : waitingNumber view w top ≡ 0). let n1 = top-number in let low = c .ground .agreed .sound .from1 top top-below in omega arith) in
         rw (chooses, some, top-waits, live-number top top-below) refl
 
     done-good : Good done
@@ -440,7 +440,7 @@ module _ (g : Geometry) (image : ℕ → List ℕ) (t : Tables) (tail number : �
   tail-piece : (p : ℕ) → p < piecesFor (g .l) → t .place p ≡ tail → pieceIn (view tail) ≡ p
   unfolding pieceIn
   tail-piece p h e =
-      let v = c .ground .live p h in
+      let v = c .ground .agreed .live p h in
       ap (λ (k : ℕ). pieceIn (view k)) (sym e) ∙ ap pieceIn (v .1) ∙ v .2
 
   start-between : Between walk-start

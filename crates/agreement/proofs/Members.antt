@@ -20,8 +20,8 @@ use Rattle.laws.proofs.Bounded.{bool?, lt?, clash, and-i, cond-true, cond-false
 use Rattle.laws.proofs.Codec.{isWord, WellFormed, decoded-encoded}
 use Rattle.laws.proofs.Names.{piece, within-is}
 use Rattle.laws.proofs.Sizes.{some-pieces}
-use Rattle.history.proofs.Listing.{listing-places}
-use Rattle.history.proofs.Plan.{Start, plan, listed, written-below, unwritten, rank-below, members-few, at-below, at-low, at-word, member-place}
+use Rattle.agreement.proofs.Listing.{listing-places}
+use Rattle.agreement.proofs.Plan.{Start, plan, listed, written-below, unwritten, rank-below, members-few, at-below, at-low, at-word, member-place}
 
 all-elems : (test : ℕ → Bool) (xs : List ℕ) → ((k : ℕ) → elem k xs ≡ true → test k ≡ true) → all test xs ≡ true
 unfolding all
@@ -60,7 +60,7 @@ module _ (l : ℕ) (entry : ℕ → ℕ) (p : ℕ) where
       (λ b h. rw (le-leb l b (omega arith)) refl)
 
 module _ (g : Start) where
-  open Start g using (rules, law, s, t, image, disk, head, change, after, given)
+  open Start g using (rules, law, s, t, image, change, given)
 
   unfoldable pub tables′ : Tables
   tables′ = committedTables s t (plan g) change
@@ -108,7 +108,7 @@ module _ (g : Start) where
       rw (← (w .2), entry-named i (w .1))
       (given .word i (at (plan g .places) i) z (at-low g i (omega arith)) (at-word g i (omega arith))))
       (λ (z : change .dataSectors ≤ i). rw (← (w .2), entry-dropped i z (w .1)) (omega arith)) (lt? i (change .dataSectors)))
-      (λ w. rw (entry-other b w) (given .settled .committed .ground .words b h)) (named? b)
+      (λ w. rw (entry-other b w) (given .agreed .words b h)) (named? b)
 
   pub place-written : (p : ℕ) → plan g .written p ≡ true → tables′ .place p ≡ at (plan g .places) (change .dataSectors + rank (plan g) p)
   unfolding tables′ committedTables
@@ -175,8 +175,8 @@ module _ (g : Start) where
       (λ k e.
       let w = listed-places k e in
       rw (← (w .2))
-      (within-is 1 (s .geometry .n - 1) (t .place (w .0)) (given .settled .committed .ground .sound .low (piece (w .0)) (w .1))
-      (given .settled .committed .ground .sound .high (piece (w .0)) (w .1))))))
+      (within-is 1 (s .geometry .n - 1) (t .place (w .0)) (given .agreed .sound .low (piece (w .0)) (w .1))
+      (given .agreed .sound .high (piece (w .0)) (w .1))))))
       (bool? (plan g .fold))
 
   abbrev pub memberOf : ℕ → MapSector

@@ -4,7 +4,6 @@ use mathlib.Core.Path.{_≡_, refl, sym, _∙_, ap, subst}
 use mathlib.Core.Logic.{⊎-elim}
 use mathlib.Core.Bool.{true, false, _||_}
 use mathlib.Core.List.{List}
-use mathlib.Core.Option.{none, some}
 use native.Mathlib.Omega.{arith}
 use lib.ListN.{length}
 use lib.Dec.{eqb}
@@ -12,39 +11,33 @@ use borrow.Author.Tests.{eq-eqb}
 use Rattle.state.specs.declared.State.{State}
 use Rattle.geometry.specs.Geometry.{piecesFor, pieceOf, driveFits}
 use Rattle.layout.specs.Bounded.{at, countBelow, elem}
-use Rattle.layout.specs.MapSector.{decoded}
-use Rattle.layout.specs.Entry.{blank, isEmpty, sectorOf, restored}
+use Rattle.layout.specs.Entry.{isEmpty, sectorOf}
 use Rattle.volume.specs.Tables.{Tables, namedBy, usedBy, freeSectors}
 use Rattle.tracks.specs.Placing.{Choice, placeOf}
 use Rattle.volume.specs.Rules.{Rules}
 use Rattle.volume.specs.Commit.{Change, Plan, touches, branchesFor, planned, rank, memberPlace}
 use Rattle.volume.specs.Calls.{viewOf}
-use Rattle.history.specs.History.{Disk}
 use Rattle.laws.proofs.Bounded.{lt?, clash, or-r, tabled-at, tabled-past, listFrom-at, anyBelow-is, count-le, count-before}
 use Rattle.laws.proofs.Names.{Name, Named, sectorNamed, named-elem}
 use Rattle.laws.proofs.Placing.{Chooses, Choosing, place-below, place-free, place-low, place-apart}
 use Rattle.laws.proofs.Sizes.{Fits}
-use Rattle.history.proofs.Invariant.{Settled}
+use Rattle.agreement.proofs.Agreed.{Agreed, used-below}
 
--- What a commit starts from: a running volume on a drive that holds its sectors, a change that names blocks once, stores
--- `dataSectors` blocks and empties the others, room, and numbers enough. `after` is what the plain disk then has in the named blocks.
-pub record Given (rules : Rules) (s : State) (t : Tables) (image : ℕ → List ℕ) (disk : Disk) (head : ℕ) (change : Change) (after : ℕ → List ℕ) : Type 0 where
+-- What a commit starts from: tables that agree with the image, on a drive that holds the volume's sectors, a change that names
+-- blocks once, stores `dataSectors` blocks and empties the others, room, and numbers enough.
+pub record Given (rules : Rules) (s : State) (t : Tables) (image : ℕ → List ℕ) (head : ℕ) (change : Change) : Type 0 where
   pub fit : Fits (s .geometry)
   pub drive : driveFits (s .geometry .n) (s .drive) ≡ true
-  pub settled : Settled (s .geometry) image t (s .tail) (s .number) disk
-  pub unparked : image 0 ≡ blank
+  pub agreed : Agreed (s .geometry) image t (s .tail) (s .number)
   pub inside : head < s .geometry .n
   pub some : 1 ≤ length (change .blocks)
   pub blocks : (i : ℕ) → i < length (change .blocks) → at (change .blocks) i < s .geometry .l
   pub apart : (i j : ℕ) → i < j → j < length (change .blocks) → at (change .blocks) i ≡ at (change .blocks) j → ⊥
   pub few : change .dataSectors ≤ length (change .blocks)
-  pub unsigned : (i : ℕ) → i < change .dataSectors → decoded (s .geometry) (change .content i) ≡ none
   pub full : (i k : ℕ) → i < change .dataSectors → 1 ≤ k → k < 2 ^ 31 → isEmpty ((change .entry) i k) ≡ false
   pub sector : (i k : ℕ) → i < change .dataSectors → 1 ≤ k → k < 2 ^ 31 → sectorOf ((change .entry) i k) ≡ k
   pub word : (i k : ℕ) → i < change .dataSectors → 1 ≤ k → k < 2 ^ 31 → (change .entry) i k < 2 ^ 32
-  pub back : (i k : ℕ) → i < change .dataSectors → 1 ≤ k → k < 2 ^ 31 → restored ((change .entry) i k) (change .content i) ≡ after i
   pub gone : (i k : ℕ) → change .dataSectors ≤ i → i < length (change .blocks) → (change .entry) i k ≡ 0
-  pub emptied : (i : ℕ) → change .dataSectors ≤ i → i < length (change .blocks) → after i ≡ blank
   pub room : change .dataSectors + piecesFor (s .geometry .l) ≤ freeSectors (s .geometry .n) (t .isUsed)
   pub numbers : s .number ≤ rules .greatest
 
@@ -55,14 +48,17 @@ pub record Start : Type 0 where
   pub s : State
   pub t : Tables
   pub image : ℕ → List ℕ
-  pub disk : Disk
   pub head : ℕ
   pub change : Change
-  pub after : ℕ → List ℕ
-  pub given : Given rules s t image disk head change after
+  pub given : Given rules s t image head change
+
+abbrev pub started : {rules : Rules} {s : State} {t : Tables} {image : ℕ → List ℕ} {head : ℕ} {change : Change} → Choosing rules
+    → Given rules s t image head change → Start
+started {rules} {s} {t} {image} {head} {change} law given =
+    record { rules = rules; law = law; s = s; t = t; image = image; head = head; change = change; given = given }
 
 module _ (g : Start) where
-  open Start g using (rules, law, s, t, image, disk, head, change, after, given)
+  open Start g using (rules, law, s, t, image, head, change, given)
 
   unfoldable pub plan : Plan
   plan = planned rules s t (viewOf (s .geometry) image) head change
@@ -132,7 +128,7 @@ module _ (g : Start) where
 
   used0 : t .isUsed 0 ≡ true
   unfolding usedBy
-  used0 = given .settled .committed .ground .used-all 0 ∙ refl
+  used0 = used-below (given .agreed .sound) 0 (let h = given .inside in omega arith) ∙ refl
 
   abbrev choice : Choice
   choice = (rules .placing) (s .drive)
@@ -181,7 +177,9 @@ module _ (g : Start) where
   unfolding usedBy
   named-used x h =
       let k = sectorNamed (s .geometry .l) (t .entry) (t .place) x in
-      given .settled .committed .ground .used-all k ∙ or-r (eqb k 0) (elem k (namedBy (s .geometry .l) (t .entry) (t .place))) (named-elem (s .geometry .l) (t .entry) (t .place) x h)
+      let below : k < s .geometry .n = (let a = given .agreed .sound .high x h in let b = given .inside in omega arith) in
+      used-below (given .agreed .sound) k below
+      ∙ or-r (eqb k 0) (elem k (namedBy (s .geometry .l) (t .entry) (t .place))) (named-elem (s .geometry .l) (t .entry) (t .place) x h)
 
   pub named-other : (x : Name) → Named (s .geometry .l) (t .entry) (t .place) x → (j : ℕ) → j < change .dataSectors + plan .members
       → at (plan .places) j ≡ sectorNamed (s .geometry .l) (t .entry) (t .place) x → ⊥

@@ -1,0 +1,2 @@
+-- Laws that this crate's proofs cite, and its callers' may.
+pub mod BatchLaws
