@@ -21,7 +21,7 @@ use wording::backlog;
 
 const ANSWERS: usize = gather::COMMITS as usize * ANSWER_WORDS;
 
-// The desk after a backlog, and the reader after its end.
+// The desk after a line, or after the backlog that it begins, and the reader at the line that is next.
 pub struct Turn {
     pub desk: Desk,
     pub reader: Reader,
@@ -109,9 +109,9 @@ fn make(
     places: &mut [u32; desk::PIECES],
     numbers: &mut [u32; desk::PIECES],
     used: &mut [u8; desk::USED],
-    words: &[u32],
-    blocks: &[u32],
-    bytes: &[u8],
+    words: &[u32; gather::WORDS],
+    blocks: &[u32; gather::BLOCKS],
+    bytes: &[u8; gather::BYTES],
     stores: u32,
 ) -> Desk {
     let mut answers = [0u32; ANSWERS];
@@ -194,7 +194,7 @@ fn answer_commits(
 }
 
 // The backlog that the last line began, where it began one.
-pub fn answer_backlog(
+fn answer_backlog(
     desk: Desk,
     window: &mut [u8; WINDOW],
     reader: Reader,
@@ -222,4 +222,31 @@ pub fn answer_backlog(
             used,
         ),
     }
+}
+
+// What the reader found: the next line, and the backlog where it begins one.
+pub fn answer_turn(
+    desk: Desk,
+    window: &mut [u8; WINDOW],
+    reader: Reader,
+    image: &mut [u8; desk::IMAGE],
+    map: &mut [u32; desk::MAP],
+    places: &mut [u32; desk::PIECES],
+    numbers: &mut [u32; desk::PIECES],
+    used: &mut [u8; desk::USED],
+) -> Turn
+    requires { ⌜ Placed reader ⌝ }
+    ensures { λ t. ⌜ Placed (t .reader) ⌝ }
+{
+    let here = desk::answer_next(desk, window, reader, image, map, places, numbers, used);
+    answer_backlog(
+        here,
+        window,
+        reader.passed(),
+        image,
+        map,
+        places,
+        numbers,
+        used,
+    )
 }

@@ -1,5 +1,7 @@
 // The lines of a backlog, up to its end. Here nothing is made: its commits are written down as the call takes them.
+ghost use mathlib.Core.Path.{_≡_};
 ghost use Prim.Native.Nat.{_≤_};
+ghost use lib.ListN.{length};
 ghost use Rattle.line_reader.specs.Reader.{Placed};
 use crate::calls;
 use crate::desk;
@@ -138,9 +140,12 @@ fn read_commit(
     line: &[u8],
     call: Call,
     g: Gathered,
-    blocks: &mut [u32; BLOCKS],
-    bytes: &mut [u8; BYTES],
-) -> Request {
+    blocks: &mut [u32],
+    bytes: &mut [u8],
+) -> Request
+    requires { ⌜ length (now blocks) ≡ 5120 ⌝ }
+    requires { ⌜ length (now bytes) ≡ 2621440 ⌝ }
+{
     if g.commits >= COMMITS {
         return request::turned_back(line, Trouble::Commits);
     }

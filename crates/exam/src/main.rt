@@ -22,11 +22,10 @@ fn answer_lines(
     let mut left = u64::MAX;
     while left > 0 {
         reader = line_reader::next_line(&mut window, reader);
-        desk = desk::answer_next(desk, &window, reader, image, map, places, numbers, used);
-        let turn = backlog::answer_backlog(
+        let turn = backlog::answer_turn(
             desk,
             &mut window,
-            reader.passed(),
+            reader,
             image,
             map,
             places,
