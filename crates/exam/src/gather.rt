@@ -135,7 +135,7 @@ fn take_end(g: Gathered, line: &[u8]) -> Gathered {
 }
 
 // The blocks of a commit and their bytes go after those before it. There is room for the most that each line has, so that of the
-// three checks the first is the one that is met.
+// three checks the first is the one that is met. (The lengths are BLOCKS and BYTES.)
 fn read_commit(
     line: &[u8],
     call: Call,

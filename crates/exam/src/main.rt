@@ -41,13 +41,8 @@ fn answer_lines(
     }
 }
 
-// The bytes of 4,096 sectors.
-fn blank_image() -> [u8; desk::IMAGE] {
-    [0; desk::IMAGE]
-}
-
 fn main() {
-    let mut image = blank_image();
+    let mut image = [0u8; desk::IMAGE];
     let mut map = [0u32; desk::MAP];
     let mut places = [0u32; desk::PIECES];
     let mut numbers = [0u32; desk::PIECES];

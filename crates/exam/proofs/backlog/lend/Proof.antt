@@ -4,15 +4,6 @@ use lib.Seq.{length-take-le}
 use borrow.Author.Needs.{needs}
 use Rattle.exam.proofs.backlog.lend.Statement.{statement}
 use Rattle.exam.proofs.backlog.lend.Tie as tie
-use Rattle.exam.proofs.backlog.lend.Reads as reads
-use Rattle.exam.proofs.backlog.lend.Lts as lts
-use Rattle.batch.proofs.batch.Reads as batch-reads
-use Rattle.exam.proofs.calls.blocks_part.Reads as blocks-part-reads
-use Rattle.exam.proofs.calls.bytes_of.Reads as bytes-of-reads
-use Rattle.exam.proofs.calls.within.Reads as within-reads
-use Rattle.geometry.proofs.Geometry.pieces_for.Reads as pieces-for-reads
-use Rattle.geometry.proofs.Geometry.used_bytes.Reads as used-bytes-reads
-use Rattle.paper.proofs.tokens.part.Reads as part-reads
 
 bytes-of-requires : tie.Need-bytes-of-requires
 bytes-of-requires c κs = search needs
