@@ -136,7 +136,7 @@ fn show(
 }
 
 // The bytes of so many sectors.
-fn bytes_of(sectors: u32) -> usize
+pub fn bytes_of(sectors: u32) -> usize
     ensures { λ r. ⌜ r ≤ 4294967296 * sectorBytes ⌝ }
 {
     sectors as usize * Geometry::SECTOR
@@ -225,7 +225,7 @@ fn perform(
 }
 
 // x where it is at most `most`, and otherwise 0.
-fn within(x: usize, most: usize) -> usize
+pub fn within(x: usize, most: usize) -> usize
     ensures { λ r. ⌜ r ≤ most ⌝ }
 {
     if x <= most {
@@ -243,7 +243,7 @@ fn bytes_part(bytes: &[u8], count: usize) -> &[u8] {
 }
 
 // The blocks from `from` up to `to`; none where these are no positions of the list.
-fn blocks_part(blocks: &[u32], from: usize, to: usize) -> &[u32] {
+pub fn blocks_part(blocks: &[u32], from: usize, to: usize) -> &[u32] {
     if to <= blocks.len() {
         if from <= to {
             return &blocks[from..to];

@@ -16,6 +16,13 @@ use paper::request::Request;
 use state::State;
 use wording::say;
 
+// Whose lines come next.
+pub enum Lines {
+    Calls,
+    // The commits of a backlog, which may make so many stores.
+    Backlog(u32),
+}
+
 pub struct Desk {
     pub state: State,
     // The drive that the volume was formatted for: what a recover is not given is taken from it.
@@ -26,6 +33,7 @@ pub struct Desk {
     pub stopped: bool,
     // The line's number, from 1.
     pub line: u32,
+    pub lines: Lines,
 }
 
 // The bytes of the sectors that the program holds, the largest map and its pieces, and the used map of so many sectors.
@@ -38,7 +46,7 @@ pub const PIECES: usize = Geometry::MOST_PIECES;
 pub const USED: usize = calls::USED;
 
 // The number after a line's.
-fn counted(line: u32) -> u32 {
+pub fn counted(line: u32) -> u32 {
     if line < 4_294_967_295 {
         return line + 1;
     }
@@ -54,6 +62,7 @@ impl Desk {
             open: false,
             stopped: false,
             line: 0,
+            lines: Lines::Calls,
         }
     }
 
@@ -61,16 +70,18 @@ impl Desk {
     fn moved(self) -> Desk {
         let state = self.state;
         let drive = self.drive;
+        let lines = self.lines;
         Desk {
             state,
             drive,
             open: self.open,
             stopped: self.stopped,
             line: counted(self.line),
+            lines,
         }
     }
 
-    fn stop(self) -> Desk {
+    pub fn stop(self) -> Desk {
         let state = self.state;
         let drive = self.drive;
         Desk {
@@ -79,6 +90,7 @@ impl Desk {
             open: self.open,
             stopped: true,
             line: self.line,
+            lines: Lines::Calls,
         }
     }
 
@@ -90,6 +102,7 @@ impl Desk {
             open,
             stopped: self.stopped,
             line: self.line,
+            lines: Lines::Calls,
         }
     }
 
@@ -102,6 +115,34 @@ impl Desk {
             open: self.open,
             stopped: self.stopped,
             line: self.line,
+            lines: Lines::Calls,
+        }
+    }
+
+    // Before the commits of a backlog.
+    fn before_backlog(self, stores: u32) -> Desk {
+        let state = self.state;
+        let drive = self.drive;
+        Desk {
+            state,
+            drive,
+            open: self.open,
+            stopped: self.stopped,
+            line: self.line,
+            lines: Lines::Backlog(stores),
+        }
+    }
+
+    // After a backlog, whose last line has this number.
+    pub fn after_backlog(self, state: State, line: u32) -> Desk {
+        let drive = self.drive;
+        Desk {
+            state,
+            drive,
+            open: self.open,
+            stopped: self.stopped,
+            line,
+            lines: Lines::Calls,
         }
     }
 }
@@ -237,6 +278,16 @@ fn answer_call(
     )
 }
 
+// The line that a backlog begins with.
+fn begin_backlog(desk: Desk, line: &[u8]) -> Desk {
+    let r = request::request_without_blocks(line, Call::Backlog);
+    let given = asked(desk, Call::Backlog, r);
+    if is_refused(desk, Call::Backlog, r, given, line) {
+        return desk.stop();
+    }
+    desk.before_backlog(r.stores())
+}
+
 // A line of the paper.
 fn answer_line(
     desk: Desk,
@@ -250,6 +301,7 @@ fn answer_line(
     let call = request::call_of(line);
     match call {
         Call::Nothing => desk,
+        Call::Backlog => begin_backlog(desk, line),
         _ => answer_call(desk, call, line, image, map, places, numbers, used),
     }
 }

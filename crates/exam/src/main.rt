@@ -1,6 +1,8 @@
 // Answers a paper: each line of standard input is a call on a volume, and its answer is written on standard output.
+mod backlog;
 mod calls;
 mod desk;
+mod gather;
 mod given;
 
 use desk::Desk;
@@ -20,22 +22,27 @@ fn answer_lines(
     let mut left = u64::MAX;
     while left > 0 {
         reader = line_reader::next_line(&mut window, reader);
-        desk = desk::answer_next(desk, &window, reader, image, map, places, numbers, used);
+        let turn = backlog::answer_turn(
+            desk,
+            &mut window,
+            reader,
+            image,
+            map,
+            places,
+            numbers,
+            used,
+        );
+        desk = turn.desk;
+        reader = turn.reader;
         if desk.stopped {
             return;
         }
-        reader = reader.passed();
         left -= 1;
     }
 }
 
-// The bytes of 4,096 sectors.
-fn blank_image() -> [u8; desk::IMAGE] {
-    [0; desk::IMAGE]
-}
-
 fn main() {
-    let mut image = blank_image();
+    let mut image = [0u8; desk::IMAGE];
     let mut map = [0u32; desk::MAP];
     let mut places = [0u32; desk::PIECES];
     let mut numbers = [0u32; desk::PIECES];

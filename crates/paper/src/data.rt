@@ -37,6 +37,11 @@ pub enum Trouble {
     // Numbers, or blocks, that are not there.
     FewNumbers,
     FewBlocks,
+    // An end that ends no backlog; in a backlog a line of another call, a plug of its own, and more commits than are held.
+    End,
+    BacklogLine,
+    BacklogStores,
+    Commits,
 }
 
 // Where in its line a block's data lies, and where the line goes on after it.

@@ -21,6 +21,14 @@ pub enum Call {
     Recover,
     Show,
     Sectors,
+    // The line that a backlog begins with, and an `end` where there is none to end.
+    Backlog,
+    End,
+    // Lines in a backlog: its commits, its end, and any that does not belong there.
+    BacklogWrite,
+    BacklogDrop,
+    BacklogEnd,
+    BacklogOther,
 }
 
 pub struct Request {
@@ -152,6 +160,17 @@ fn commit_named(word: &[u8]) -> Call {
     Call::Unknown
 }
 
+// The lines that a backlog stands between.
+fn bound_named(word: &[u8]) -> Call {
+    if tokens::is_word(word, b"backlog") {
+        return Call::Backlog;
+    }
+    if tokens::is_word(word, b"end") {
+        return Call::End;
+    }
+    Call::Unknown
+}
+
 // The others.
 fn other_named(word: &[u8]) -> Call {
     if tokens::is_word(word, b"read") {
@@ -169,7 +188,7 @@ fn other_named(word: &[u8]) -> Call {
     if tokens::is_word(word, b"sectors") {
         return Call::Sectors;
     }
-    Call::Unknown
+    bound_named(word)
 }
 
 // The call that a line asks for. A line whose first word begins with # is a comment.
@@ -189,6 +208,18 @@ pub fn call_of(line: &[u8]) -> Call {
     }
 }
 
+// What a line in a backlog is.
+pub fn call_in_backlog(line: &[u8]) -> Call {
+    let call = call_of(line);
+    match call {
+        Call::Nothing => Call::Nothing,
+        Call::Write => Call::BacklogWrite,
+        Call::Drop => Call::BacklogDrop,
+        Call::End => Call::BacklogEnd,
+        _ => Call::BacklogOther,
+    }
+}
+
 // How many numbers come after a call's name.
 fn wanted(call: Call) -> u32 {
     match call {
@@ -196,6 +227,8 @@ fn wanted(call: Call) -> u32 {
         Call::Write => 1,
         Call::Drop => 1,
         Call::Read => 1,
+        Call::BacklogWrite => 1,
+        Call::BacklogDrop => 1,
         _ => 0,
     }
 }
@@ -207,6 +240,7 @@ fn makes_stores(call: Call) -> bool {
         Call::Drop => true,
         Call::Park => true,
         Call::Recover => true,
+        Call::Backlog => true,
         _ => false,
     }
 }
@@ -231,7 +265,22 @@ fn takes_blocks(call: Call) -> bool {
     match call {
         Call::Write => true,
         Call::Drop => true,
+        Call::BacklogWrite => true,
+        Call::BacklogDrop => true,
         _ => false,
+    }
+}
+
+// A keyword that a call does not take. In a backlog the plug is the first line's.
+fn not_taken(call: Call, keyword: Keyword) -> Trouble {
+    match keyword {
+        Keyword::Stores => match call {
+            Call::BacklogWrite => Trouble::BacklogStores,
+            Call::BacklogDrop => Trouble::BacklogStores,
+            Call::BacklogEnd => Trouble::BacklogStores,
+            _ => Trouble::KeywordHere(keyword),
+        },
+        _ => Trouble::KeywordHere(keyword),
     }
 }
 
@@ -245,7 +294,7 @@ fn take_keyword(
     r: Request,
 ) -> Request {
     if !takes(call, keyword) {
-        return r.wrong(at, Trouble::KeywordHere(keyword));
+        return r.wrong(at, not_taken(call, keyword));
     }
     let given = r.keywords;
     if given.has(keyword) {
@@ -374,6 +423,8 @@ fn take_other(
     match call {
         Call::Write => take_write(line, at, r, blocks, bytes),
         Call::Drop => take_drop(word, at, end, r, blocks),
+        Call::BacklogWrite => take_write(line, at, r, blocks, bytes),
+        Call::BacklogDrop => take_drop(word, at, end, r, blocks),
         _ => r.wrong(at, Trouble::More),
     }
 }
@@ -436,11 +487,19 @@ fn whole(line: &[u8], call: Call, r: Request) -> Request {
     r
 }
 
+// A line whose first word is turned back.
+pub fn turned_back(line: &[u8], trouble: Trouble) -> Request {
+    let start = tokens::word_start(line, 0);
+    Request::fresh(start).wrong(start, trouble)
+}
+
 // What a line asks of a call. The blocks and their bytes go into the lists.
 pub fn request_of(line: &[u8], call: Call, blocks: &mut [u32], bytes: &mut [u8]) -> Request {
     let start = tokens::word_start(line, 0);
     match call {
-        Call::Unknown => Request::fresh(start).wrong(start, Trouble::Call),
+        Call::Unknown => turned_back(line, Trouble::Call),
+        Call::End => turned_back(line, Trouble::End),
+        Call::BacklogOther => turned_back(line, Trouble::BacklogLine),
         Call::Nothing => Request::fresh(start),
         _ => {
             let from = tokens::word_end(line, start);
@@ -448,4 +507,11 @@ pub fn request_of(line: &[u8], call: Call, blocks: &mut [u32], bytes: &mut [u8])
             whole(line, call, r)
         }
     }
+}
+
+// The same of a call that names no blocks.
+pub fn request_without_blocks(line: &[u8], call: Call) -> Request {
+    let mut blocks = [0u32; 1];
+    let mut bytes = [0u8; 1];
+    request_of(line, call, &mut blocks, &mut bytes)
 }

@@ -150,6 +150,7 @@ pub fn say_name(call: Call) {
         Call::Park => say(b"park"),
         Call::Recover => say(b"recover"),
         Call::Show => say(b"show"),
+        Call::Backlog => say(b"backlog"),
         _ => say(b"sectors"),
     }
 }
@@ -236,15 +237,29 @@ fn say_keyword_trouble(trouble: Trouble) {
     }
 }
 
+fn say_backlog_trouble(trouble: Trouble) {
+    match trouble {
+        Trouble::End => say(b"expected a line backlog before end"),
+        Trouble::BacklogLine => say(b"expected write, drop or end in a backlog"),
+        Trouble::BacklogStores => say(
+            b"expected no stores=, which stands after backlog for all its commits",
+        ),
+        Trouble::Commits => say(b"expected at most 40 commits in a backlog"),
+        _ => say_keyword_trouble(trouble),
+    }
+}
+
 fn say_call_trouble(trouble: Trouble) {
     match trouble {
-        Trouble::Call => say(b"expected format, write, drop, read, park, recover, show or sectors"),
+        Trouble::Call => say(
+            b"expected format, write, drop, read, park, recover, show, sectors or backlog",
+        ),
         Trouble::Volume => say(b"expected a format that is accepted first: there is no volume"),
         Trouble::Sectors => say(b"expected a volume of at most 4096 sectors: no more are held"),
         Trouble::Number => say(b"expected a number up to 4294967295"),
         Trouble::FewNumbers => say(b"expected another number"),
         Trouble::More => say(b"expected the end of the line"),
-        _ => say_keyword_trouble(trouble),
+        _ => say_backlog_trouble(trouble),
     }
 }
 
@@ -259,6 +274,10 @@ fn say_form(call: Call) {
         Call::Recover => say(b" (recover [track=T] [tracks=C] [switch=S] [stores=K])"),
         Call::Show => say(b" (show)"),
         Call::Sectors => say(b" (sectors)"),
+        Call::Backlog => say(b" (backlog [stores=K])"),
+        Call::BacklogWrite => say(b" (write HEAD B=DATA [B=DATA ..])"),
+        Call::BacklogDrop => say(b" (drop HEAD B [B ..])"),
+        Call::BacklogEnd => say(b" (end)"),
         _ => {}
     }
 }
@@ -314,4 +333,10 @@ pub fn say_long_line(number: u32, most: u64) {
 pub fn say_unreadable(number: u32) {
     say_count(b"line ", number);
     say(b": expected the rest of the paper, which cannot be read\n");
+}
+
+// A backlog that the paper does not end. The number is that of its first line.
+pub fn say_open_backlog(number: u32) {
+    say_count(b"line ", number);
+    say(b": expected end after the commits of this backlog, found the end of the paper\n");
 }

@@ -24,14 +24,11 @@ loop-holds c = search needs
 next-line-requires : tie.Need-next-line-requires Inv-loop μ-loop
 next-line-requires c κs = search needs
 
-answer-next-requires : tie.Need-answer-next-requires Inv-loop μ-loop
-answer-next-requires c κs = search needs
+answer-turn-requires : tie.Need-answer-turn-requires Inv-loop μ-loop
+answer-turn-requires c κs = search needs
 
 returns : tie.Need-returns Inv-loop μ-loop
 returns c = search needs
-
-passed-requires : tie.Need-passed-requires Inv-loop μ-loop
-passed-requires c κs = search needs
 
 sub-left : tie.Need-sub-left Inv-loop μ-loop
 sub-left c = search needs
@@ -55,9 +52,8 @@ answer-lines-spec =
     opened-requires-2
     loop-holds
     next-line-requires
-    answer-next-requires
+    answer-turn-requires
     returns
-    passed-requires
     sub-left
     loop-less
     loop-again
