@@ -97,6 +97,18 @@ int main(int argc, char **argv)
     s = told("read", vlog_read(s, IMAGE, TABLES, block[0], out, sizeof out), VLOG_ACCEPTED);
     printf("block %u: %s\n", (unsigned)block[0], (char *)out);
 
+    /* Two commits in one call: Bob's message in the next block, and Ann's, which is answered, dropped. */
+    uint32_t commits[] = {VLOG_WRITE, 12, 1, sizeof bytes, VLOG_DROP, 20, 1, 0};
+    uint32_t named[] = {8, 7};
+    uint32_t answers[2 * VLOG_ANSWER_WORDS];
+    vlog_batch_result b = vlog_batch(s, IMAGE, TABLES, commits, 8, named, 2, bytes, sizeof bytes, VLOG_NO_LIMIT, answers,
+                                     2 * VLOG_ANSWER_WORDS);
+    printf("batch    answers %u, %u of 2 commits answered: %u and %u; %u stores\n", (unsigned)b.answer,
+           (unsigned)b.answered, (unsigned)answers[0], (unsigned)answers[VLOG_ANSWER_WORDS], (unsigned)b.stores);
+    s = vlog_batch_state_of(b);
+    s = told("read", vlog_read(s, IMAGE, TABLES, 8, out, sizeof out), VLOG_ACCEPTED);
+    printf("block 8: %s\n", (char *)out);
+
     /* Parked before it is put away, the volume is found by a walk. */
     s = told("park", vlog_park(s, IMAGE, TABLES, VLOG_NO_LIMIT), VLOG_ACCEPTED);
     s = told("recover", vlog_recover(s, IMAGE, TABLES, settings, VLOG_NO_LIMIT), VLOG_ACCEPTED);

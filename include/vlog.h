@@ -58,16 +58,17 @@ enum {
     VLOG_CUT = 2      /* format and recover */
 };
 
-/* Answers. The first that applies is the one given, in this order: 1, 11, then 2 to 10. */
+/* Answers. The first that applies is the one given, in this order: 1, 11, 2, 12, then 3 to 10. */
 enum {
     VLOG_ACCEPTED = 0,
-    /* 1 to 7 and 11 change nothing: the state comes back as it was handed in, the image and the tables are as they
+    /* 1 to 7, 11 and 12 change nothing: the state comes back as it was handed in, the image and the tables are as they
      * were. */
     VLOG_SIZE = 1,            /* N, L or the image's length: not in the ranges above, or the image is not 512 * N bytes
                                  of the state's N (for format and recover: not whole sectors) */
     VLOG_WRONG_SETTINGS = 11, /* the settings, those given or, for the other calls, the state's: not in the ranges
                                  above, or the tracks do not hold N sectors */
     VLOG_BUFFER_LENGTH = 2,   /* a table, the bytes or the 512 bytes of a read have the wrong length */
+    VLOG_COMMIT_COUNT = 12,   /* a batch has no commit, or more than 32 */
     VLOG_BLOCK_NUMBERS = 3,   /* expected: 1 to 64 strictly ascending numbers below L, and a head below N; for a read,
                                  a number below L */
     VLOG_WRONG_PHASE = 4,     /* write, drop and park need running, read needs running or parked */
@@ -118,6 +119,23 @@ static inline vlog_state vlog_state_of(vlog_result r)
     return s;
 }
 
+/* What a batch hands back. Where it is refused as a whole, nothing changed: the counts are 0 and the state is as it
+ * came. */
+typedef struct {
+    uint32_t answer;   /* 0, or the refusal of the call as a whole: 1, 11, 2 or 12 */
+    uint32_t answered; /* commits that were answered, one that was turned back included */
+    uint32_t stores;   /* sectors stored by all of them, one that met 10 included, */
+    uint32_t skipped;  /* and the sum of the delays to these, in sector times */
+    uint32_t n, l, tail, number, phase, per_track, tracks, head_switch; /* the state to go on with */
+} vlog_batch_result;
+
+/* The state of a batch's result. */
+static inline vlog_state vlog_batch_state_of(vlog_batch_result r)
+{
+    vlog_state s = {r.n, r.l, r.tail, r.number, r.phase, r.per_track, r.tracks, r.head_switch};
+    return s;
+}
+
 /* Makes an empty volume of given.l blocks in the image, with N + P stores. */
 vlog_result vlog_format(vlog_state state,
                         uint8_t *image, size_t image_length,
@@ -153,6 +171,34 @@ vlog_result vlog_drop(vlog_state state,
                       uint32_t head,
                       const uint32_t *blocks, size_t blocks_length,
                       uint32_t allowance);
+
+/* A commit of a batch: its words, and its kinds. */
+enum { VLOG_COMMIT_WORDS = 4, VLOG_ANSWER_WORDS = 5 };
+enum { VLOG_WRITE = 0, VLOG_DROP = 1 };
+
+/* Makes 1 to 32 commits, writes and drops, one after the other, up to and including the first that is turned back; those
+ * before it stay. Each commit has VLOG_COMMIT_WORDS words: its kind, its head, how many block numbers are its own, and how
+ * many bytes. The block numbers of all of them stand one after the other in blocks, and the bytes in bytes. The allowance
+ * is for all of them together.
+ *
+ * As a whole it is refused with 2, besides, where commits_length is no multiple of 4, where the counts do not add up to
+ * blocks_length and bytes_length, or where answers_length is not 5 for each commit; and then with 12.
+ *
+ * Each commit is answered as the single call would answer it, in VLOG_ANSWER_WORDS words of answers: its answer, its
+ * stores, their delays, and tail and number of the state after it. A write whose bytes are not 512 for each block, or a
+ * drop that has any, is that commit's 2; a kind that is neither is its 3. The words past those of the answered commits
+ * stay as they came. The tables are looked at once, and not again for each commit. */
+vlog_batch_result vlog_batch(vlog_state state,
+                             uint8_t *image, size_t image_length,
+                             uint32_t *map, size_t map_length,
+                             uint32_t *places, size_t places_length,
+                             uint32_t *numbers, size_t numbers_length,
+                             uint8_t *used, size_t used_length,
+                             const uint32_t *commits, size_t commits_length,
+                             const uint32_t *blocks, size_t blocks_length,
+                             const uint8_t *bytes, size_t bytes_length,
+                             uint32_t allowance,
+                             uint32_t *answers, size_t answers_length);
 
 /* Fills out, 512 bytes, with a block. A block never written, or dropped, is zeros. The state comes back as it was handed
  * in, so that a caller that reads one block after another can go on with the state that it has. */
