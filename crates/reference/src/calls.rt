@@ -1,4 +1,4 @@
-// The six calls on the board.
+// The six single calls on the board.
 use crate::refusals;
 use reference_board::board;
 use reference_board::consistent;
@@ -209,7 +209,7 @@ fn refusal(b: &mut [u32; board::SIZE], call: u32) -> u32 {
     }
 }
 
-// Performs the call that stands on the board, and leaves its answer there.
+// Performs the single call that stands on the board, and leaves its answer there.
 pub fn perform(b: &mut [u32; board::SIZE]) {
     let call = board::get(b, board::CALL, 0);
     board::fill(b, board::ANSWER, board::ANSWER_WORDS, 0);

@@ -73,8 +73,8 @@ pub fn of_image(b: &[u32; board::SIZE]) -> u32 {
     0
 }
 
-// 1, 11 and 2 for the calls that go by the state.
-fn of_state(b: &[u32; board::SIZE], bytes: u64) -> u32 {
+// 1, 11 and 2 for the calls that go by the state, but for their own buffers.
+pub fn of_tables(b: &[u32; board::SIZE]) -> u32 {
     let n = board::get(b, board::STATE_N, 0);
     let l = board::get(b, board::STATE_L, 0);
     if !size_fits(n, l) {
@@ -88,6 +88,14 @@ fn of_state(b: &[u32; board::SIZE], bytes: u64) -> u32 {
     }
     if !tables_fit(b, n, l) {
         return 2;
+    }
+    0
+}
+
+fn of_state(b: &[u32; board::SIZE], bytes: u64) -> u32 {
+    let tables = of_tables(b);
+    if tables != 0 {
+        return tables;
     }
     if board::get(b, board::BYTES_LENGTH, 0) as u64 != bytes {
         return 2;

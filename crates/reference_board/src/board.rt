@@ -9,6 +9,8 @@ pub const L_MOST: u32 = 4800;
 pub const P_MOST: u32 = 64;
 // The blocks that a call may be lent.
 pub const COUNT_MOST: u32 = 80;
+// The commits that a batch may be lent: two more than it may have.
+pub const COMMITS_MOST: u32 = 34;
 
 // The state.
 pub const STATE_N: u32 = 0;
@@ -30,8 +32,10 @@ pub const SWITCH: u32 = 7;
 pub const SETTING_WORDS: u32 = 3;
 
 pub const STATE_WORDS: u32 = 8;
-// Which call: 0 format, 1 write, 2 drop, 3 read, 4 park, 5 recover.
+// Which call: 0 format, 1 write, 2 drop, 3 read, 4 park, 5 recover, and this one a batch.
 pub const CALL: u32 = 8;
+
+pub const BATCH: u32 = 6;
 // What a format or a recover is given: L, and the settings in the order of the state.
 pub const BLOCK_COUNT: u32 = 9;
 
@@ -86,12 +90,34 @@ pub const FOUND_TAIL: u32 = 32;
 pub const FOUND_NUMBER: u32 = 33;
 // Within a call, the stores listed so far that are not of zeros.
 pub const FILLED: u32 = 34;
+// The lengths lent to a batch: the words of its commits and of its answers, and of all commits the block numbers and the bytes.
+pub const COMMITS_LENGTH: u32 = 35;
+
+pub const ANSWERS_LENGTH: u32 = 36;
+
+pub const BACKLOG_COUNT: u32 = 37;
+
+pub const BACKLOG_BYTES: u32 = 38;
+// How many commits of a batch were answered.
+pub const COMMITS_ANSWERED: u32 = 39;
+// Within a batch, what its commits cost so far.
+pub const TOTAL_STORES: u32 = 40;
+
+pub const TOTAL_SKIPPED: u32 = 41;
 // The blocks that a call names; a read's is the first.
 pub const BLOCKS: u32 = 64;
+// The commits of a batch, four words each: kind (0 a write, 1 a drop), head, and how many block numbers and bytes are its own.
+pub const COMMITS: u32 = BLOCKS + COUNT_MOST;
+// Their answers, five words each: the answer, its stores, its delays, and the tail and the number after it.
+pub const ANSWERS: u32 = COMMITS + COMMITS_MOST * 4;
+// The block numbers of all commits, one after the other.
+pub const BACKLOG_BLOCKS: u32 = ANSWERS + COMMITS_MOST * 5;
 // The words of a write's blocks, 128 for each.
-pub const DATA: u32 = BLOCKS + COUNT_MOST;
+pub const DATA: u32 = BACKLOG_BLOCKS + COUNT_MOST;
+// The words of all writes of a batch, one after the other.
+pub const BACKLOG_DATA: u32 = DATA + COUNT_MOST * 128;
 // The words of a read.
-pub const OUT: u32 = DATA + COUNT_MOST * 128;
+pub const OUT: u32 = BACKLOG_DATA + COUNT_MOST * 128;
 // The tables lent.
 pub const LENT: u32 = OUT + 128;
 // Within tables: the map from 0 on, and these.
@@ -106,10 +132,10 @@ pub const USED_WORDS: u32 = N_MOST + 16;
 pub const TABLE_WORDS: u32 = USED + USED_WORDS;
 
 pub const IMAGE: u32 = LENT + TABLE_WORDS;
-// From here up to the next, the caller may keep words of its own: one a block, and 160.
+// From here up to the next, the caller may keep words of its own: one a block, and 256.
 pub const CALLER: u32 = IMAGE + N_MOST * 128;
 // The tables that a call makes, before it keeps them.
-pub const MADE: u32 = CALLER + 160 + L_MOST;
+pub const MADE: u32 = CALLER + 256 + L_MOST;
 // How often each sector is named.
 pub const TALLY: u32 = MADE + TABLE_WORDS;
 // Flags of a commit, for each piece: written, looked at, and reached or listed; and the branches that are listed.
@@ -179,6 +205,24 @@ pub fn word(board: &[u32; SIZE], from: u32, k: u32, i: u32) -> u32 {
 
 pub fn put_word(board: &mut [u32; SIZE], from: u32, k: u32, i: u32, x: u32) {
     put_at(board, from as usize + k as usize * 128 + i as usize, x);
+}
+
+// Word i of the k-th commit of a batch.
+pub fn commit_word(board: &[u32; SIZE], k: u32, i: u32) -> u32 {
+    get_at(board, COMMITS as usize + k as usize * 4 + i as usize)
+}
+
+pub fn put_commit_word(board: &mut [u32; SIZE], k: u32, i: u32, x: u32) {
+    put_at(board, COMMITS as usize + k as usize * 4 + i as usize, x);
+}
+
+// Word i of the k-th commit's answer.
+pub fn answer_word(board: &[u32; SIZE], k: u32, i: u32) -> u32 {
+    get_at(board, ANSWERS as usize + k as usize * 5 + i as usize)
+}
+
+pub fn put_answer_word(board: &mut [u32; SIZE], k: u32, i: u32, x: u32) {
+    put_at(board, ANSWERS as usize + k as usize * 5 + i as usize, x);
 }
 
 pub fn fill(board: &mut [u32; SIZE], from: u32, count: u32, x: u32) {

@@ -1,4 +1,5 @@
 // A call by both implementations: the code is lent what stands on the board, and what it leaves is compared.
+use crate::batches;
 use reference_board::board;
 use state::Outcome;
 use storing_calls::Storing;
@@ -84,8 +85,7 @@ fn lend(
     )
 }
 
-// Performs the call that stands on the board by both implementations, and says what differs afterwards.
-pub fn both(b: &mut [u32; board::SIZE]) -> u32 {
+fn single(b: &mut [u32; board::SIZE]) -> u32 {
     let mut image = [0u8; trial_lent::IMAGE_BYTES];
     let mut map = [0u32; trial_lent::MAP_WORDS];
     let mut places = [0u32; trial_lent::PIECES];
@@ -120,4 +120,12 @@ pub fn both(b: &mut [u32; board::SIZE]) -> u32 {
         trial_lent::answer_differs(done, b),
         trial_lent::memory_differs(b, &image, &map, &places, &numbers, &used, &bytes),
     )
+}
+
+// Performs the call that stands on the board by both implementations, and says what differs afterwards.
+pub fn both(b: &mut [u32; board::SIZE]) -> u32 {
+    if cells::get(b, board::CALL) == board::BATCH {
+        return batches::both(b);
+    }
+    single(b)
 }

@@ -63,13 +63,14 @@ pub fn recover_everywhere(b: &mut [u32; board::SIZE], spread: u32) {
     }
 }
 
-// The call cut after so many stores, and every recovery of what that leaves.
+// The call cut after so many stores, and every recovery of what that leaves. Of a batch the plain disk has what was accepted before.
 fn cut_once(b: &mut [u32; board::SIZE], stores: u32, spread: u32) {
     let mut c = [0u32; board::SIZE];
     cells::keep(&mut c, b);
     cells::set(&mut c, board::ALLOWED, stores);
     perform(&mut c);
     counts::hold_cut(&mut c, stores);
+    trial_disk::settle_call(&mut c);
     recover_everywhere(&mut c, spread);
     cells::carry(b, &c);
 }
@@ -84,10 +85,29 @@ fn stores_needed(b: &[u32; board::SIZE]) -> u32 {
 }
 
 // The call that stands on the board, cut at each of its stores.
-pub fn cut_everywhere(b: &mut [u32; board::SIZE], spread: u32) {
-    let needed = stores_needed(b);
+fn cut_at_each(b: &mut [u32; board::SIZE], needed: u32, spread: u32) {
     for k in 0..needed {
         cut_once(b, k, spread);
+    }
+}
+
+// The call with just the stores that it needs, and a recovery of what that leaves.
+fn make_just(b: &mut [u32; board::SIZE], needed: u32, spread: u32) {
+    let mut c = [0u32; board::SIZE];
+    cells::keep(&mut c, b);
+    cells::set(&mut c, board::ALLOWED, needed);
+    perform(&mut c);
+    trial_disk::settle_call(&mut c);
+    after(&mut c, spread);
+    cells::carry(b, &c);
+}
+
+// Every cut of the call that stands on the board. A batch is also made with just enough stores: its last commit has none left over.
+pub fn cut_everywhere(b: &mut [u32; board::SIZE], spread: u32) {
+    let needed = stores_needed(b);
+    cut_at_each(b, needed, spread);
+    if cells::get(b, board::CALL) == board::BATCH {
+        make_just(b, needed, spread);
     }
 }
 

@@ -1,5 +1,7 @@
 // Tries the code against the second implementation and the plain disk, on small volumes: the script on standard input, random histories with the
 // power cut at each store, damaged images and damaged memory. The numbers are the same in every run.
+mod backlogs;
+mod batches;
 mod both;
 mod cuts;
 mod damage;
@@ -9,7 +11,7 @@ mod script;
 
 use reference_board::board;
 use trial_board::stand::Volume;
-use trial_choice::choice;
+use trial_choice::commits;
 use trial_choice::settings;
 
 fn try_script() {
@@ -28,7 +30,7 @@ fn try_script() {
 // stores.
 fn try_volume(volume: Volume, written: u32, dropped: u32, spread: u32, calls: u32, often: u32) {
     let mut b = [0u32; board::SIZE];
-    choice::limit(&mut b, written, dropped);
+    commits::limit(&mut b, written, dropped);
     histories::run(&mut b, volume, spread, calls, often);
     trial_report::say_history(&b, volume);
 }
@@ -57,7 +59,7 @@ fn try_folds(l: u32, n: u32, spread: u32, calls: u32, often: u32) {
 // A drive of several tracks: every second recovery is given other settings, and every eighth that the history itself makes wrong ones.
 fn try_tracks(volume: Volume, written: u32, dropped: u32, spread: u32, calls: u32, often: u32) {
     let mut b = [0u32; board::SIZE];
-    choice::limit(&mut b, written, dropped);
+    commits::limit(&mut b, written, dropped);
     settings::vary(&mut b, volume);
     histories::run(&mut b, volume, spread, calls, often);
     trial_report::say_history(&b, volume);
@@ -66,7 +68,7 @@ fn try_tracks(volume: Volume, written: u32, dropped: u32, spread: u32, calls: u3
 // Damage in the image, or in memory, with so many blocks at most in a drop.
 fn try_damaged(image: bool, volume: Volume, dropped: u32, spread: u32, calls: u32) {
     let mut b = [0u32; board::SIZE];
-    choice::limit(&mut b, 3, dropped);
+    commits::limit(&mut b, 3, dropped);
     damage::run(&mut b, volume, spread, calls, image);
     trial_report::say_damage(&b, image, volume);
 }
@@ -80,9 +82,18 @@ fn try_damaged_folds(image: bool, l: u32, n: u32, spread: u32, calls: u32) {
     try_damaged(image, Volume::plain(l, n), 49, spread, calls);
 }
 
+// A volume whose numbers end soon, again and again.
+fn try_late(volume: Volume, spread: u32, times: u32, often: u32) {
+    let mut b = [0u32; board::SIZE];
+    commits::limit(&mut b, 4, 6);
+    histories::run_late(&mut b, volume, spread, times, often);
+    trial_report::say_late_history(&b, volume);
+}
+
 fn try_plugs() {
     let mut b = [0u32; board::SIZE];
     plugs::run(&mut b);
+    backlogs::run(&mut b);
 }
 
 fn main() {
@@ -121,9 +132,9 @@ fn main() {
     try_filling(4000, 1023, 3, 200, 30);
     try_filling(4000, 1024, 3, 200, 30);
     try_filling(4000, 1025, 3, 200, 30);
-    try_folds(4704, 1023, 96, 120, 80);
-    try_folds(4704, 1024, 96, 120, 80);
-    try_folds(4704, 1025, 96, 120, 80);
+    try_folds(4704, 1023, 96, 120, 90);
+    try_folds(4704, 1024, 96, 120, 90);
+    try_folds(4704, 1025, 96, 120, 90);
     // Several tracks: without a head switch, with one of a sector, of a revolution and more; tracks of one sector; long tracks, full ones
     // and folds.
     try_tracks(Volume::on(200, 12, 3, 0), 4, 6, 20, 600, 1);
@@ -138,6 +149,8 @@ fn main() {
     try_tracks(Volume::on(4704, 128, 8, 3), 3, 49, 96, 40, 6);
     try_tracks(Volume::on(4000, 1024, 32, 5), 64, 6, 3, 100, 40);
     try_tracks(Volume::on(4000, 1040, 13, 255), 64, 6, 3, 100, 40);
+    try_late(Volume::plain(200, 24), 20, 150, 3);
+    try_late(Volume::on(97, 24, 3, 2), 8, 100, 2);
     try_damage(true, 2, 4, 1, 2000);
     try_damage(true, 200, 12, 20, 3000);
     try_damage(true, 300, 63, 20, 400);

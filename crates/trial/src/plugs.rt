@@ -37,7 +37,7 @@ fn say_answer(b: &[u32; board::SIZE], stores: u32, needed: u32) {
     say::say_count(b" stores: answer ", cells::get(b, board::ANSWER));
 }
 
-fn say_recovery(b: &[u32; board::SIZE]) {
+pub fn say_recovery(b: &[u32; board::SIZE]) {
     if cells::get(b, board::WAY) == 1 {
         say::say(b". A recovery walks, ");
     } else {

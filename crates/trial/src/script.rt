@@ -12,7 +12,7 @@ use trial_script::parts;
 pub const MOST: usize = 65_536;
 
 fn perform(b: &mut [u32; board::SIZE], call: u32, argument: u32) {
-    trial_script::stand(b, call, argument);
+    trial_script::stand_call(b, call, argument);
     cuts::perform(b);
     trial_disk::settle_call(b);
     trial_script::clear(b);
@@ -28,7 +28,7 @@ fn carry_out_other(b: &mut [u32; board::SIZE], line: &[u8], kind: Kind) {
 
 fn carry_out(b: &mut [u32; board::SIZE], line: &[u8], kind: Kind) {
     let call = trial_script::call_of(kind);
-    if call > 5 {
+    if call > board::BATCH {
         carry_out_other(b, line, kind);
         return;
     }

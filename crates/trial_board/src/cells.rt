@@ -53,30 +53,42 @@ pub const ANSWERED: u32 = board::CALLER + 18;
 // Commits whose closing sector lies on another track than the head.
 pub const SWITCHES: u32 = board::CALLER + 36;
 
-pub const COUNT_WORDS: u32 = 33;
+// Batches, and how often each number was answered to their commits: to any, and to those that come after others. There is room for 0 to 12.
+pub const BATCHES: u32 = board::CALLER + 37;
+
+pub const COMMITS_ANSWERED: u32 = board::CALLER + 38;
+
+pub const LATER_ANSWERED: u32 = board::CALLER + 51;
+
+pub const COUNT_WORDS: u32 = 60;
 
 // The block that is named next.
-pub const CURSOR: u32 = board::CALLER + 37;
+pub const CURSOR: u32 = board::CALLER + 64;
 
 // Of a script: the bytes that a call is lent too many, and the line.
-pub const BYTES_MORE: u32 = board::CALLER + 38;
+pub const BYTES_MORE: u32 = board::CALLER + 65;
 
-pub const LINE: u32 = board::CALLER + 39;
+pub const LINE: u32 = board::CALLER + 66;
 
 // Whether recoveries are given other settings than the format, and of those that the format was given the tracks and the switch.
-pub const VARIED: u32 = board::CALLER + 40;
+pub const VARIED: u32 = board::CALLER + 67;
 
-pub const OWN_TRACKS: u32 = board::CALLER + 41;
+pub const OWN_TRACKS: u32 = board::CALLER + 68;
 
-pub const OWN_SWITCH: u32 = board::CALLER + 42;
+pub const OWN_SWITCH: u32 = board::CALLER + 69;
 
-// The seeds of the blocks of a write.
-pub const SEEDS: u32 = board::CALLER + 48;
+// The word from which the answers of a batch count up before it.
+pub const MARK: u32 = board::CALLER + 70;
+
+// The seeds of the blocks of a write, and of those of a backlog.
+pub const SEEDS: u32 = board::CALLER + 72;
+
+pub const BACKLOG_SEEDS: u32 = board::CALLER + 152;
 
 // The plain disk: a seed for each block.
-pub const DISK: u32 = board::CALLER + 160;
+pub const DISK: u32 = board::CALLER + 256;
 
-// What may differ, beside what the comparison of both finds (1 to 12).
+// What may differ, beside what the comparison of both finds (1 to 12, 17 and 18).
 pub const PLAIN_DISK: u32 = 13;
 
 pub const CUT_ANSWER: u32 = 14;
@@ -87,11 +99,6 @@ pub const SAMPLE: u32 = 16;
 
 pub fn get(b: &[u32; board::SIZE], cell: u32) -> u32 {
     board::get(b, cell, 0)
-}
-
-// How often a number was answered.
-pub fn answered(b: &[u32; board::SIZE], number: u32) -> u32 {
-    board::get(b, ANSWERED, number)
 }
 
 pub fn set(b: &mut [u32; board::SIZE], cell: u32, x: u32) {
@@ -145,10 +152,19 @@ pub fn image_words(b: &[u32; board::SIZE]) -> u32 {
     board::get(b, board::IMAGE_LENGTH, 0) / 512 * 128
 }
 
+// Words of a batch's bytes; none where the call is another.
+fn backlog_words(b: &[u32; board::SIZE]) -> u32 {
+    if get(b, board::CALL) == board::BATCH {
+        return get(b, board::BACKLOG_BYTES) / 4;
+    }
+    0
+}
+
 // Puts the volume, the call and the counts of one board on another, which was blank.
 pub fn keep(c: &mut [u32; board::SIZE], b: &[u32; board::SIZE]) {
     keep_words(c, b, 0, board::DATA);
     keep_words(c, b, board::DATA, get(b, board::BYTES_LENGTH) / 4);
+    keep_words(c, b, board::BACKLOG_DATA, backlog_words(b));
     keep_words(c, b, board::LENT, board::TABLE_WORDS);
     keep_words(c, b, board::IMAGE, image_words(b));
     keep_words(c, b, board::CALLER, DISK - board::CALLER);

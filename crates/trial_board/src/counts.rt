@@ -66,24 +66,61 @@ fn count_way(b: &mut [u32; board::SIZE]) {
     }
 }
 
+// One more of an answer, among the counts that begin at `counts`.
+fn count_one(b: &mut [u32; board::SIZE], counts: u32, answer: u32) {
+    let count = board::get(b, counts, answer);
+    board::put(b, counts, answer, board::plus(count, 1));
+}
+
+fn count_in_batch(b: &mut [u32; board::SIZE], i: u32) {
+    let answer = board::answer_word(b, i, 0);
+    count_one(b, cells::COMMITS_ANSWERED, answer);
+    if i > 0 {
+        count_one(b, cells::LATER_ANSWERED, answer);
+    }
+}
+
+// A batch, and each of its commits that was answered.
+fn count_batch(b: &mut [u32; board::SIZE]) {
+    let answered = cells::get(b, board::COMMITS_ANSWERED);
+    cells::add(b, cells::BATCHES, 1);
+    for i in 0..answered {
+        count_in_batch(b, i);
+    }
+}
+
 pub fn count_kind(b: &mut [u32; board::SIZE], call: u32) {
     match call {
         1 => count_commit(b),
         2 => count_commit(b),
         5 => count_way(b),
+        board::BATCH => count_batch(b),
         _ => {}
     }
 }
 
 pub fn count_answer(b: &mut [u32; board::SIZE]) {
     let answer = cells::get(b, board::ANSWER);
-    let count = board::get(b, cells::ANSWERED, answer);
-    board::put(b, cells::ANSWERED, answer, board::plus(count, 1));
+    count_one(b, cells::ANSWERED, answer);
+}
+
+// The last of the answers of a batch that was not refused as a whole.
+fn last_answer(b: &[u32; board::SIZE]) -> u32 {
+    let answered = cells::get(b, board::COMMITS_ANSWERED);
+    board::answer_word(b, board::minus(answered, 1), 0)
+}
+
+// What a call answered to its last commit, or as a whole.
+fn end_of(b: &[u32; board::SIZE]) -> u32 {
+    if cells::get(b, board::CALL) == board::BATCH {
+        return last_answer(b);
+    }
+    cells::get(b, board::ANSWER)
 }
 
 // Holds a cut call to its answer: 10, and exactly the stores allowed.
 pub fn hold_cut(b: &mut [u32; board::SIZE], stores: u32) {
-    let answered = cells::get(b, board::ANSWER) == 10;
+    let answered = end_of(b) == 10;
     let made = cells::get(b, board::STORES) == stores;
     cells::hold(b, answered, cells::CUT_ANSWER);
     cells::hold(b, made, cells::CUT_ANSWER);

@@ -72,3 +72,20 @@ pub fn stand_format(b: &mut [u32; board::SIZE], volume: Volume) {
     cells::set(b, board::BYTES_LENGTH, 0);
     cells::set(b, board::ALLOWED, ENOUGH);
 }
+
+fn raise_number(b: &mut [u32; board::SIZE], q: u32, more: u32) {
+    let k = board::get(b, board::LENT + board::PLACES, q);
+    let number = board::plus(board::get(b, board::LENT + board::NUMBERS, q), more);
+    board::put_word(b, board::IMAGE, k, 2, number);
+    cells::balance(b, k);
+    board::put(b, board::LENT + board::NUMBERS, q, number);
+}
+
+// A volume that was just formatted gets numbers that are greater by so much: in its live map sectors, in the tables and in the state.
+pub fn raise_numbers(b: &mut [u32; board::SIZE], more: u32) {
+    let p = board::pieces(cells::get(b, board::STATE_L));
+    cells::add(b, board::NUMBER, more);
+    for q in 0..p {
+        raise_number(b, q, more);
+    }
+}

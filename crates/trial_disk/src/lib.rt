@@ -66,9 +66,9 @@ pub fn name_block(b: &mut [u32; board::SIZE], block: u32, seed: u32) {
     cells::set(b, board::COUNT, board::plus(j, 1));
 }
 
-fn settle_block(b: &mut [u32; board::SIZE], j: u32, drops: bool) {
-    let block = board::get(b, board::BLOCKS, j);
-    let seed = board::get(b, cells::SEEDS, j);
+fn settle_block(b: &mut [u32; board::SIZE], blocks: u32, seeds: u32, j: u32, drops: bool) {
+    let block = board::get(b, blocks, j);
+    let seed = board::get(b, seeds, j);
     if drops {
         board::put(b, cells::DISK, block, 0);
     } else {
@@ -76,21 +76,59 @@ fn settle_block(b: &mut [u32; board::SIZE], j: u32, drops: bool) {
     }
 }
 
-fn settle_blocks(b: &mut [u32; board::SIZE], drops: bool) {
-    let count = cells::get(b, board::COUNT);
+// So many blocks of those that begin at `blocks`, with their seeds.
+fn settle_blocks(b: &mut [u32; board::SIZE], blocks: u32, seeds: u32, count: u32, drops: bool) {
     for j in 0..count {
-        settle_block(b, j, drops);
+        settle_block(b, blocks, seeds, j, drops);
     }
 }
 
-// What the plain disk sees of a call: an accepted write or drop. After a format it is zeros.
+fn settle_single(b: &mut [u32; board::SIZE], drops: bool) {
+    let count = cells::get(b, board::COUNT);
+    settle_blocks(b, board::BLOCKS, cells::SEEDS, count, drops);
+}
+
+// How many blocks the first so many commits of a backlog name.
+fn blocks_before(b: &[u32; board::SIZE], commits: u32) -> u32 {
+    let mut before = 0u32;
+    for i in 0..commits {
+        before = board::plus(before, board::commit_word(b, i, 2));
+    }
+    before
+}
+
+// A commit of a backlog, where it was accepted.
+fn settle_commit(b: &mut [u32; board::SIZE], i: u32) {
+    let before = blocks_before(b, i);
+    let count = board::commit_word(b, i, 2);
+    let drops = board::commit_word(b, i, 0) == 1;
+    if board::answer_word(b, i, 0) == 0 {
+        settle_blocks(
+            b,
+            board::plus(board::BACKLOG_BLOCKS, before),
+            board::plus(cells::BACKLOG_SEEDS, before),
+            count,
+            drops,
+        );
+    }
+}
+
+fn settle_batch(b: &mut [u32; board::SIZE]) {
+    let answered = cells::get(b, board::COMMITS_ANSWERED);
+    for i in 0..answered {
+        settle_commit(b, i);
+    }
+}
+
+// What the plain disk sees of a call: an accepted write or drop, and those of a batch one after the other. After a format it is zeros.
 fn settle(b: &mut [u32; board::SIZE]) {
     let call = cells::get(b, board::CALL);
     if cells::get(b, board::ANSWER) == 0 {
         match call {
             0 => board::fill(b, cells::DISK, board::L_MOST, 0),
-            1 => settle_blocks(b, false),
-            2 => settle_blocks(b, true),
+            1 => settle_single(b, false),
+            2 => settle_single(b, true),
+            board::BATCH => settle_batch(b),
             _ => {}
         }
     }

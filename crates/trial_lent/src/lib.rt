@@ -4,6 +4,7 @@ use geometry::Drive;
 use geometry::Geometry;
 use geometry::Settings;
 use reference_board::board;
+use state::BatchOutcome;
 use state::Outcome;
 use state::Phase;
 use state::State;
@@ -22,6 +23,11 @@ pub const USED_BYTES: usize = board::USED_WORDS as usize / 8;
 pub const BLOCKS: usize = board::COUNT_MOST as usize;
 
 pub const DATA_BYTES: usize = BLOCKS * 512;
+
+// And for a batch: the words of its commits and of its answers.
+pub const COMMIT_WORDS: usize = board::COMMITS_MOST as usize * 4;
+
+pub const ANSWER_WORDS: usize = board::COMMITS_MOST as usize * 5;
 
 fn phase_of(number: u32) -> Phase {
     match number {
@@ -110,18 +116,17 @@ fn is_byte(bytes: &[u8], at: usize, x: u8) -> bool {
     false
 }
 
+// Four bytes as a word, the lowest first.
+fn word_of(a: u8, b: u8, c: u8, d: u8) -> u32 {
+    a as u32 + b as u32 * 256 + c as u32 * 65536 + d as u32 * 16777216
+}
+
 fn is_word(bytes: &[u8], i: u32, x: u32) -> bool {
     let at = i as usize * 4;
-    if !is_byte(bytes, at, byte_of(x, 0)) {
-        return false;
+    if at + 3 < bytes.len() {
+        return word_of(bytes[at], bytes[at + 1], bytes[at + 2], bytes[at + 3]) == x;
     }
-    if !is_byte(bytes, at + 1, byte_of(x, 1)) {
-        return false;
-    }
-    if !is_byte(bytes, at + 2, byte_of(x, 2)) {
-        return false;
-    }
-    is_byte(bytes, at + 3, byte_of(x, 3))
+    false
 }
 
 fn same_bytes(bytes: &[u8], b: &[u32; board::SIZE], from: u32, count: u32) -> bool {
@@ -226,6 +231,12 @@ pub fn load_data(bytes: &mut [u8], b: &[u32; board::SIZE]) {
     }
 }
 
+// The bytes of a batch: whole words, and the rest of one.
+pub fn load_backlog(bytes: &mut [u8], b: &[u32; board::SIZE]) {
+    let words = board::get(b, board::BACKLOG_BYTES, 0) / 4;
+    load_bytes(bytes, b, board::BACKLOG_DATA, board::plus(words, 1));
+}
+
 fn same_out(bytes: &[u8], b: &[u32; board::SIZE]) -> bool {
     if board::get(b, board::CALL, 0) == 3 {
         return same_bytes(bytes, b, board::OUT, 128);
@@ -290,6 +301,33 @@ pub fn answer_differs(done: Outcome, b: &[u32; board::SIZE]) -> u32 {
     0
 }
 
+// The same of two batches: 1 the answer to the call as a whole, 2 the stores, 12 the sectors skipped, 17 how many commits were answered, 5 the
+// state, 18 the words of the answers; 0 nothing.
+pub fn batch_differs(done: BatchOutcome, b: &[u32; board::SIZE], answers: &[u32]) -> u32 {
+    let verdict = done.verdict;
+    if verdict.number() != board::get(b, board::ANSWER, 0) {
+        return 1;
+    }
+    let cost = done.cost;
+    if cost.stores != board::get(b, board::STORES, 0) {
+        return 2;
+    }
+    if cost.skipped != board::get(b, board::SKIPPED, 0) {
+        return 12;
+    }
+    if done.answered != board::get(b, board::COMMITS_ANSWERED, 0) {
+        return 17;
+    }
+    let state = done.state;
+    if !same_state(state, b) {
+        return 5;
+    }
+    if !same_words(answers, b, board::ANSWERS, board::COMMITS_MOST * 5) {
+        return 18;
+    }
+    0
+}
+
 // What differs between two tables: 7 the map, 8 the places, 9 the numbers, 10 the used map; 0 nothing.
 fn tables_differ(
     b: &[u32; board::SIZE],
@@ -315,7 +353,22 @@ fn tables_differ(
     0
 }
 
-// What differs between two memories: 6 the image, 11 the bytes of a read, or a table; 0 nothing.
+// What differs between two volumes in memory: 6 the image, or a table; 0 nothing.
+pub fn volume_differs(
+    b: &[u32; board::SIZE],
+    image: &[u8],
+    map: &[u32],
+    places: &[u32],
+    numbers: &[u32],
+    used: &[u8],
+) -> u32 {
+    if !same_bytes(image, b, board::IMAGE, cells::image_words(b)) {
+        return 6;
+    }
+    tables_differ(b, map, places, numbers, used)
+}
+
+// The same, and 11 the bytes of a read.
 pub fn memory_differs(
     b: &[u32; board::SIZE],
     image: &[u8],
@@ -325,13 +378,10 @@ pub fn memory_differs(
     used: &[u8],
     bytes: &[u8],
 ) -> u32 {
-    if !same_bytes(image, b, board::IMAGE, cells::image_words(b)) {
-        return 6;
-    }
     if !same_out(bytes, b) {
         return 11;
     }
-    tables_differ(b, map, places, numbers, used)
+    volume_differs(b, image, map, places, numbers, used)
 }
 
 // Where one of two comparisons found something.

@@ -14,7 +14,8 @@ fn say_call(call: u32) {
         2 => say::say(b"a drop"),
         3 => say::say(b"a read"),
         4 => say::say(b"a park"),
-        _ => say::say(b"a recover"),
+        5 => say::say(b"a recover"),
+        _ => say::say(b"a batch"),
     }
 }
 
@@ -35,6 +36,8 @@ fn say_what(what: u32) {
         13 => say::say(b"a block is not the plain disk's"),
         14 => say::say(b"a cut call did not make its stores and answer 10"),
         15 => say::say(b"a recovery was not accepted"),
+        17 => say::say(b"the counts of commits answered differ"),
+        18 => say::say(b"the answers to the commits of a batch differ"),
         _ => say::say(b"a fact of the script does not hold, or a line is not of a known form"),
     }
 }
@@ -60,20 +63,38 @@ fn say_differences(b: &[u32; board::SIZE]) {
     say::say(b"\n");
 }
 
-fn say_answered(b: &[u32; board::SIZE], number: u32) {
-    let count = cells::answered(b, number);
+fn say_answered(b: &[u32; board::SIZE], counts: u32, number: u32) {
+    let count = board::get(b, counts, number);
     if count > 0 {
         say::say_count(b", ", number);
         say::say_count(b" x ", count);
     }
 }
 
-// How often each number was answered.
-fn say_answers(b: &[u32; board::SIZE]) {
-    say::say_count(b" calls, answered 0 x ", cells::answered(b, 0));
-    for number in 1..18u32 {
-        say_answered(b, number);
+// How often each number below `most` was answered.
+fn say_numbers(b: &[u32; board::SIZE], counts: u32, most: u32) {
+    say::say_count(b" 0 x ", cells::get(b, counts));
+    for number in 1..most {
+        say_answered(b, counts, number);
     }
+}
+
+// The batches, and what their commits were answered.
+fn say_batches(b: &[u32; board::SIZE]) {
+    let batches = cells::get(b, cells::BATCHES);
+    if batches > 0 {
+        say::say_count(b"; ", batches);
+        say::say(b" batches, their commits answered");
+        say_numbers(b, cells::COMMITS_ANSWERED, 13);
+        say::say(b", those after others");
+        say_numbers(b, cells::LATER_ANSWERED, 13);
+    }
+}
+
+fn say_answers(b: &[u32; board::SIZE]) {
+    say::say(b" calls, answered");
+    say_numbers(b, cells::ANSWERED, 18);
+    say_batches(b);
 }
 
 // How many of something.
@@ -103,12 +124,15 @@ fn say_call_form(kind: Kind) {
         Kind::Blocks => say::say(b"blocks FIRST STEP COUNT"),
         Kind::Stores => say::say(b"stores K"),
         Kind::BytesMore => say::say(b"bytes-more K"),
+        Kind::Commit => say::say(b"commit KIND HEAD"),
+        Kind::Commits => say::say(b"commits KIND HEAD FIRST COUNT"),
         Kind::Format => say::say(b"format"),
         Kind::Write => say::say(b"write HEAD"),
         Kind::Drop => say::say(b"drop HEAD"),
         Kind::Read => say::say(b"read B"),
         Kind::Park => say::say(b"park"),
-        _ => say::say(b"recover"),
+        Kind::Recover => say::say(b"recover"),
+        _ => say::say(b"batch"),
     }
 }
 
@@ -116,6 +140,8 @@ fn say_call_form(kind: Kind) {
 fn say_form(kind: Kind) {
     match kind {
         Kind::Is => say::say(b"is NAME [INDEX] VALUE"),
+        Kind::Answers => say::say(b"answers K ANSWER STORES SKIPPED TAIL NUMBER"),
+        Kind::Untouched => say::say(b"untouched K"),
         Kind::Sector => say::say(b"sector K WORD VALUE"),
         Kind::Blank => say::say(b"blank K"),
         Kind::Shows => say::say(b"shows"),
@@ -145,9 +171,9 @@ fn say_found(word: &[u8], i: u32) {
 
 fn say_first_words() {
     say::say(
-        b"volume, drive, block, blocks, stores, bytes-more, format, write, drop, read, park, recover",
+        b"volume, drive, block, blocks, stores, bytes-more, commit, commits, format, write, drop, read, park, recover, batch",
     );
-    say::say(b", is, sector, blank, shows, rejects, set, put, balance or copy");
+    say::say(b", is, answers, untouched, sector, blank, shows, rejects, set, put, balance or copy");
 }
 
 fn say_wrong(word: &[u8], kind: Kind, wrong: Wrong) {
@@ -211,6 +237,16 @@ fn say_volume(family: &[u8], volume: Volume) {
 
 pub fn say_history(b: &[u32; board::SIZE], volume: Volume) {
     say_volume(b"histories", volume);
+    say_course(b);
+}
+
+// Histories of volumes whose numbers end soon.
+pub fn say_late_history(b: &[u32; board::SIZE], volume: Volume) {
+    say_volume(b"histories to the last number", volume);
+    say_course(b);
+}
+
+fn say_course(b: &[u32; board::SIZE]) {
     say::say_count(b": ", cells::get(b, cells::CALLS));
     say_answers(b);
     say::say_count(b"; ", cells::get(b, cells::CUTS));
@@ -246,6 +282,7 @@ pub fn say_damage(b: &[u32; board::SIZE], image: bool, volume: Volume) {
     }
     say::say_count(b": ", cells::get(b, cells::CALLS));
     say_answers(b);
-    say_some(b, cells::WALKS, b" walks");
+    say::say_count(b"; ", cells::get(b, cells::WALKS));
+    say::say(b" walks");
     say_differences(b);
 }

@@ -95,6 +95,29 @@ fn length_cell(name: &[u8]) -> u32 {
     if tokens::is_word(name, b"used-length") {
         return board::USED_LENGTH;
     }
+    backlog_cell(name)
+}
+
+// What a batch is lent: lengths, and where the words of its commits begin; and how many commits it answered.
+fn backlog_cell(name: &[u8]) -> u32 {
+    if tokens::is_word(name, b"commits-length") {
+        return board::COMMITS_LENGTH;
+    }
+    if tokens::is_word(name, b"answers-length") {
+        return board::ANSWERS_LENGTH;
+    }
+    if tokens::is_word(name, b"backlog-blocks") {
+        return board::BACKLOG_COUNT;
+    }
+    if tokens::is_word(name, b"backlog-bytes") {
+        return board::BACKLOG_BYTES;
+    }
+    if tokens::is_word(name, b"commit-word") {
+        return board::COMMITS;
+    }
+    if tokens::is_word(name, b"answered") {
+        return board::COMMITS_ANSWERED;
+    }
     table_cell(name)
 }
 

@@ -12,13 +12,18 @@ pub enum Kind {
     Blocks,
     Stores,
     BytesMore,
+    Commit,
+    Commits,
     Format,
     Write,
     Drop,
     Read,
     Park,
     Recover,
+    Batch,
     Is,
+    Answers,
+    Untouched,
     Sector,
     Blank,
     Shows,
@@ -67,6 +72,12 @@ fn argument_kind(first: &[u8]) -> Kind {
     if tokens::is_word(first, b"bytes-more") {
         return Kind::BytesMore;
     }
+    if tokens::is_word(first, b"commit") {
+        return Kind::Commit;
+    }
+    if tokens::is_word(first, b"commits") {
+        return Kind::Commits;
+    }
     call_kind(first)
 }
 
@@ -89,12 +100,21 @@ fn call_kind(first: &[u8]) -> Kind {
     if tokens::is_word(first, b"recover") {
         return Kind::Recover;
     }
+    if tokens::is_word(first, b"batch") {
+        return Kind::Batch;
+    }
     fact_kind(first)
 }
 
 fn fact_kind(first: &[u8]) -> Kind {
     if tokens::is_word(first, b"is") {
         return Kind::Is;
+    }
+    if tokens::is_word(first, b"answers") {
+        return Kind::Answers;
+    }
+    if tokens::is_word(first, b"untouched") {
+        return Kind::Untouched;
     }
     if tokens::is_word(first, b"sector") {
         return Kind::Sector;
@@ -146,13 +166,18 @@ fn form_of(kind: Kind) -> Form {
         Kind::Blocks => numbers(3),
         Kind::Stores => numbers(1),
         Kind::BytesMore => numbers(1),
+        Kind::Commit => numbers(2),
+        Kind::Commits => numbers(4),
         Kind::Format => numbers(0),
         Kind::Write => numbers(1),
         Kind::Drop => numbers(1),
         Kind::Read => numbers(1),
         Kind::Park => numbers(0),
         Kind::Recover => numbers(0),
+        Kind::Batch => numbers(0),
         Kind::Is => Form::Named { least: 1, most: 2 },
+        Kind::Answers => numbers(6),
+        Kind::Untouched => numbers(1),
         Kind::Sector => numbers(3),
         Kind::Blank => numbers(1),
         Kind::Shows => numbers(0),

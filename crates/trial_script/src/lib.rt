@@ -5,6 +5,7 @@ pub mod parts;
 
 use form::Kind;
 use reference_board::board;
+use trial_board::backlog;
 use trial_board::cells;
 use trial_board::stand;
 use trial_board::stand::Volume;
@@ -34,6 +35,27 @@ fn hold_sector(b: &mut [u32; board::SIZE], line: &[u8]) {
         parts::number(line, 2),
     );
     hold_fact(b, x == parts::number(line, 3));
+}
+
+fn is_answer(b: &[u32; board::SIZE], line: &[u8], k: u32) -> bool {
+    for i in 0..5u32 {
+        if board::answer_word(b, k, i) != parts::number(line, board::plus(i, 2)) {
+            return false;
+        }
+    }
+    true
+}
+
+// answers K ANSWER STORES SKIPPED TAIL NUMBER: the words that answer commit K, from 0, of a batch.
+fn hold_answers(b: &mut [u32; board::SIZE], line: &[u8]) {
+    let holds = is_answer(b, line, parts::number(line, 1));
+    hold_fact(b, holds);
+}
+
+// untouched K: those words are as they came.
+fn hold_untouched(b: &mut [u32; board::SIZE], line: &[u8]) {
+    let holds = backlog::is_untouched(b, parts::number(line, 1));
+    hold_fact(b, holds);
 }
 
 // blank K: a sector of zeros.
@@ -103,7 +125,46 @@ fn name_several(b: &mut [u32; board::SIZE], line: &[u8]) {
     );
 }
 
-// The number of a call; 6 where the line is none.
+// The single call of a commit's kind. What is no write has no bytes.
+fn single_of(kind: u32) -> u32 {
+    if kind == 0 {
+        return 1;
+    }
+    2
+}
+
+// commit KIND HEAD: one more of a backlog, with the blocks named since the last.
+fn add_commit(b: &mut [u32; board::SIZE], kind: u32, head: u32) {
+    stand(b, single_of(kind), head);
+    backlog::add(b, kind);
+    cells::set(b, board::COUNT, 0);
+    cells::set(b, cells::BYTES_MORE, 0);
+}
+
+fn add_next(b: &mut [u32; board::SIZE], kind: u32, head: u32) {
+    name_next(b, 1);
+    add_commit(b, kind, head);
+}
+
+fn add_more(b: &mut [u32; board::SIZE], kind: u32, head: u32, first: u32, count: u32) {
+    cells::set(b, cells::CURSOR, first);
+    for i in 0..count {
+        add_next(b, kind, head);
+    }
+}
+
+// commits KIND HEAD FIRST COUNT: so many, of one block each.
+fn add_several(b: &mut [u32; board::SIZE], line: &[u8]) {
+    add_more(
+        b,
+        parts::number(line, 1),
+        parts::number(line, 2),
+        parts::number(line, 3),
+        parts::number(line, 4),
+    );
+}
+
+// The number of a call; 7 where the line is none.
 pub fn call_of(kind: Kind) -> u32 {
     match kind {
         Kind::Format => 0,
@@ -112,7 +173,8 @@ pub fn call_of(kind: Kind) -> u32 {
         Kind::Read => 3,
         Kind::Park => 4,
         Kind::Recover => 5,
-        _ => 6,
+        Kind::Batch => board::BATCH,
+        _ => 7,
     }
 }
 
@@ -125,7 +187,8 @@ fn bytes_of(b: &[u32; board::SIZE], call: u32) -> u32 {
     }
 }
 
-pub fn stand(b: &mut [u32; board::SIZE], call: u32, argument: u32) {
+// The single call that a line is, or the commit of a backlog.
+fn stand(b: &mut [u32; board::SIZE], call: u32, argument: u32) {
     let bytes = board::plus(bytes_of(b, call), cells::get(b, cells::BYTES_MORE));
     cells::set(b, board::CALL, call);
     cells::set(b, board::BYTES_LENGTH, bytes);
@@ -136,8 +199,18 @@ pub fn stand(b: &mut [u32; board::SIZE], call: u32, argument: u32) {
     }
 }
 
-// The next call names its blocks anew, and has enough stores.
+// The call that a line is.
+pub fn stand_call(b: &mut [u32; board::SIZE], call: u32, argument: u32) {
+    if call == board::BATCH {
+        backlog::stand(b, 3_000_000_000);
+    } else {
+        stand(b, call, argument);
+    }
+}
+
+// The next call names its blocks and its commits anew, and has enough stores.
 pub fn clear(b: &mut [u32; board::SIZE]) {
+    backlog::clear(b);
     cells::set(b, board::COUNT, 0);
     cells::set(b, cells::BYTES_MORE, 0);
     cells::set(b, board::ALLOWED, stand::ENOUGH);
@@ -158,6 +231,8 @@ fn change(b: &mut [u32; board::SIZE], line: &[u8], kind: Kind) {
 fn hold(b: &mut [u32; board::SIZE], line: &[u8], kind: Kind) {
     match kind {
         Kind::Is => hold_is(b, line),
+        Kind::Answers => hold_answers(b, line),
+        Kind::Untouched => hold_untouched(b, line),
         Kind::Sector => hold_sector(b, line),
         Kind::Blank => hold_blank(b, line),
         Kind::Rejects => hold_rejects(b, line),
@@ -190,6 +265,8 @@ pub fn carry_out(b: &mut [u32; board::SIZE], line: &[u8], kind: Kind) {
         Kind::Blocks => name_several(b, line),
         Kind::Stores => cells::set(b, board::ALLOWED, parts::number(line, 1)),
         Kind::BytesMore => cells::set(b, cells::BYTES_MORE, parts::number(line, 1)),
+        Kind::Commit => add_commit(b, parts::number(line, 1), parts::number(line, 2)),
+        Kind::Commits => add_several(b, line),
         _ => hold(b, line, kind),
     }
 }

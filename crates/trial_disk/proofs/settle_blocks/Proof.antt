@@ -4,13 +4,10 @@ use Rattle.trial_disk.proofs.settle_blocks.Statement.{statement}
 use Rattle.trial_disk.proofs.settle_blocks.Tie as tie
 
 abbrev Inv-loop : tie.InvT-loop
-Inv-loop b₀ drops count j₀ b j = Unit {0}
+Inv-loop b₀ blocks seeds count drops j₀ b j = Unit {0}
 
 abbrev μ-loop : tie.MeasureT-loop
-μ-loop b₀ drops count j₀ b j = count - j
-
-get-requires : tie.Need-get-requires Inv-loop μ-loop
-get-requires c κs = search needs
+μ-loop b₀ blocks seeds count drops j₀ b j = count - j
 
 loop-holds : tie.Need-loop-holds Inv-loop μ-loop
 loop-holds c = search needs
@@ -36,7 +33,6 @@ settle-blocks-spec =
     (tie.spec
     Inv-loop
     μ-loop
-    get-requires
     loop-holds
     settle-block-requires
     add-j

@@ -1,19 +1,22 @@
 use Prim.Native.Nat.{_-_}
 use borrow.Author.Needs.{needs}
-use Rattle.trial_choice.proofs.choice.choose_more.Statement.{statement}
-use Rattle.trial_choice.proofs.choice.choose_more.Tie as tie
+use Rattle.trial_disk.proofs.settle_batch.Statement.{statement}
+use Rattle.trial_disk.proofs.settle_batch.Tie as tie
 
 abbrev Inv-loop : tie.InvT-loop
-Inv-loop b₀ count step i₀ b i = Unit {0}
+Inv-loop b₀ answered i₀ b i = Unit {0}
 
 abbrev μ-loop : tie.MeasureT-loop
-μ-loop b₀ count step i₀ b i = count - i
+μ-loop b₀ answered i₀ b i = answered - i
+
+get-requires : tie.Need-get-requires Inv-loop μ-loop
+get-requires c κs = search needs
 
 loop-holds : tie.Need-loop-holds Inv-loop μ-loop
 loop-holds c = search needs
 
-choose-block-requires : tie.Need-choose-block-requires Inv-loop μ-loop
-choose-block-requires c κs = search needs
+settle-commit-requires : tie.Need-settle-commit-requires Inv-loop μ-loop
+settle-commit-requires c κs = search needs
 
 add-i : tie.Need-add-i Inv-loop μ-loop
 add-i c = search needs
@@ -27,14 +30,15 @@ loop-again c = search needs
 returns : tie.Need-returns Inv-loop μ-loop
 returns c = search needs
 
-pub choose-more-spec : {M : Type 1} → statement M
-choose-more-spec =
+pub settle-batch-spec : {M : Type 1} → statement M
+settle-batch-spec =
     tie.close
     (tie.spec
     Inv-loop
     μ-loop
+    get-requires
     loop-holds
-    choose-block-requires
+    settle-commit-requires
     add-i
     loop-less
     loop-again

@@ -1,19 +1,19 @@
 use Prim.Native.Nat.{_-_}
 use borrow.Author.Needs.{needs}
-use Rattle.trial_report.proofs.say_answers.Statement.{statement}
-use Rattle.trial_report.proofs.say_answers.Tie as tie
+use Rattle.trial_report.proofs.say_numbers.Statement.{statement}
+use Rattle.trial_report.proofs.say_numbers.Tie as tie
 
 abbrev Inv-loop : tie.InvT-loop
-Inv-loop b number₀ number = Unit {0}
+Inv-loop b counts most number₀ number = Unit {0}
 
 abbrev μ-loop : tie.MeasureT-loop
-μ-loop b number₀ number = 18 - number
+μ-loop b counts most number₀ number = most - number
 
 slice-aggregate-say-count : tie.Need-slice-aggregate-say-count Inv-loop μ-loop
 slice-aggregate-say-count c = search needs
 
-answered-requires : tie.Need-answered-requires Inv-loop μ-loop
-answered-requires c κs = search needs
+get-requires : tie.Need-get-requires Inv-loop μ-loop
+get-requires c κs = search needs
 
 say-count-requires : tie.Need-say-count-requires Inv-loop μ-loop
 say-count-requires c κs = search needs
@@ -36,14 +36,14 @@ loop-again c = search needs
 returns : tie.Need-returns Inv-loop μ-loop
 returns c = search needs
 
-pub say-answers-spec : {M : Type 1} → statement M
-say-answers-spec =
+pub say-numbers-spec : {M : Type 1} → statement M
+say-numbers-spec =
     tie.close
     (tie.spec
     Inv-loop
     μ-loop
     slice-aggregate-say-count
-    answered-requires
+    get-requires
     say-count-requires
     loop-holds
     say-answered-requires

@@ -1,7 +1,7 @@
 use Prim.Native.Nat.{_-_}
 use borrow.Author.Needs.{needs}
-use Rattle.trial_choice.proofs.choice.choose_row.Statement.{statement}
-use Rattle.trial_choice.proofs.choice.choose_row.Tie as tie
+use Rattle.trial_choice.proofs.commits.choose_row.Statement.{statement}
+use Rattle.trial_choice.proofs.commits.choose_row.Tie as tie
 
 abbrev Inv-loop : tie.InvT-loop
 Inv-loop b₀ first count step i₀ b i = Unit {0}

@@ -1,16 +1,13 @@
 use Prim.Native.Nat.{_-_}
 use borrow.Author.Needs.{needs}
-use Rattle.trial.proofs.cuts.cut_everywhere.Statement.{statement}
-use Rattle.trial.proofs.cuts.cut_everywhere.Tie as tie
+use Rattle.trial.proofs.cuts.cut_at_each.Statement.{statement}
+use Rattle.trial.proofs.cuts.cut_at_each.Tie as tie
 
 abbrev Inv-loop : tie.InvT-loop
-Inv-loop b₀ spread needed k₀ b k = Unit {0}
+Inv-loop b₀ needed spread k₀ b k = Unit {0}
 
 abbrev μ-loop : tie.MeasureT-loop
-μ-loop b₀ spread needed k₀ b k = needed - k
-
-stores-needed-requires : tie.Need-stores-needed-requires Inv-loop μ-loop
-stores-needed-requires c κs = search needs
+μ-loop b₀ needed spread k₀ b k = needed - k
 
 loop-holds : tie.Need-loop-holds Inv-loop μ-loop
 loop-holds c = search needs
@@ -30,13 +27,12 @@ loop-again c = search needs
 returns : tie.Need-returns Inv-loop μ-loop
 returns c = search needs
 
-pub cut-everywhere-spec : {M : Type 1} → statement M
-cut-everywhere-spec =
+pub cut-at-each-spec : {M : Type 1} → statement M
+cut-at-each-spec =
     tie.close
     (tie.spec
     Inv-loop
     μ-loop
-    stores-needed-requires
     loop-holds
     cut-once-requires
     add-k

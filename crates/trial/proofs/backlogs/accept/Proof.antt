@@ -1,0 +1,41 @@
+use Prim.Native.Nat.{_-_}
+use borrow.Author.Needs.{needs}
+use Rattle.trial.proofs.backlogs.accept.Statement.{statement}
+use Rattle.trial.proofs.backlogs.accept.Tie as tie
+
+abbrev Inv-loop : tie.InvT-loop
+Inv-loop b₀ commits i₀ b i = Unit {0}
+
+abbrev μ-loop : tie.MeasureT-loop
+μ-loop b₀ commits i₀ b i = commits - i
+
+loop-holds : tie.Need-loop-holds Inv-loop μ-loop
+loop-holds c = search needs
+
+put-answer-word-requires : tie.Need-put-answer-word-requires Inv-loop μ-loop
+put-answer-word-requires c κs = search needs
+
+add-i : tie.Need-add-i Inv-loop μ-loop
+add-i c = search needs
+
+loop-less : tie.Need-loop-less Inv-loop μ-loop
+loop-less c = search needs
+
+loop-again : tie.Need-loop-again Inv-loop μ-loop
+loop-again c = search needs
+
+returns : tie.Need-returns Inv-loop μ-loop
+returns c = search needs
+
+pub accept-spec : {M : Type 1} → statement M
+accept-spec =
+    tie.close
+    (tie.spec
+    Inv-loop
+    μ-loop
+    loop-holds
+    put-answer-word-requires
+    add-i
+    loop-less
+    loop-again
+    returns)
