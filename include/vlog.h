@@ -21,7 +21,7 @@
  *
  * Whatever these hold, a call returns and touches nothing else. Each pointer must be valid for its length and aligned
  * for its type, and nothing lent for writing may overlap anything else that is lent. With a length of 0 a pointer may be
- * null: nothing is looked at there, and no call accepts an empty buffer.
+ * null: nothing is looked at there. No call accepts an empty buffer but a batch of drops, which has no bytes.
  *
  * A caller hands each call the state, and goes on with the state in the result. A state for the first format or recover
  * may hold anything: those two look at nothing in it.
