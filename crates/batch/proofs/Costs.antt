@@ -1,26 +1,24 @@
 -- What a commit costs at most: as many stores as it is allowed, and a delay of less than 65,791 for each of at most 320.
-use Prim.Native.Nat.{ℕ, zero, suc, _+_, _*_, _≤_, _<_}
-use mathlib.Core.Path.{_≡_, refl, sym, _∙_, ap, subst}
+use Prim.Native.Nat.{ℕ, zero, suc, _*_, _≤_, _<_}
+use mathlib.Core.Path.{_≡_, sym, subst}
 use mathlib.Core.Logic.{⊎-elim}
-use mathlib.Core.Bool.{Bool, true, false, cond, _||_}
-use mathlib.Core.List.{List}
+use mathlib.Core.Bool.{Bool, true, false}
 use native.Mathlib.Omega.{arith}
 use lib.ListN.{length, length-append}
-use lib.Dec.{eqb, ltb}
+use lib.Dec.{eqb}
 use Rattle.geometry.specs.declared.Drive.{Drive}
 use Rattle.geometry.specs.Geometry.{sectorBytes, piecesFor, geometryFits}
 use Rattle.state.specs.declared.State.{State}
-use Rattle.answer.specs.declared.Verdict.{Verdict}
-use Rattle.answer.specs.declared.Verdict.the-variants.{Pass, Refuse}
+use Rattle.answer.specs.declared.Verdict.the-variants.{Pass}
 use Rattle.answer.specs.Answer.{costOf}
-use Rattle.layout.specs.Bounded.{always, countBelow, isZero}
+use Rattle.layout.specs.Bounded.{always}
 use Rattle.tracks.specs.Placing.{leastDelay, placedUpTo, skippedBy}
 use Rattle.volume.specs.Tables.{Memory}
 use Rattle.volume.specs.Refusals.{judged}
 use Rattle.volume.specs.Store.{After, Action, performed, storesBelow}
 use Rattle.volume.specs.Rules.{base}
 use Rattle.volume.specs.Commit.{Change, Plan, planned, dataStore, memberStore, commitStores, planAction, commitAction}
-use Rattle.volume.specs.Calls.{viewOf, stateFits, commitChecks, commitOf, writeChange, dropChange, roomFor, writeBy}
+use Rattle.volume.specs.Calls.{viewOf, stateFits, commitChecks, commitOf, writeChange, dropChange, writeBy}
 use Rattle.batches.specs.Batch.{Commit, commitMade}
 use Rattle.laws.proofs.Bounded.{lt?, bool?, and-r, count-le}
 use Rattle.laws.proofs.Delays.{DriveFits, drive-fits, delay-short}

@@ -1,25 +1,22 @@
 -- How far a batch has come: what its commits answered so far, and that the rest of them, from here, make up the whole.
-use Prim.Native.Nat.{ℕ, zero, suc, _+_, _*_, _-_, _^_, _≤_, _<_}
+use Prim.Native.Nat.{ℕ, suc, _+_, _*_, _-_, _≤_, _<_}
 use mathlib.Core.Path.{_≡_, refl, sym, _∙_, ap, subst}
-use mathlib.Core.Logic.{⊎-elim}
-use mathlib.Core.Bool.{Bool, true, false, cond, true≢false}
+use mathlib.Core.Bool.{true, false, cond, true≢false}
 use mathlib.Core.List.{List, [], _∷_, _++_, append-assoc, append-nil}
 use native.Mathlib.Numerals.{add-one}
 use native.Mathlib.Omega.{arith}
 use lib.ListN.{length, take, drop, length-append}
-use lib.Dec.{eqb, ltb}
+use lib.Dec.{ltb}
 use borrow.Author.Tests.{eq-eqb, ne-eqb}
 use Rattle.state.specs.declared.State.{State}
 use Rattle.state.specs.declared.Outcome.{Outcome}
-use Rattle.answer.specs.declared.Cost.{Cost}
 use Rattle.answer.specs.declared.Verdict.the-variants.{Pass}
-use Rattle.answer.specs.Answer.{numberOf, costOf, storesAlone}
+use Rattle.answer.specs.Answer.{numberOf, costOf}
 use Rattle.layout.specs.Bounded.{isZero, sumBelow, listFrom}
 use Rattle.volume.specs.Tables.{Memory}
 use Rattle.volume.specs.Store.{After, after}
 use Rattle.volume.specs.Rules.{base}
-use Rattle.volume.specs.Calls.{tablesAgree}
-use Rattle.batches.specs.Batch.{Commit, commitMade, Answered, answeredFirst, commitsMade, totalCost, commitsLent, blocksOf, bytesOf, commitAt, commitsIn, answerOf, answersWith, BatchAfter, batchDone}
+use Rattle.batches.specs.Batch.{Commit, commitMade, Answered, answeredFirst, commitsMade, totalCost, commitsLent, blocksOf, bytesOf, commitAt, commitsIn, answerOf, answersWith, batchDone}
 use Rattle.verdict.specs.Known.{KnownAgreed}
 use Rattle.batch.specs.Batch.{batchLeft}
 use Rattle.batch.proofs.Costs.{Few, made-few}

@@ -1,12 +1,11 @@
 -- What a batch hands back and leaves, as one value; and what is lent to one that no refusal stops.
-use Prim.Native.Nat.{ℕ, _*_, _%_, _≤_}
+use Prim.Native.Nat.{ℕ, _*_, _≤_}
 use mathlib.Core.Path.{_≡_}
 use mathlib.Core.List.{List}
-use lib.ListN.{length}
 use Rattle.state.specs.declared.BatchOutcome.{BatchOutcome}
 use Rattle.layout.specs.Bounded.{sumBelow}
 use Rattle.volume.specs.Tables.{Memory}
-use Rattle.batches.specs.Batch.{BatchAfter, batchCommits, commitWords, answerWords, commitsLent, blocksOf, bytesOf}
+use Rattle.batches.specs.Batch.{BatchAfter, batchCommits, answerWords, commitsLent, blocksOf, bytesOf}
 
 abbrev pub batchLeft : BatchOutcome → Memory → List ℕ → BatchAfter
 batchLeft outcome memory answers = record { outcome = outcome; memory = memory; answers = answers }

@@ -2,13 +2,13 @@
 use Prim.Native.Nat.{ℕ, zero, suc, _+_, _*_, _/_, _%_, _≤_, _<_}
 use mathlib.Core.Path.{_≡_, refl, sym, _∙_}
 use mathlib.Core.Logic.{⊎-elim}
-use mathlib.Core.Bool.{Bool, true, false, cond, not, _&&_}
+use mathlib.Core.Bool.{Bool, true, false, cond, not}
 use mathlib.Core.List.{List}
-use native.Mathlib.Nat.{div-add-mod, not-suc-le-zero}
+use native.Mathlib.Nat.{div-add-mod}
 use native.Mathlib.Numerals.{add-one}
 use native.Mathlib.Omega.{arith}
 use lib.ListN.{length}
-use lib.Dec.{eqb, leb}
+use lib.Dec.{eqb}
 use borrow.Author.Tests.{eq-eqb, ne-eqb, le-leb, lt-leb, not-true, not-false}
 use Rattle.geometry.specs.Geometry.{within}
 use Rattle.state.specs.declared.State.{State}
@@ -17,7 +17,7 @@ use Rattle.answer.specs.declared.Refusal.the-variants.{CommitCount}
 use Rattle.answer.specs.declared.Verdict.{Verdict}
 use Rattle.answer.specs.declared.Verdict.the-variants.{Pass, Refuse}
 use Rattle.answer.specs.Answer.{lengths}
-use Rattle.layout.specs.Bounded.{sumBelow, isZero}
+use Rattle.layout.specs.Bounded.{sumBelow}
 use Rattle.volume.specs.Refusals.{applies, firstOf, judged}
 use Rattle.volume.specs.Calls.{stateChecks}
 use Rattle.batches.specs.Batch.{batchFits, batchChecks, commitsLent, blocksOf, bytesOf}

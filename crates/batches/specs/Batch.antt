@@ -1,5 +1,5 @@
 -- Document 02, point 3, "A morning's backlog in one call": a batch of commits.
-use Prim.Native.Nat.{ℕ, suc, _+_, _*_, _-_, _/_, _%_}
+use Prim.Native.Nat.{ℕ, _+_, _*_, _-_, _/_, _%_}
 use mathlib.Core.Bool.{Bool, true, cond, not, _&&_}
 use mathlib.Core.List.{List, [], _∷_, _++_}
 use lib.ListN.{length, take, drop}
@@ -31,7 +31,7 @@ pub record Commit : Type 0 where
   pub blocks : List ℕ
   pub bytes : List ℕ
 
--- One commit, as it is made singly. A drop has no bytes; what is neither a write nor a drop names no blocks that it could be.
+-- One commit, as it is made singly. A drop has no bytes; a kind that is neither is refused as wrong block numbers are.
 unfoldable pub commitMade : Rules → State → Memory → Commit → ℕ → After
 commitMade rules s m c allowance =
     let write = writeBy rules s m (c .head) (c .blocks) (c .bytes) allowance in

@@ -19,7 +19,7 @@ use Rattle.volume.specs.Store.{after}
 use Rattle.volume.specs.Format.{formatOf}
 use Rattle.volume.specs.Calls.{writeOf, dropOf, readOf, parkOf}
 use Rattle.volume.specs.Recover.{recoverOf}
-use Rattle.batches.specs.Batch.{answerWords, BatchAfter, batchOf}
+use Rattle.batches.specs.Batch.{answerWords, batchOf}
 use Rattle.history.specs.History.{Call, write, drop, batch, read, park, recover, wholeOutcome, Disk, diskAfter, Marked, CommitKept, recoveryStores}
 
 -- The buffers that are lent to every call.

@@ -1,5 +1,5 @@
 -- The commit that is lent there, and the words of its answer.
-use mathlib.Core.Path.{refl, _∙_}
+use mathlib.Core.Path.{refl}
 use Rattle.batch.proofs.Commits.{made-at}
 use borrow.Author.Needs.{needs}
 use Rattle.batch.proofs.answer_commit.Statement.{statement}
@@ -102,9 +102,11 @@ same-length-6 c = search needs
 
 returns : tie.Need-returns
 returns c =
-    let the-make-commit = c .before .before .before .before .before .before .before .before .before .before .before .before .before .before .make-commit in
-    let a = c .before .before .before .before .before .before .before .before .before .before .before .before .before .before .before .before .before .before .before .before .before .before .before .before .before .before .before .before .before .before .before .before .before .before .before .args in
-    let p = c .before .before .before .before .before .before .before .before .before .before .before .before .before .before .before .before .before .before .before .before .before .before .before .before .before .before .before .before .before .before .before .before .before .before .before .pre in (
+    let at = c .before .before .before .before .before .before .before .before .before .before .before .before .before .before in
+    let the-make-commit = at .make-commit in
+    let start = at .before .before .before .before .before .before .before .before .before .before .before .before .before .before .before .before .before .before .before .before .before in
+    let a = start .args in
+    let p = start .pre in (
       made-at (a .words .now) (a .blocks .now) (a .bytes .now) (a .i) (a .block) (a .byte) _ _ (p .1 .0) (p .1 .1 .0) refl refl _ _ _ _ (the-make-commit .ensures),
       c .before .before .put-answer .ensures,
     )

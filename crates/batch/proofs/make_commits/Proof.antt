@@ -29,10 +29,12 @@ loop-holds c =
 
 answer-commit-requires : tie.Need-answer-commit-requires Inv-loop μ-loop
 answer-commit-requires c κs =
-    let the-loop = c .before .before .before .before .before .before .before .loop in
+    let in-loop = c .before .before .before .before .before .before .before in
+    let the-loop = in-loop .loop in
+    let start = in-loop .before .before .before .before .before .before .before .before .before .before in
     let the-loop-test = c .before .before .before .before .before .before .loop-test in
-    let the-args = c .before .before .before .before .before .before .before .before .before .before .before .before .before .before .before .before .before .args in
-    let the-pre = c .before .before .before .before .before .before .before .before .before .before .before .before .before .before .before .before .before .pre in
+    let the-args = start .args in
+    let the-pre = start .pre in
     let u = the-loop .inv .7 in
     let a = the-args in
     let more = the-loop-test .taken in
@@ -62,11 +64,13 @@ skipped-requires c κs = search needs
 
 add-skipped : tie.Need-add-skipped Inv-loop μ-loop
 add-skipped c =
-    let the-loop = c .before .before .before .before .before .before .before .before .before .before .before .before .before .before .before .before .before .before .before .before .before .before .before .loop in
+    let in-loop = c .before .before .before .before .before .before .before .before .before .before .before .before .before .before .before .before .before .before .before .before .before .before .before in
+    let the-loop = in-loop .loop in
+    let start = in-loop .before .before .before .before .before .before .before .before .before .before in
     let the-loop-test = c .before .before .before .before .before .before .before .before .before .before .before .before .before .before .before .before .before .before .before .before .before .before .loop-test in
     let the-answer-commit = c .before .before .before .before .before .before .before .before .before .before .before .before .before .before .before .answer-commit in
     let the-skipped = c .skipped in
-    let the-pre = c .before .before .before .before .before .before .before .before .before .before .before .before .before .before .before .before .before .before .before .before .before .before .before .before .before .before .before .before .before .before .before .before .before .pre in
+    let the-pre = start .pre in
     let given = the-answer-commit .ensures in
     let h = skipped-fits _ _ _ _ _ _ _ (the-loop .i) _ _ _ _ _ _ _ (the-loop .inv .7) (the-loop-test .taken) _ _ (given .0) _ (given .1) in
     let e = the-skipped .ensures in
@@ -76,36 +80,44 @@ add-skipped c =
 
 mul-block : tie.Need-mul-block Inv-loop μ-loop
 mul-block c =
-    let the-loop = c .before .before .before .before .before .before .before .before .before .before .before .before .before .before .before .before .before .before .before .before .before .before .before .loop in
+    let in-loop = c .before .before .before .before .before .before .before .before .before .before .before .before .before .before .before .before .before .before .before .before .before .before .before in
+    let the-loop = in-loop .loop in
+    let start = in-loop .before .before .before .before .before .before .before .before .before .before in
     let the-loop-test = c .before .before .before .before .before .before .before .before .before .before .before .before .before .before .before .before .before .before .before .before .before .before .loop-test in
-    let the-pre = c .before .before .before .before .before .before .before .before .before .before .before .before .before .before .before .before .before .before .before .before .before .before .before .before .before .before .before .before .before .before .before .before .before .pre in
+    let the-pre = start .pre in
     let few = the-pre .few in
     let t = the-loop-test .taken in
     omega arith
 
 add-block : tie.Need-add-block Inv-loop μ-loop
 add-block c =
-    let the-loop = c .before .before .before .before .before .before .before .before .before .before .before .before .before .before .before .before .before .before .before .before .before .before .before .loop in
+    let in-loop = c .before .before .before .before .before .before .before .before .before .before .before .before .before .before .before .before .before .before .before .before .before .before .before in
+    let the-loop = in-loop .loop in
+    let start = in-loop .before .before .before .before .before .before .before .before .before .before in
     let the-loop-test = c .before .before .before .before .before .before .before .before .before .before .before .before .before .before .before .before .before .before .before .before .before .before .loop-test in
-    let the-pre = c .before .before .before .before .before .before .before .before .before .before .before .before .before .before .before .before .before .before .before .before .before .before .before .before .before .before .before .before .before .before .before .before .before .pre in
+    let the-pre = start .pre in
     let few = the-pre .few in
     let t = the-loop-test .taken in
     omega arith
 
 mul-block-2 : tie.Need-mul-block-2 Inv-loop μ-loop
 mul-block-2 c =
-    let the-loop = c .before .before .before .before .before .before .before .before .before .before .before .before .before .before .before .before .before .before .before .before .before .before .before .loop in
+    let in-loop = c .before .before .before .before .before .before .before .before .before .before .before .before .before .before .before .before .before .before .before .before .before .before .before in
+    let the-loop = in-loop .loop in
+    let start = in-loop .before .before .before .before .before .before .before .before .before .before in
     let the-loop-test = c .before .before .before .before .before .before .before .before .before .before .before .before .before .before .before .before .before .before .before .before .before .before .loop-test in
-    let the-pre = c .before .before .before .before .before .before .before .before .before .before .before .before .before .before .before .before .before .before .before .before .before .before .before .before .before .before .before .before .before .before .before .before .before .pre in
+    let the-pre = start .pre in
     let few = the-pre .few in
     let t = the-loop-test .taken in
     omega arith
 
 shared-slice-read-block : tie.Need-shared-slice-read-block Inv-loop μ-loop
 shared-slice-read-block c =
-    let the-loop = c .before .before .before .before .before .before .before .before .before .before .before .before .before .before .before .before .before .before .before .before .before .before .before .before .loop in
+    let in-loop = c .before .before .before .before .before .before .before .before .before .before .before .before .before .before .before .before .before .before .before .before .before .before .before .before in
+    let the-loop = in-loop .loop in
+    let start = in-loop .before .before .before .before .before .before .before .before .before .before in
     let the-loop-test = c .before .before .before .before .before .before .before .before .before .before .before .before .before .before .before .before .before .before .before .before .before .before .before .loop-test in
-    let the-pre = c .before .before .before .before .before .before .before .before .before .before .before .before .before .before .before .before .before .before .before .before .before .before .before .before .before .before .before .before .before .before .before .before .before .before .pre in
+    let the-pre = start .pre in
     let few = the-pre .few in
     let t = the-loop-test .taken in
     omega arith
@@ -118,10 +130,12 @@ cast-block c =
 
 add-block-2 : tie.Need-add-block-2 Inv-loop μ-loop
 add-block-2 c =
-    let the-loop = c .before .before .before .before .before .before .before .before .before .before .before .before .before .before .before .before .before .before .before .before .before .before .before .before .loop in
+    let in-loop = c .before .before .before .before .before .before .before .before .before .before .before .before .before .before .before .before .before .before .before .before .before .before .before .before in
+    let the-loop = in-loop .loop in
+    let start = in-loop .before .before .before .before .before .before .before .before .before .before in
     let the-loop-test = c .before .before .before .before .before .before .before .before .before .before .before .before .before .before .before .before .before .before .before .before .before .before .before .loop-test in
-    let the-args = c .before .before .before .before .before .before .before .before .before .before .before .before .before .before .before .before .before .before .before .before .before .before .before .before .before .before .before .before .before .before .before .before .before .before .args in
-    let the-pre = c .before .before .before .before .before .before .before .before .before .before .before .before .before .before .before .before .before .before .before .before .before .before .before .before .before .before .before .before .before .before .before .before .before .before .pre in
+    let the-args = start .args in
+    let the-pre = start .pre in
     let a = the-args in
     let u = the-loop .inv .7 in
     let words = c .before .before .before .before .before .before .before .before .before .before .before .before .before .before .before .before .before .before .before .before .before .before .before .before .before .before .before .before .shared-slice-known .given in
@@ -134,36 +148,44 @@ add-block-2 c =
 
 mul-byte : tie.Need-mul-byte Inv-loop μ-loop
 mul-byte c =
-    let the-loop = c .before .before .before .before .before .before .before .before .before .before .before .before .before .before .before .before .before .before .before .before .before .before .before .before .loop in
+    let in-loop = c .before .before .before .before .before .before .before .before .before .before .before .before .before .before .before .before .before .before .before .before .before .before .before .before in
+    let the-loop = in-loop .loop in
+    let start = in-loop .before .before .before .before .before .before .before .before .before .before in
     let the-loop-test = c .before .before .before .before .before .before .before .before .before .before .before .before .before .before .before .before .before .before .before .before .before .before .before .loop-test in
-    let the-pre = c .before .before .before .before .before .before .before .before .before .before .before .before .before .before .before .before .before .before .before .before .before .before .before .before .before .before .before .before .before .before .before .before .before .before .pre in
+    let the-pre = start .pre in
     let few = the-pre .few in
     let t = the-loop-test .taken in
     omega arith
 
 add-byte : tie.Need-add-byte Inv-loop μ-loop
 add-byte c =
-    let the-loop = c .before .before .before .before .before .before .before .before .before .before .before .before .before .before .before .before .before .before .before .before .before .before .before .before .loop in
+    let in-loop = c .before .before .before .before .before .before .before .before .before .before .before .before .before .before .before .before .before .before .before .before .before .before .before .before in
+    let the-loop = in-loop .loop in
+    let start = in-loop .before .before .before .before .before .before .before .before .before .before in
     let the-loop-test = c .before .before .before .before .before .before .before .before .before .before .before .before .before .before .before .before .before .before .before .before .before .before .before .loop-test in
-    let the-pre = c .before .before .before .before .before .before .before .before .before .before .before .before .before .before .before .before .before .before .before .before .before .before .before .before .before .before .before .before .before .before .before .before .before .before .pre in
+    let the-pre = start .pre in
     let few = the-pre .few in
     let t = the-loop-test .taken in
     omega arith
 
 mul-byte-2 : tie.Need-mul-byte-2 Inv-loop μ-loop
 mul-byte-2 c =
-    let the-loop = c .before .before .before .before .before .before .before .before .before .before .before .before .before .before .before .before .before .before .before .before .before .before .before .before .loop in
+    let in-loop = c .before .before .before .before .before .before .before .before .before .before .before .before .before .before .before .before .before .before .before .before .before .before .before .before in
+    let the-loop = in-loop .loop in
+    let start = in-loop .before .before .before .before .before .before .before .before .before .before in
     let the-loop-test = c .before .before .before .before .before .before .before .before .before .before .before .before .before .before .before .before .before .before .before .before .before .before .before .loop-test in
-    let the-pre = c .before .before .before .before .before .before .before .before .before .before .before .before .before .before .before .before .before .before .before .before .before .before .before .before .before .before .before .before .before .before .before .before .before .before .pre in
+    let the-pre = start .pre in
     let few = the-pre .few in
     let t = the-loop-test .taken in
     omega arith
 
 shared-slice-read-byte : tie.Need-shared-slice-read-byte Inv-loop μ-loop
 shared-slice-read-byte c =
-    let the-loop = c .before .before .before .before .before .before .before .before .before .before .before .before .before .before .before .before .before .before .before .before .before .before .before .before .before .loop in
+    let in-loop = c .before .before .before .before .before .before .before .before .before .before .before .before .before .before .before .before .before .before .before .before .before .before .before .before .before in
+    let the-loop = in-loop .loop in
+    let start = in-loop .before .before .before .before .before .before .before .before .before .before in
     let the-loop-test = c .before .before .before .before .before .before .before .before .before .before .before .before .before .before .before .before .before .before .before .before .before .before .before .before .loop-test in
-    let the-pre = c .before .before .before .before .before .before .before .before .before .before .before .before .before .before .before .before .before .before .before .before .before .before .before .before .before .before .before .before .before .before .before .before .before .before .before .pre in
+    let the-pre = start .pre in
     let few = the-pre .few in
     let t = the-loop-test .taken in
     omega arith
@@ -176,10 +198,12 @@ cast-byte c =
 
 add-byte-2 : tie.Need-add-byte-2 Inv-loop μ-loop
 add-byte-2 c =
-    let the-loop = c .before .before .before .before .before .before .before .before .before .before .before .before .before .before .before .before .before .before .before .before .before .before .before .before .before .loop in
+    let in-loop = c .before .before .before .before .before .before .before .before .before .before .before .before .before .before .before .before .before .before .before .before .before .before .before .before .before in
+    let the-loop = in-loop .loop in
+    let start = in-loop .before .before .before .before .before .before .before .before .before .before in
     let the-loop-test = c .before .before .before .before .before .before .before .before .before .before .before .before .before .before .before .before .before .before .before .before .before .before .before .before .loop-test in
-    let the-args = c .before .before .before .before .before .before .before .before .before .before .before .before .before .before .before .before .before .before .before .before .before .before .before .before .before .before .before .before .before .before .before .before .before .before .before .args in
-    let the-pre = c .before .before .before .before .before .before .before .before .before .before .before .before .before .before .before .before .before .before .before .before .before .before .before .before .before .before .before .before .before .before .before .before .before .before .before .pre in
+    let the-args = start .args in
+    let the-pre = start .pre in
     let a = the-args in
     let u = the-loop .inv .7 in
     let words = c .before .before .before .before .before .before .before .before .before .before .before .before .before .before .before .before .before .before .before .before .before .before .before .before .before .before .before .before .before .shared-slice-known .given in
@@ -192,9 +216,11 @@ add-byte-2 c =
 
 add-i : tie.Need-add-i Inv-loop μ-loop
 add-i c =
-    let the-loop = c .before .before .before .before .before .before .before .before .before .before .before .before .before .before .before .before .before .before .before .before .before .before .before .before .before .loop in
+    let in-loop = c .before .before .before .before .before .before .before .before .before .before .before .before .before .before .before .before .before .before .before .before .before .before .before .before .before in
+    let the-loop = in-loop .loop in
+    let start = in-loop .before .before .before .before .before .before .before .before .before .before in
     let the-loop-test = c .before .before .before .before .before .before .before .before .before .before .before .before .before .before .before .before .before .before .before .before .before .before .before .before .loop-test in
-    let the-pre = c .before .before .before .before .before .before .before .before .before .before .before .before .before .before .before .before .before .before .before .before .before .before .before .before .before .before .before .before .before .before .before .before .before .before .before .pre in
+    let the-pre = start .pre in
     let few = the-pre .few in
     let t = the-loop-test .taken in
     omega arith
@@ -216,9 +242,11 @@ sub-answered c =
 
 answered-requires : tie.Need-answered-requires Inv-loop μ-loop
 answered-requires c κs =
-    let the-loop = c .before .before .before .before .before .before .before .before .before .before .before .before .before .before .before .before .before .before .before .before .before .before .before .before .before .before .before .loop in
+    let in-loop = c .before .before .before .before .before .before .before .before .before .before .before .before .before .before .before .before .before .before .before .before .before .before .before .before .before .before .before in
+    let the-loop = in-loop .loop in
+    let start = in-loop .before .before .before .before .before .before .before .before .before .before in
     let the-loop-test = c .before .before .before .before .before .before .before .before .before .before .before .before .before .before .before .before .before .before .before .before .before .before .before .before .before .before .loop-test in
-    let the-pre = c .before .before .before .before .before .before .before .before .before .before .before .before .before .before .before .before .before .before .before .before .before .before .before .before .before .before .before .before .before .before .before .before .before .before .before .before .before .pre in
+    let the-pre = start .pre in
     let u = the-loop .inv .7 in
     let h = u .inside in
     let few = the-pre .few in
@@ -276,7 +304,8 @@ returns c =
     let all = u .stores in
     let spent = the-stores .ensures in
     let left = within-left _ _ _ _ _ _ _ (the-loop .i) _ _ _ _ _ _ _ u more _ _ (given .0) _ (given .1) in
-    ap (λ x. batchLeft x (memory (the-answer-commit .last .1 .0) (the-answer-commit .last .1 .1 .0) (the-answer-commit .last .1 .1 .1 .0) (the-answer-commit .last .1 .1 .1 .1 .0) (the-answer-commit .last .1 .1 .1 .1 .1 .0)) (the-answer-commit .last .1 .1 .1 .1 .1 .1 .1 .1 .1 .1 .1 .1 .1 .0)) (the-answered .ensures)
+    let last = the-answer-commit .last in
+    ap (λ x. batchLeft x (memory (last .1 .0) (last .1 .1 .0) (last .1 .1 .1 .0) (last .1 .1 .1 .1 .0) (last .1 .1 .1 .1 .1 .0)) (last .1 .1 .1 .1 .1 .1 .1 .1 .1 .1 .1 .1 .1 .0)) (the-answered .ensures)
     ∙ making-stops _ _ _ _ _ _ _ (the-loop .i) _ _ (the-loop .left) (the-loop .skipped) _ _ _ u more _ _ (given .0) _ (given .1) (the-loop .left - the-stores .result) _ (omega arith)
     (ap (λ (x : ℕ). the-loop .skipped + x) (the-skipped .ensures)) (λ e. c .before .if1 .taken (the-number .ensures ∙ e)) (the-loop .i + 1) _ refl (omega arith)
 
