@@ -68,8 +68,8 @@ totalCost (o ∷ os) =
     let rest = totalCost os in
     record { stores = first .stores + rest .stores; skipped = first .skipped + rest .skipped }
 
--- Commits are lent as four words each: kind, head, how many block numbers are its own, and how many bytes. The block numbers of
--- all of them stand one after the other, and so do the bytes.
+-- A commit is lent as four words: its kind, its head, how many block numbers are its own, and how many bytes. The block numbers of
+-- all commits stand one after the other, and so do their bytes.
 abbrev pub commitWords : ℕ
 commitWords = 4
 
@@ -94,7 +94,7 @@ commitAt words blocks bytes i =
 unfoldable pub commitsIn : List ℕ → List ℕ → List ℕ → List Commit
 commitsIn words blocks bytes = listFrom (commitAt words blocks bytes) 0 (commitsLent words)
 
--- Words that answer a commit.
+-- How many words answer a commit.
 abbrev pub answerWords : ℕ
 answerWords = 5
 
@@ -114,7 +114,7 @@ batchChecks s m words blocks bytes answers =
     ++ record { applies = not (within 1 batchCommits (commitsLent words)); refusal = CommitCount }
     ∷ []
 
--- They are the number of its answer, its stores, the sum of its delays, and tail and number after it.
+-- The words that answer a commit: the number of its answer, its stores, the sum of its delays, and tail and number after it.
 abbrev pub answerOf : Outcome → List ℕ
 answerOf o =
     numberOf (o .answer) ∷ costOf (o .answer) .stores ∷ costOf (o .answer) .skipped ∷ o .state .tail ∷ o .state .number ∷ []

@@ -113,7 +113,7 @@ putBlocks disk blocks content = updates disk (at blocks) content (length blocks)
 unfoldable pub diskCommit : Commit → Disk → Disk
 diskCommit c disk = putBlocks disk (c .blocks) (cond (eqb (c .kind) 0) (sectorAt (c .bytes)) (λ _. blank))
 
--- Commits made singly, of which these were accepted; those that were not answered are none.
+-- Commits made singly, of which these were accepted. One that was not answered changes nothing.
 unfoldable pub diskCommits : List Commit → List Bool → Disk → Disk
 diskCommits [] oks disk = disk
 diskCommits (c ∷ cs) [] disk = disk
