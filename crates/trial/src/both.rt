@@ -1,5 +1,5 @@
 // A call by both implementations: the code is lent what stands on the board, and what it leaves is compared.
-use crate::batches;
+use crate::both_batches;
 use reference_board::board;
 use state::Outcome;
 use storing_calls::Storing;
@@ -125,7 +125,7 @@ fn single(b: &mut [u32; board::SIZE]) -> u32 {
 // Performs the call that stands on the board by both implementations, and says what differs afterwards.
 pub fn both(b: &mut [u32; board::SIZE]) -> u32 {
     if cells::get(b, board::CALL) == board::BATCH {
-        return batches::both(b);
+        return both_batches::both(b);
     }
     single(b)
 }

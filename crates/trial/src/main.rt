@@ -1,8 +1,8 @@
 // Tries the code against the second implementation and the plain disk, on small volumes: the script on standard input, random histories with the
 // power cut at each store, damaged images and damaged memory. The numbers are the same in every run.
 mod backlogs;
-mod batches;
 mod both;
+mod both_batches;
 mod cuts;
 mod damage;
 mod histories;

@@ -2,8 +2,8 @@ use mathlib.Core.Path.{sym}
 use native.Mathlib.Omega.{arith}
 use lib.Seq.{length-take-le}
 use borrow.Author.Needs.{needs}
-use Rattle.trial.proofs.batches.lend.Statement.{statement}
-use Rattle.trial.proofs.batches.lend.Tie as tie
+use Rattle.trial.proofs.both_batches.lend.Statement.{statement}
+use Rattle.trial.proofs.both_batches.lend.Tie as tie
 
 length-requires : tie.Need-length-requires
 length-requires c κs = search needs
