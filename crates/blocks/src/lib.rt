@@ -67,7 +67,7 @@ pub fn store_block(dst: &mut [u8], block: &[u8])
     requires { ⌜ length (now block) ≡ sectorBytes ⌝ }
     ensures { λ _. ⌜ now (dst .exit) ≡ stored (now (block .entry)) ⌝ }
 {
-    marks::copy_sector(dst, block);
+    marks::copy_over(dst, block, Geometry::SECTOR);
     if needs_flip(block) {
         complement(dst);
     }
@@ -81,10 +81,10 @@ pub fn restore_block(out: &mut [u8], entry: u32, bytes: &[u8])
 {
     if entry == 0 {
         let zeros = [0u8; Geometry::SECTOR];
-        marks::copy_over(out, &zeros);
+        marks::copy_over(out, &zeros, Geometry::SECTOR);
         return;
     }
-    marks::copy_sector(out, bytes);
+    marks::copy_over(out, bytes, Geometry::SECTOR);
     if is_flipped(entry) {
         complement(out);
     }

@@ -1,7 +1,7 @@
 -- A fresh map sector as the code makes it, and the stores of a format in their two parts.
 use Prim.Native.Nat.{ℕ, _+_, _-_, _/_}
 use mathlib.Core.Path.{_≡_, refl, sym, _∙_, ap}
-use mathlib.Core.Bool.{cond}
+use mathlib.Core.Bool.{Bool, cond}
 use mathlib.Core.List.{List, [], _∷_}
 use native.Mathlib.Numerals.{add-one}
 use lib.ListN.{length, take, replicate}
@@ -18,18 +18,26 @@ use Rattle.answer.specs.declared.Verdict.the-variants.{Pass, Refuse}
 use Rattle.geometry.specs.Geometry.{piecesFor, geometryOf}
 use Rattle.answer.specs.Answer.{storesAlone}
 use Rattle.state.specs.State.{freshState, lostState}
-use Rattle.layout.specs.Bounded.{isZero, always, countBelow}
+use Rattle.layout.specs.Bounded.{at, isZero, always, countBelow, updates}
 use Rattle.layout.specs.MapSector.{encoded}
-use Rattle.volume.specs.Tables.{memory, sectorAt, tablesOf, zeroTables}
+use Rattle.volume.specs.Tables.{memory, sectorAt, tablesOf, zeroTables, pieceEntries}
 use Rattle.volume.specs.Refusals.{judged}
 use Rattle.volume.specs.Store.{applied, storesBelow, After, after, performed, unlessRefused}
 use Rattle.volume.specs.Format.{blankStore, pieceStore, formatStores, formatTables, formatAction, volumeIn, sizeChecks, formatOf}
 use Rattle.laws.proofs.Stores.{below-length}
+use Rattle.piece_entries.proofs.EntryLaws.{piece-blank}
 use Rattle.power.specs.declared.allowance.Power.{Power}
 use Rattle.power.specs.declared.allowance.Power.the-variants.{Left, Failed}
 use Rattle.power.specs.Power.{powered}
 use Rattle.power.proofs.Performing.{memory-left, call-cut, call-whole}
 use Rattle.power.proofs.Runs.{first-fails, second-runs}
+
+-- The entries are those of an empty map, in which no block is named.
+pub empty-made : (l p number : ℕ) (closing : Bool) (branches : List ℕ)
+    → encoded l (record { number = number; piece = p; closing = closing; branches = branches; entries = pieceEntries l (updates (at []) (at []) (at []) 0) p })
+    ≡ encoded l (record { number = number; piece = p; closing = closing; branches = branches; entries = replicate 96 0 })
+unfolding updates
+empty-made l p number closing branches = rw (piece-blank l p) refl
 
 pub piece-made : (l p pieces : ℕ) (branches : List ℕ) → pieces ≡ piecesFor l → branches ≡ cond (isZero p) [] (p ∷ [])
     → encoded l (record { number = p + 1; piece = p; closing = eqb (p + 1) pieces; branches = branches; entries = replicate 96 0 }) ≡ pieceStore l p .bytes

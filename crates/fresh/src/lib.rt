@@ -2,10 +2,11 @@
 ghost use mathlib.Core.Path.{_≡_};
 ghost use mathlib.Core.Bool.{cond};
 ghost use Prim.Native.Nat.{_+_, _*_, _≤_, _<_};
-ghost use lib.ListN.{length, take};
-ghost use lib.Dec.{ltb};
-ghost use Rattle.geometry.specs.Geometry.{sectorBytes, piecesFor, mostPieces};
+ghost use lib.ListN.{length, take, replicate};
+ghost use lib.Dec.{eqb, ltb};
+ghost use Rattle.geometry.specs.Geometry.{sectorBytes, entriesPerPiece, branchRoom, piecesFor, mostPieces};
 ghost use Rattle.layout.specs.Bounded.{always, countBelow, updated};
+ghost use Rattle.layout.specs.MapSector.{encoded};
 ghost use Rattle.layout.specs.Entry.{blank};
 ghost use Rattle.volume.specs.Tables.{sectorAt};
 ghost use Rattle.volume.specs.Store.{applied, storesBelow};
@@ -36,29 +37,14 @@ pub fn blank_sectors(image: &mut [u8], n: u32, allowance: u32) -> Power
     Power::Left(allowance - n)
 }
 
-// Piece p of a fresh map goes into sector p + 1 with number p + 1. Each after the first has one branch, to the one before.
-fn store_piece(image: &mut [u8], l: u32, pieces: u32, p: u32)
-    requires { ⌜ pieces ≡ piecesFor l ⌝ }
+// Piece p of an empty map, into sector p + 1 with number p + 1.
+fn store_empty(image: &mut [u8], l: u32, pieces: u32, p: u32, branches: &[u32])
     requires { ⌜ p < mostPieces ⌝ }
     requires { ⌜ sectorBytes * p + 2 * sectorBytes ≤ length (now image) ⌝ }
-    ensures { λ _. ⌜ sectorAt (now (image .exit)) ≡ updated (sectorAt (now (image .entry))) (p + 1) (pieceStore l p .bytes) ⌝ }
+    requires { ⌜ length (now branches) ≤ branchRoom ⌝ }
+    ensures { λ _. ⌜ sectorAt (now (image .exit)) ≡ updated (sectorAt (now (image .entry))) (p + 1) (encoded l (record { number = p + 1; piece = p; closing = eqb (p + 1) pieces; branches = now (branches .entry); entries = replicate entriesPerPiece 0 })) ⌝ }
 {
-    let entries = [0u32; Geometry::PIECE_ENTRIES];
-    let branches = [p];
     let number = p + 1;
-    if p == 0 {
-        images::store_map(
-            image,
-            number as usize,
-            l,
-            number,
-            p,
-            number == pieces,
-            &branches[..0],
-            &entries,
-        );
-        return;
-    }
     images::store_map(
         image,
         number as usize,
@@ -66,9 +52,27 @@ fn store_piece(image: &mut [u8], l: u32, pieces: u32, p: u32)
         number,
         p,
         number == pieces,
-        &branches[..1],
-        &entries,
+        branches,
+        &branches[..0],
+        &branches[..0],
+        &branches[..0],
+        0,
     );
+}
+
+// Piece p of a fresh map. Each after the first has one branch, to the one before.
+fn store_piece(image: &mut [u8], l: u32, pieces: u32, p: u32)
+    requires { ⌜ pieces ≡ piecesFor l ⌝ }
+    requires { ⌜ p < mostPieces ⌝ }
+    requires { ⌜ sectorBytes * p + 2 * sectorBytes ≤ length (now image) ⌝ }
+    ensures { λ _. ⌜ sectorAt (now (image .exit)) ≡ updated (sectorAt (now (image .entry))) (p + 1) (pieceStore l p .bytes) ⌝ }
+{
+    let branches = [p];
+    if p == 0 {
+        store_empty(image, l, pieces, p, &branches[..0]);
+        return;
+    }
+    store_empty(image, l, pieces, p, &branches[..1]);
 }
 
 // The pieces of a fresh map, ascending; only the last one closes.

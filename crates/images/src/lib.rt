@@ -1,13 +1,14 @@
 // The sectors of an image: sector k is its k-th 512 bytes.
 ghost use mathlib.Core.Path.{_≡_};
-ghost use Prim.Native.Nat.{_+_, _*_, _≤_};
+ghost use Prim.Native.Nat.{ℕ, _+_, _*_, _≤_, _<_};
 ghost use lib.ListN.{length};
-ghost use Rattle.geometry.specs.Geometry.{sectorBytes, branchRoom, entriesPerPiece};
-ghost use Rattle.layout.specs.Bounded.{updated};
+ghost use Rattle.geometry.specs.Geometry.{sectorBytes, branchRoom, mostPieces};
+ghost use Rattle.layout.specs.Bounded.{at, updated, updates};
 ghost use Rattle.layout.specs.MapSector.{encoded};
 ghost use Rattle.layout.specs.Entry.{blank, stored};
 ghost use Rattle.layout.specs.ParkRecord.{parkRecord};
-ghost use Rattle.volume.specs.Tables.{sectorAt};
+ghost use Rattle.volume.specs.Tables.{sectorAt, pieceEntries};
+ghost use Rattle.piece_entries.specs.Cursor.{Cursor};
 use geometry::Geometry;
 
 pub fn sector(image: &[u8], k: usize) -> &[u8]
@@ -27,7 +28,7 @@ pub fn store_sector(image: &mut [u8], k: usize, bytes: &[u8])
 {
     let first = Geometry::SECTOR * k;
     let end = first + Geometry::SECTOR;
-    marks::copy_sector(&mut image[first..end], bytes);
+    marks::copy_over(&mut image[first..end], bytes, Geometry::SECTOR);
 }
 
 // Stores a blank sector.
@@ -50,7 +51,7 @@ pub fn store_data(image: &mut [u8], k: usize, block: &[u8])
     blocks::store_block(&mut image[first..end], block);
 }
 
-// Stores a map sector, made in its place.
+// Stores the map sector of a piece, made in its place; see map_encoding::put_map.
 pub fn store_map(
     image: &mut [u8],
     k: usize,
@@ -59,12 +60,19 @@ pub fn store_map(
     piece: u32,
     closing: bool,
     branches: &[u32],
-    entries: &[u32],
-)
+    map: &[u32],
+    blocks: &[u32],
+    news: &[u32],
+    from: usize,
+) -> usize
     requires { ⌜ sectorBytes * k + sectorBytes ≤ length (now image) ⌝ }
+    requires { ⌜ piece < mostPieces ⌝ }
     requires { ⌜ length (now branches) ≤ branchRoom ⌝ }
-    requires { ⌜ length (now entries) ≡ entriesPerPiece ⌝ }
-    ensures { λ _. ⌜ sectorAt (now (image .exit)) ≡ updated (sectorAt (now (image .entry))) k (encoded l (record { number = number; piece = piece; closing = closing; branches = now (branches .entry); entries = now (entries .entry) })) ⌝ }
+    requires { ⌜ length (now map) ≤ l ⌝ }
+    requires { ⌜ length (now blocks) ≤ length (now news) ⌝ }
+    requires { ⌜ ((i : ℕ) → i < length (now blocks) → at (now blocks) i < l) ⌝ }
+    requires { ⌜ Cursor (now blocks) piece from ⌝ }
+    ensures { λ r. ⌜ Cursor (now (blocks .entry)) (piece + 1) r × (sectorAt (now (image .exit)) ≡ updated (sectorAt (now (image .entry))) k (encoded l (record { number = number; piece = piece; closing = closing; branches = now (branches .entry); entries = pieceEntries l (updates (at (now (map .entry))) (at (now (blocks .entry))) (at (now (news .entry))) (length (now (blocks .entry)))) piece }))) ⌝ }
 {
     let first = Geometry::SECTOR * k;
     let end = first + Geometry::SECTOR;
@@ -75,8 +83,11 @@ pub fn store_map(
         piece,
         closing,
         branches,
-        entries,
-    );
+        map,
+        blocks,
+        news,
+        from,
+    )
 }
 
 // Stores the park record.

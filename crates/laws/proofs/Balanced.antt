@@ -2,7 +2,7 @@
 use Prim.Native.Nat.{ℕ, _+_, _*_, _≤_}
 use mathlib.Core.Bool.{true}
 use mathlib.Core.Path.{_≡_, refl, sym, ap, _∙_}
-use mathlib.Core.List.{List, _∷_, _++_, append-assoc}
+use mathlib.Core.List.{List, [], _∷_, _++_, append-assoc, append-nil}
 use native.Mathlib.Omega.{arith}
 use lib.ListN.{length, drop, length-append}
 use lib.Seq.{sets, sets-eq, take-at, drop-at, take-append-seam}
@@ -14,11 +14,10 @@ use Rattle.laws.proofs.Lists.{same-is}
 use Rattle.laws.proofs.Runs.{sets-append, sets-whole}
 
 module _ (s mark : List ℕ) (long : length mark ≡ 4) where
-  -- Words from word 1 on, after the mark.
-  pub laid-first : (xs : List ℕ) → sets (sets s 0 mark) 4 (bytesOf xs) ≡ sets s 0 (mark ++ bytesOf xs)
-  laid-first xs =
-      let e : 0 + length mark ≡ 4 = omega arith in
-      sym (sets-append s 0 mark (bytesOf xs) ∙ ap (λ (i : ℕ). sets (sets s 0 mark) i (bytesOf xs)) e)
+  -- No word yet.
+  pub laid-mark : (t : List ℕ) → t ≡ sets s 0 mark → t ≡ sets s 0 (mark ++ bytesOf [])
+  unfolding bytesOf
+  laid-mark t e = e ∙ ap (sets s 0) (sym (append-nil mark))
 
   -- Further words.
   pub laid-next : (xs ys : List ℕ) (k : ℕ) → k ≡ 1 + length xs → sets (sets s 0 (mark ++ bytesOf xs)) (4 * k) (bytesOf ys) ≡ sets s 0 (mark ++ bytesOf (xs ++ ys))
@@ -30,6 +29,12 @@ module _ (s mark : List ℕ) (long : length mark ≡ 4) where
       ∙ sets-append s 0 (mark ++ bytesOf xs) (bytesOf ys)
       ∙ ap (λ (i : ℕ). sets (sets s 0 (mark ++ bytesOf xs)) i (bytesOf ys)) e
       )
+
+  -- One word more.
+  pub laid-word : (xs : List ℕ) (k w : ℕ) (t t′ : List ℕ) → k ≡ 1 + length xs → t ≡ sets s 0 (mark ++ bytesOf xs) → t′ ≡ sets t (4 * k) (wordBytes w)
+      → t′ ≡ sets s 0 (mark ++ bytesOf (xs ++ w ∷ []))
+  unfolding bytesOf
+  laid-word xs k w t t′ h e f = f ∙ ap (λ (l : List ℕ). sets l (4 * k) (wordBytes w)) e ∙ laid-next xs (w ∷ []) k h
 
   -- All of the sector.
   pub laid-whole : (xs : List ℕ) → length s ≡ 4 * (1 + length xs) → sets s 0 (mark ++ bytesOf xs) ≡ mark ++ bytesOf xs

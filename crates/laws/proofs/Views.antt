@@ -1,6 +1,6 @@
 -- A view with its length fixes all of what it is a view of: every byte of an image, every word of a table, every byte of a used map, spare
 -- bits too. So an equation between views says all of a buffer that was lent.
-use Prim.Native.Nat.{ℕ, zero, suc, _+_, _*_, _/_, _%_, _^_, _<_}
+use Prim.Native.Nat.{ℕ, zero, suc, _+_, _*_, _/_, _%_, _^_, _≤_, _<_}
 use mathlib.Core.Path.{_≡_, refl, sym, _∙_, ap, ap₂}
 use mathlib.Core.Logic.{⊎-elim}
 use mathlib.Core.Bool.{Bool}
@@ -8,15 +8,17 @@ use mathlib.Core.List.{List}
 use native.Mathlib.Numerals.{add-one, one-add}
 use native.Mathlib.Omega.{arith}
 use lib.ListN.{length, take, drop}
-use lib.Seq.{ext-getD, getD-take, getD-drop}
+use lib.Seq.{sets, length-sets, ext-getD, getD-take, getD-drop}
 use lib.Pow.{shr-shr, shr-lt}
 use lib.Dec.{eqb}
 use borrow.Author.Tests.{eqb-true, eqb-false, eq-eqb, ne-eqb}
 use Rattle.geometry.specs.Geometry.{sectorBytes}
-use Rattle.layout.specs.Bounded.{at}
+use Rattle.layout.specs.Bounded.{at, updated}
 use Rattle.volume.specs.Tables.{Memory, sectorAt, bitAt, memory}
 use Rattle.laws.proofs.Bounded.{eq?}
 use Rattle.laws.proofs.Words.{Bytes}
+use Rattle.laws.proofs.Runs.{sets-part}
+use Rattle.laws.proofs.Sectors.{sector-stored}
 
 pub words-fixed : (xs ys : List ℕ) → length xs ≡ length ys → at xs ≡ at ys → xs ≡ ys
 words-fixed xs ys h e = ext-getD 0 xs ys h (λ i _. ap (λ (f : ℕ → ℕ). f i) e)
@@ -34,6 +36,14 @@ pub image-fixed : (im im′ : List ℕ) → length im ≡ length im′ → secto
 image-fixed im im′ h e =
     ext-getD 0 im im′ h
     (λ i _. byte-of im i ∙ ap (λ (f : ℕ → List ℕ). at (f (i / 512)) (i % 512)) e ∙ sym (byte-of im′ i))
+
+-- An image in which one sector was stored: its bytes stand there, and every byte outside it is as it was.
+pub stored-there : (im im′ : List ℕ) (k : ℕ) (b : List ℕ) → length im′ ≡ length im → 512 * k + 512 ≤ length im → length b ≡ 512
+    → sectorAt im′ ≡ updated (sectorAt im) k b → im′ ≡ sets im (512 * k) b
+stored-there im im′ k b h room long e =
+    let as-part : sectorAt (sets im (512 * k) b) ≡ updated (sectorAt im) k b =
+    ap sectorAt (sym (sets-part im (512 * k) b 512 (sym long) (omega arith))) ∙ sector-stored im k b room long 512 refl in
+    image-fixed im′ (sets im (512 * k) b) (h ∙ sym (length-sets im (512 * k) b)) (e ∙ sym as-part)
 
 abbrev bit : ℕ → ℕ → Bool
 bit x j = eqb (x / 2 ^ j % 2) 1

@@ -1,17 +1,18 @@
 -- Words and bytes: where a word's bytes stand, what is made of bytes that words gave, and lengths.
-use Prim.Native.Nat.{ℕ, zero, suc, _+_, _*_, _/_, _^_, _≤_, _<_}
+use Prim.Native.Nat.{ℕ, zero, suc, _+_, _*_, _/_, _%_, _^_, _≤_, _<_}
 use mathlib.Core.Path.{_≡_, refl, sym, ap, _∙_}
 use mathlib.Core.Bool.{true}
 use mathlib.Core.List.{List, [], _∷_, _++_}
 use native.Mathlib.Omega.{arith}
+use native.Mathlib.Nat.{le-of-suc-le-suc}
 use native.Mathlib.Numerals.{add-one}
-use lib.ListN.{length, take, replicate, length-replicate, replicate-append-replicate}
+use lib.ListN.{length, set, take, replicate, length-replicate, replicate-append-replicate}
 use lib.Seq.{sets, take-suc, length-take-le}
 use borrow.Author.Tests.{lt-ltb}
 use Rattle.layout.specs.Bounded.{at, all}
 use Rattle.layout.specs.Word.{word, wordBytes, wordsOf, bytesOf}
 use Rattle.laws.proofs.Codec.{isWord}
-use Rattle.laws.proofs.Runs.{sets-append}
+use Rattle.laws.proofs.Runs.{sets-append, sets-inside, sets-after}
 
 -- Every number of the list is a byte, or a word. (Past the end stands 0.)
 abbrev pub Bytes : List ℕ → Type 0
@@ -111,13 +112,17 @@ words-zeros zero i = omega arith
 words-zeros (suc n) zero = omega arith
 words-zeros (suc n) (suc i) = words-zeros n i
 
--- One word more is stored after a run of words.
+-- More words are stored after a run of words.
+pub put-run : (l : List ℕ) (k : ℕ) (ws : List ℕ) (j : ℕ) → length ws ≡ j → (vs : List ℕ)
+    → sets (sets l (4 * k) (bytesOf ws)) (4 * (k + j)) (bytesOf vs) ≡ sets l (4 * k) (bytesOf (ws ++ vs))
+put-run l k ws j h vs =
+    let start : 4 * (k + j) ≡ 4 * k + length (bytesOf ws) = omega (arith, length-bytesOf ws) in
+    rw (start, bytes-append) (sym (sets-append l (4 * k) (bytesOf ws) (bytesOf vs)))
+
 pub put-next : (l : List ℕ) (k : ℕ) (ws : List ℕ) (j : ℕ) → length ws ≡ j → (w : ℕ)
     → sets (sets l (4 * k) (bytesOf ws)) (4 * (k + j)) (wordBytes w) ≡ sets l (4 * k) (bytesOf (ws ++ w ∷ []))
 unfolding bytesOf
-put-next l k ws j h w =
-    let start : 4 * (k + j) ≡ 4 * k + length (bytesOf ws) = omega (arith, length-bytesOf ws) in
-    rw (start, bytes-append) (sym (sets-append l (4 * k) (bytesOf ws) (bytesOf (w ∷ []))))
+put-next l k ws j h w = put-run l k ws j h (w ∷ [])
 
 pub put-words-next : (l : List ℕ) (k : ℕ) (ws : List ℕ) (j : ℕ) → j < length ws
     → sets (sets l (4 * k) (bytesOf (take j ws))) (4 * (k + j)) (wordBytes (at ws j)) ≡ sets l (4 * k) (bytesOf (take (j + 1) ws))
@@ -133,3 +138,30 @@ pub put-zeros-next : (l : List ℕ) (k j : ℕ)
 put-zeros-next l k j =
     put-next l k (replicate j 0) j (length-replicate j 0) 0
     ∙ ap (λ (xs : List ℕ). sets l (4 * k) (bytesOf xs)) (zeros-next j)
+
+-- Another word takes the place of one of a run.
+bytes-set : (ws : List ℕ) (j w : ℕ) → j < length ws → sets (bytesOf ws) (quad j) (wordBytes w) ≡ bytesOf (set ws j w)
+unfolding bytesOf quad
+bytes-set [] j w h = absurd (omega arith)
+bytes-set (x ∷ ws) zero w h = refl
+bytes-set (x ∷ ws) (suc j) w h =
+    let v = wordBytes w in
+    let a : ℕ = x % 256 in
+    let b : ℕ = x / 256 % 256 in
+    let c : ℕ = x / 65536 % 256 in
+    let d : ℕ = x / 16777216 % 256 in
+    let q = quad j in
+    let rest = bytesOf ws in
+    sets-after a (b ∷ c ∷ d ∷ rest) (suc (suc (suc q))) v
+    ∙ ap (λ (t : List ℕ). a ∷ t) (sets-after b (c ∷ d ∷ rest) (suc (suc q)) v
+    ∙ ap (λ (t : List ℕ). b ∷ t) (sets-after c (d ∷ rest) (suc q) v
+    ∙ ap (λ (t : List ℕ). c ∷ t) (sets-after d rest q v
+    ∙ ap (λ (t : List ℕ). d ∷ t) (bytes-set ws j w (le-of-suc-le-suc h)))))
+
+pub put-inside : (l : List ℕ) (k : ℕ) (ws : List ℕ) (j w : ℕ) → j < length ws
+    → sets (sets l (4 * k) (bytesOf ws)) (4 * (k + j)) (wordBytes w) ≡ sets l (4 * k) (bytesOf (set ws j w))
+put-inside l k ws j w h =
+    let start : 4 * (k + j) ≡ 4 * k + quad j = omega (arith, quad-is j) in
+    rw start
+    (sets-inside l (4 * k) (quad j) (bytesOf ws) (wordBytes w) (omega (arith, quad-is j, length-bytesOf ws))
+    ∙ ap (sets l (4 * k)) (bytes-set ws j w h))

@@ -5,9 +5,7 @@ ghost use Prim.Native.Nat.{_≤_};
 ghost use lib.ListN.{length};
 ghost use lib.Seq.{sets};
 ghost use lib.Dec.{eqb};
-ghost use Rattle.geometry.specs.Geometry.{sectorBytes};
 ghost use Rattle.layout.specs.Word.{startsWith};
-use geometry::Geometry;
 
 pub const MAP_MARK: [u8; 4] = *b"VLM1";
 
@@ -30,28 +28,17 @@ pub fn starts_with(s: &[u8], mark: &[u8]) -> bool
     same_four(s[0], s[1], s[2], s[3], mark[0], mark[1], mark[2], mark[3])
 }
 
-// Stores src over all of dst.
-pub fn copy_over(dst: &mut [u8], src: &[u8])
-    requires { ⌜ length (now src) ≡ length (now dst) ⌝ }
+// Stores src over all of dst, which are so many bytes. Where the count is a constant, the compiler moves several at a time.
+pub fn copy_over(dst: &mut [u8], src: &[u8], count: usize)
+    requires { ⌜ length (now dst) ≡ count ⌝ }
+    requires { ⌜ length (now src) ≡ count ⌝ }
     ensures { λ _. ⌜ now (dst .exit) ≡ now (src .entry) ⌝ }
 {
     let mut i = 0;
-    while i < src.len() {
+    while i < count {
         dst[i] = src[i];
         i += 1;
     }
-}
-
-// Stores the sector src over the sector dst. By way of a local one, so that the compiler makes it one move of a known length: of the two that
-// are lent it does not know that they are apart.
-pub fn copy_sector(dst: &mut [u8], src: &[u8])
-    requires { ⌜ length (now dst) ≡ sectorBytes ⌝ }
-    requires { ⌜ length (now src) ≡ sectorBytes ⌝ }
-    ensures { λ _. ⌜ now (dst .exit) ≡ now (src .entry) ⌝ }
-{
-    let mut held = [0u8; Geometry::SECTOR];
-    copy_over(&mut held, src);
-    copy_over(dst, &held);
 }
 
 // Stores a mark at a sector's start.
@@ -60,5 +47,5 @@ pub fn put_mark(s: &mut [u8], mark: &[u8])
     ensures { λ _. ⌜ now (s .exit) ≡ sets (now (s .entry)) 0 (now (mark .entry)) ⌝ }
 {
     let end = mark.len();
-    copy_over(&mut s[0..end], mark);
+    copy_over(&mut s[0..end], mark, end);
 }

@@ -10,22 +10,27 @@ use Rattle.layout.specs.Bounded.{all, isZero}
 use Rattle.layout.specs.Word.{wordBytes, wordsOf, bytesOf, wordSum, balance, startsWith}
 use Rattle.layout.specs.ParkRecord.{parkMark, parkRecord, isParkRecord}
 use Rattle.laws.proofs.Words.{words-cons, words-zeros, length-wordsOf}
-use Rattle.laws.proofs.Balanced.{laid-first, laid-next, sealed}
+use Rattle.laws.proofs.Balanced.{laid-mark, laid-word, laid-next, sealed}
 
-pub park-stored : (s s₁ s₂ s₃ s₄ : List ℕ) (number tail : ℕ) → length s ≡ 512 → number < 2 ^ 32 → tail < 2 ^ 32
-    → s₁ ≡ sets s 0 parkMark
-    → s₂ ≡ sets s₁ 4 (bytesOf (0 ∷ number ∷ tail ∷ []))
-    → s₃ ≡ sets s₂ 16 (bytesOf (replicate 124 0))
-    → s₄ ≡ sets s₃ 4 (wordBytes (balance (wordSum (wordsOf s₃))))
-    → s₄ ≡ parkRecord (record { number = number; tail = tail })
+pub park-stored : (s s₀ s₁ s₂ s₃ s₄ s₅ : List ℕ) (number tail : ℕ) → length s ≡ 512 → number < 2 ^ 32 → tail < 2 ^ 32
+    → s₀ ≡ sets s 0 parkMark
+    → s₁ ≡ sets s₀ 4 (wordBytes 0)
+    → s₂ ≡ sets s₁ 8 (wordBytes number)
+    → s₃ ≡ sets s₂ 12 (wordBytes tail)
+    → s₄ ≡ sets s₃ 16 (bytesOf (replicate 124 0))
+    → s₅ ≡ sets s₄ 4 (wordBytes (balance (wordSum (wordsOf s₄))))
+    → s₅ ≡ parkRecord (record { number = number; tail = tail })
 unfolding parkRecord
-park-stored s s₁ s₂ s₃ s₄ number tail size hn ht e₁ e₂ e₃ e₄ =
+park-stored s s₀ s₁ s₂ s₃ s₄ s₅ number tail size hn ht e₀ e₁ e₂ e₃ e₄ e₅ =
     let zeros : List ℕ = replicate 124 0 in
     let head : List ℕ = 0 ∷ number ∷ tail ∷ [] in
-    let laid₂ : s₂ ≡ sets s 0 (parkMark ++ bytesOf head) = e₂ ∙ ap (λ (l : List ℕ). sets l 4 (bytesOf head)) e₁ ∙ laid-first s parkMark refl head in
-    let laid₃ : s₃ ≡ sets s 0 (parkMark ++ bytesOf (head ++ zeros)) =
-    e₃ ∙ ap (λ (l : List ℕ). sets l 16 (bytesOf zeros)) laid₂ ∙ laid-next s parkMark refl head zeros 4 refl in
-    sealed s parkMark (number ∷ tail ∷ zeros) s₃ s₄ refl (words-cons number (tail ∷ zeros) hn (words-cons tail zeros ht (words-zeros 124))) size laid₃ e₄
+    let l₀ = laid-mark s parkMark refl s₀ e₀ in
+    let l₁ = laid-word s parkMark refl [] 1 0 s₀ s₁ refl l₀ e₁ in
+    let l₂ = laid-word s parkMark refl (0 ∷ []) 2 number s₁ s₂ refl l₁ e₂ in
+    let l₃ = laid-word s parkMark refl (0 ∷ number ∷ []) 3 tail s₂ s₃ refl l₂ e₃ in
+    let l₄ : s₄ ≡ sets s 0 (parkMark ++ bytesOf (head ++ zeros)) =
+    e₄ ∙ ap (λ (l : List ℕ). sets l 16 (bytesOf zeros)) l₃ ∙ laid-next s parkMark refl head zeros 4 refl in
+    sealed s parkMark (number ∷ tail ∷ zeros) s₄ s₅ refl (words-cons number (tail ∷ zeros) hn (words-cons tail zeros ht (words-zeros 124))) size l₄ e₅
 
 module _ (bs : List ℕ) where
   pub park-unmarked : startsWith parkMark bs ≡ false → isParkRecord bs (wordsOf bs) ≡ false

@@ -10,14 +10,15 @@ use geometry::Geometry;
 // Words 4 and on are zero.
 const ZEROS: usize = Geometry::WORDS - 4;
 
-// Fills s with a park record.
+// Fills s with a park record: its words in order, with zero for the balance, which is put in last.
 pub fn put_park(s: &mut [u8], number: u32, tail: u32)
     requires { ⌜ length (now s) ≡ sectorBytes ⌝ }
     ensures { λ _. ⌜ now (s .exit) ≡ parkRecord (record { number = number; tail = tail }) ⌝ }
 {
-    let words = [0u32, number, tail];
     marks::put_mark(s, &marks::PARK_MARK);
-    words::put_words(s, 1, &words);
+    words::put_word(s, 1, 0);
+    words::put_word(s, 2, number);
+    words::put_word(s, 3, tail);
     words::put_zeros(s, 4, ZEROS);
     sums::put_balance(s);
 }

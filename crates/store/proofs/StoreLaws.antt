@@ -24,18 +24,17 @@ use Rattle.power.specs.declared.allowance.Power.the-variants.{Left, Failed}
 use Rattle.power.specs.Power.{powered}
 use Rattle.power.proofs.Runs.{first-fails, second-runs}
 use Rattle.pieces.specs.Arrays.{flagged, planOf, changeOf, blockStore}
-use Rattle.entries.specs.Cursor.{Cursor}
+use Rattle.piece_entries.specs.Cursor.{Cursor}
 
-same-sector : (l p : ℕ) (n n′ : ℕ) (c c′ : Bool) (b b′ e e′ : List ℕ) → n ≡ n′ → c ≡ c′ → b ≡ b′ → e ≡ e′
+same-sector : (l p : ℕ) (n n′ : ℕ) (c c′ : Bool) (b b′ e : List ℕ) → n ≡ n′ → c ≡ c′ → b ≡ b′
     → encoded l (record { number = n; piece = p; closing = c; branches = b; entries = e })
-    ≡ encoded l (record { number = n′; piece = p; closing = c′; branches = b′; entries = e′ })
-same-sector l p n n′ c c′ b b′ e e′ f g h i =
+    ≡ encoded l (record { number = n′; piece = p; closing = c′; branches = b′; entries = e })
+same-sector l p n n′ c c′ b b′ e f g h =
     ap (λ (x : ℕ). encoded l (record { number = x; piece = p; closing = c; branches = b; entries = e })) f
     ∙ ap (λ (x : Bool). encoded l (record { number = n′; piece = p; closing = x; branches = b; entries = e })) g
     ∙ ap (λ (x : List ℕ). encoded l (record { number = n′; piece = p; closing = c′; branches = x; entries = e })) h
-    ∙ ap (λ (x : List ℕ). encoded l (record { number = n′; piece = p; closing = c′; branches = b′; entries = x })) i
 
-module _ (l number p members j count : ℕ) (branches taken : List ℕ) (es fs : List ℕ) (same : es ≡ fs) where
+module _ (l number p members j count : ℕ) (branches taken entries : List ℕ) where
   abbrev made : List ℕ
   made =
       encoded l
@@ -44,22 +43,22 @@ module _ (l number p members j count : ℕ) (branches taken : List ℕ) (es fs :
         piece = p;
         closing = eqb (suc j) members;
         branches = cond (isZero j) branches (at taken (count + (j - 1)) ∷ []);
-        entries = fs;
+        entries = entries;
       })
 
-  pub first-member : j ≡ 0 → encoded l (record { number = number + 1 + j; piece = p; closing = eqb (j + 1) members; branches = branches; entries = es }) ≡ made
+  pub first-member : j ≡ 0 → encoded l (record { number = number + 1 + j; piece = p; closing = eqb (j + 1) members; branches = branches; entries = entries }) ≡ made
   first-member z =
-      same-sector l p (number + 1 + j) (suc (number + j)) (eqb (j + 1) members) (eqb (suc j) members) branches _ es fs (omega arith)
-      (ap (λ (x : ℕ). eqb x members) (add-one j)) (sym (cond-true (isZero j) branches (at taken (count + (j - 1)) ∷ []) (eq-eqb j 0 z))) same
+      same-sector l p (number + 1 + j) (suc (number + j)) (eqb (j + 1) members) (eqb (suc j) members) branches _ entries (omega arith)
+      (ap (λ (x : ℕ). eqb x members) (add-one j)) (sym (cond-true (isZero j) branches (at taken (count + (j - 1)) ∷ []) (eq-eqb j 0 z)))
 
   pub later-member : (j ≡ 0 → ⊥)
-      → encoded l (record { number = number + 1 + j; piece = p; closing = eqb (j + 1) members; branches = at taken (count + j - 1) ∷ []; entries = es })
+      → encoded l (record { number = number + 1 + j; piece = p; closing = eqb (j + 1) members; branches = at taken (count + j - 1) ∷ []; entries = entries })
       ≡ made
   later-member d =
-      same-sector l p (number + 1 + j) (suc (number + j)) (eqb (j + 1) members) (eqb (suc j) members) (at taken (count + j - 1) ∷ []) _ es fs (omega arith)
+      same-sector l p (number + 1 + j) (suc (number + j)) (eqb (j + 1) members) (eqb (suc j) members) (at taken (count + j - 1) ∷ []) _ entries (omega arith)
       (ap (λ (x : ℕ). eqb x members) (add-one j))
       (ap (λ (x : ℕ). at taken x ∷ []) (let e : count + j - 1 ≡ count + (j - 1) = omega arith in e)
-      ∙ sym (cond-false (isZero j) branches (at taken (count + (j - 1)) ∷ []) (ne-eqb j 0 d))) same
+      ∙ sym (cond-false (isZero j) branches (at taken (count + (j - 1)) ∷ []) (ne-eqb j 0 d)))
 
 module _ (s : State) (map blocks news taken branches written : List ℕ) (count members : ℕ) where
   abbrev pub stores : ℕ → Store

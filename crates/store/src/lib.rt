@@ -13,7 +13,7 @@ ghost use Rattle.volume.specs.Store.{applied, storesBelow};
 ghost use Rattle.volume.specs.Commit.{memberStore};
 ghost use Rattle.power.specs.Power.{powered};
 ghost use Rattle.pieces.specs.Arrays.{flagged, planOf, changeOf, blockStore};
-ghost use Rattle.entries.specs.Cursor.{Cursor};
+ghost use Rattle.piece_entries.specs.Cursor.{Cursor};
 ghost use Rattle.store.specs.Ready.{Ready};
 use geometry::Geometry;
 use power::allowance::Power;
@@ -82,16 +82,36 @@ fn store_member(
     let closing = j + 1 == members;
     let place = (count as usize) + (j as usize);
     let k = taken[place] as usize;
-    let mut entries = [0u32; Geometry::PIECE_ENTRIES];
-    let next = entries::changed_piece(map, l, p, blocks, news, &mut entries, from);
     if j == 0 {
-        images::store_map(image, k, l, number, p, closing, branches, &entries);
-        return next;
+        return images::store_map(
+            image,
+            k,
+            l,
+            number,
+            p,
+            closing,
+            branches,
+            map,
+            blocks,
+            news,
+            from,
+        );
     }
     let last = taken[place - 1];
     let before = [last];
-    images::store_map(image, k, l, number, p, closing, &before, &entries);
-    next
+    images::store_map(
+        image,
+        k,
+        l,
+        number,
+        p,
+        closing,
+        &before,
+        map,
+        blocks,
+        news,
+        from,
+    )
 }
 
 // The members, by piece.

@@ -6,8 +6,8 @@ use Rattle.blocks.proofs.Blocks.{stored-flipped, stored-plain}
 use Rattle.blocks.proofs.store_block.Statement.{statement}
 use Rattle.blocks.proofs.store_block.Tie as tie
 
-copy-sector-requires : tie.Need-copy-sector-requires
-copy-sector-requires c κs = search needs
+copy-over-requires : tie.Need-copy-over-requires
+copy-over-requires c κs = search needs
 
 needs-flip-requires : tie.Need-needs-flip-requires
 needs-flip-requires c κs = search needs
@@ -22,10 +22,10 @@ returns : tie.Need-returns
 returns c =
     let the-if1 = c .before .before .before .before .if1 in
     let the-needs-flip = c .before .before .before .before .before .needs-flip in
-    let the-copy-sector = c .before .before .before .before .before .before .before .before .copy-sector in
+    let the-copy-over = c .before .before .before .before .before .before .before .before .copy-over in
     let the-args = c .before .before .before .before .before .before .before .before .before .before .before .before .args in
     c .before .before .complement .ensures
-    ∙ ap complemented (the-copy-sector .ensures)
+    ∙ ap complemented (the-copy-over .ensures)
     ∙ sym (stored-flipped (the-args .block .now) (sym (the-needs-flip .ensures) ∙ the-if1 .taken))
 
 same-length-2 : tie.Need-same-length-2
@@ -33,16 +33,16 @@ same-length-2 c = search needs
 
 returns-2 : tie.Need-returns-2
 returns-2 c =
-    let the-copy-sector = c .before .before .before .before .copy-sector in
+    let the-copy-over = c .before .before .before .before .copy-over in
     let the-args = c .before .before .before .before .before .before .before .before .args in
-    the-copy-sector .ensures
+    the-copy-over .ensures
     ∙ sym (stored-plain (the-args .block .now) (sym (c .before .needs-flip .ensures) ∙ c .if1 .left))
 
 pub store-block-spec : {M : Type 1} → statement M
 store-block-spec =
     tie.close
     (tie.spec
-    copy-sector-requires
+    copy-over-requires
     needs-flip-requires
     complement-requires
     same-length

@@ -13,17 +13,17 @@ mul-first c = search needs
 add-end : tie.Need-add-end
 add-end c = search needs
 
-sub-copy-sector : tie.Need-sub-copy-sector
-sub-copy-sector c = search needs
+sub-copy-over : tie.Need-sub-copy-over
+sub-copy-over c = search needs
 
-part-copy-sector-start : tie.Need-part-copy-sector-start
-part-copy-sector-start c = search needs
+part-copy-over-start : tie.Need-part-copy-over-start
+part-copy-over-start c = search needs
 
-part-copy-sector-end : tie.Need-part-copy-sector-end
-part-copy-sector-end c = search needs
+part-copy-over-end : tie.Need-part-copy-over-end
+part-copy-over-end c = search needs
 
-copy-sector-requires : tie.Need-copy-sector-requires
-copy-sector-requires c κs = search needs
+copy-over-requires : tie.Need-copy-over-requires
+copy-over-requires c κs = search needs
 
 same-length : tie.Need-same-length
 same-length c = search needs
@@ -32,7 +32,7 @@ returns : tie.Need-returns
 returns c =
     let the-pre = c .before .before .before .before .before .before .pre in
     let a = c .before .before .before .before .before .before .args in
-    let made = c .before .before .copy-sector in
+    let made = c .before .before .copy-over in
     let size : 512 * a .k + 512 - 512 * a .k ≡ 512 = omega arith in
     sector-lent (a .image .now) (a .k) _ (made .last .0) _ (the-pre .0) size (made .kept .0) (made .ensures)
 
@@ -42,9 +42,9 @@ store-sector-spec =
     (tie.spec
     mul-first
     add-end
-    sub-copy-sector
-    part-copy-sector-start
-    part-copy-sector-end
-    copy-sector-requires
+    sub-copy-over
+    part-copy-over-start
+    part-copy-over-end
+    copy-over-requires
     same-length
     returns)

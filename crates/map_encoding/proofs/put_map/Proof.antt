@@ -1,41 +1,30 @@
 -- The words are laid in order with a zero for the balance, and the balance takes its place.
-use borrow.Author.Needs.{needs}
+use mathlib.Core.Path.{_∙_}
+use lib.ListN.{length}
+use Rattle.layout.specs.Bounded.{at, updates}
+use Rattle.volume.specs.Tables.{pieceEntries}
+use Rattle.piece_entries.proofs.EntryLaws.{piece-length, piece-words}
 use Rattle.map_encoding.proofs.Encoding.{map-stored}
+use borrow.Author.Needs.{needs}
 use Rattle.map_encoding.proofs.put_map.Statement.{statement}
 use Rattle.map_encoding.proofs.put_map.Tie as tie
 
-kind-of-requires : tie.Need-kind-of-requires
-kind-of-requires c κs = search needs
+cast-put-header : tie.Need-cast-put-header
+cast-put-header c = search needs
 
-cast-t12 : tie.Need-cast-t12
-cast-t12 c = search needs
+put-header-requires : tie.Need-put-header-requires
+put-header-requires c κs = search needs
 
-slice-aggregate-put-mark : tie.Need-slice-aggregate-put-mark
-slice-aggregate-put-mark c = search needs
+put-branches-requires : tie.Need-put-branches-requires
+put-branches-requires c κs = search needs
 
-put-mark-requires : tie.Need-put-mark-requires
-put-mark-requires c κs = search needs
-
-slice-aggregate-put-words : tie.Need-slice-aggregate-put-words
-slice-aggregate-put-words c = search needs
-
-put-words-requires : tie.Need-put-words-requires
-put-words-requires c κs = search needs
-
-put-words-requires-2 : tie.Need-put-words-requires-2
-put-words-requires-2 c κs = search needs
-
-add-put-zeros : tie.Need-add-put-zeros
-add-put-zeros c = search needs
-
-sub-put-zeros : tie.Need-sub-put-zeros
-sub-put-zeros c = search needs
-
-put-zeros-requires : tie.Need-put-zeros-requires
-put-zeros-requires c κs = search needs
-
-put-words-requires-3 : tie.Need-put-words-requires-3
-put-words-requires-3 c κs = search needs
+put-entries-requires : tie.Need-put-entries-requires
+put-entries-requires c κs =
+    let at-put-branches = c .before .before .before in
+    let at-put-header = at-put-branches .before .before .before .before in
+    let r = at-put-header .before .before .before .before .before .before .before .pre in
+    let long = at-put-branches .put-branches .kept .0 ∙ at-put-header .put-header .kept .0 ∙ r .0 in
+    (long, (r .1 .1 .1 .0, (r .1 .0, (r .1 .1 .1 .1 .0, (r .1 .1 .1 .1 .1 .0, r .1 .1 .1 .1 .1 .1)))))
 
 put-balance-requires : tie.Need-put-balance-requires
 put-balance-requires c κs = search needs
@@ -46,36 +35,36 @@ same-length c = search needs
 returns : tie.Need-returns
 returns c =
     let at-put-balance = c .before .before in
-    let at-put-words3 = at-put-balance .before .before .before .before in
-    let at-put-zeros = at-put-words3 .before .before .before .before in
-    let at-put-words2 = at-put-zeros .before .before .before .before in
-    let at-put-words = at-put-words2 .before .before .before .before in
-    let at-put-mark = at-put-words .before .before .before .before .before in
-    let at-kind-of = at-put-mark .before .before .before in
-    let at-shared-slice-known2 = at-kind-of .before in
-    let at-shared-slice-known = at-shared-slice-known2 .before in
-    let at-start = at-shared-slice-known .before .before in
+    let at-put-entries = at-put-balance .before .before .before .before in
+    let at-put-branches = at-put-entries .before .before .before .before in
+    let at-put-header = at-put-branches .before .before .before .before in
+    let at-news = at-put-header .before .before in
+    let at-map = at-news .before .before in
+    let at-branches = at-map .before in
+    let at-start = at-branches .before .before in
     let a = at-start .args in
     let f = at-start .fits in
-    map-stored (a .l) (a .number) (a .piece) (a .closing) (a .branches .now) (a .entries .now) (at-start .pre .1 .0) (at-start .pre .1 .1) (a .s .now) _ _ _ _ _ _ (at-kind-of .kind-of .result) (at-start .pre .0)
-    (f .l .fits) (f .number .fits) (f .piece .fits) (λ i. (at-shared-slice-known .shared-slice-known .given i) .fits) (λ i. (at-shared-slice-known2 .shared-slice-known2 .given i) .fits) (at-kind-of .kind-of .ensures)
-    (at-put-mark .put-mark .ensures) (at-put-words .put-words .ensures) (at-put-words2 .put-words2 .ensures) (at-put-zeros .put-zeros .ensures) (at-put-words3 .put-words3 .ensures) (at-put-balance .put-balance .ensures)
+    let r = at-start .pre in
+    let blocks = a .blocks .now in
+    let changed = updates (at (a .map .now)) (at blocks) (at (a .news .now)) (length blocks) in
+    let words = piece-words (a .l) (a .piece) (length blocks) (a .map .now) blocks (a .news .now)
+    (λ i. (at-map .shared-slice-known2 .given i) .fits) (λ i. (at-news .shared-slice-known4 .given i) .fits) in (
+      at-put-entries .put-entries .ensures .0,
+      map-stored (a .l) (a .number) (a .piece) (a .closing) (a .branches .now) (pieceEntries (a .l) changed (a .piece)) (r .1 .1 .0)
+          (piece-length (a .l) (a .piece) changed) (a .s .now) _ _ _ _ (r .0)
+          (f .l .fits) (f .number .fits) (f .piece .fits) (λ i. (at-branches .shared-slice-known .given i) .fits) words
+          (at-put-header .put-header .ensures) (at-put-branches .put-branches .ensures) (at-put-entries .put-entries .ensures .1)
+          (at-put-balance .put-balance .ensures),
+    )
 
 pub put-map-spec : {M : Type 1} → statement M
 put-map-spec =
     tie.close
     (tie.spec
-    kind-of-requires
-    cast-t12
-    slice-aggregate-put-mark
-    put-mark-requires
-    slice-aggregate-put-words
-    put-words-requires
-    put-words-requires-2
-    add-put-zeros
-    sub-put-zeros
-    put-zeros-requires
-    put-words-requires-3
+    cast-put-header
+    put-header-requires
+    put-branches-requires
+    put-entries-requires
     put-balance-requires
     same-length
     returns)

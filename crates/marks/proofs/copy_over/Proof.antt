@@ -11,10 +11,10 @@ use Rattle.marks.proofs.copy_over.Statement.{statement}
 use Rattle.marks.proofs.copy_over.Tie as tie
 
 abbrev Inv-loop : tie.InvT-loop
-Inv-loop dst₀ src i₀ dst i = (i ≤ length src) × (length dst ≡ length dst₀) × (dst ≡ sets dst₀ 0 (take i src))
+Inv-loop dst₀ src count i₀ dst i = (i ≤ count) × (length dst ≡ length dst₀) × (dst ≡ sets dst₀ 0 (take i src))
 
 abbrev μ-loop : tie.MeasureT-loop
-μ-loop dst₀ src i₀ dst i = length src - i
+μ-loop dst₀ src count i₀ dst i = count - i
 
 loop-holds : tie.Need-loop-holds Inv-loop μ-loop
 loop-holds c = (search needs, refl, refl)
@@ -51,7 +51,7 @@ returns c =
     let l = the-args .dst .now in
     let src = the-args .src .now in
     let i = the-loop .i in
-    the-loop .inv .2 ∙ ap (sets l 0) (take-all i src (omega arith)) ∙ sets-whole l src (the-pre)
+    the-loop .inv .2 ∙ ap (sets l 0) (take-all i src (omega arith)) ∙ sets-whole l src (omega arith)
 
 pub copy-over-spec : {M : Type 1} → statement M
 copy-over-spec =

@@ -1,14 +1,14 @@
 -- The first member, or a later one, as the definition has it.
 use Prim.Native.Nat.{_+_}
-use mathlib.Core.Path.{refl, _∙_, ap}
+use mathlib.Core.Path.{_∙_, ap}
 use native.Mathlib.Omega.{arith}
-use Rattle.layout.specs.Bounded.{at, updated}
-use Rattle.volume.specs.Tables.{sectorAt}
+use lib.ListN.{length}
+use Rattle.layout.specs.Bounded.{at, updated, updates}
+use Rattle.volume.specs.Tables.{sectorAt, pieceEntries}
 use Rattle.store.proofs.StoreLaws.{first-member, later-member}
 use borrow.Author.Needs.{needs}
 use Rattle.store.proofs.store_member.Statement.{statement}
 use Rattle.store.proofs.store_member.Tie as tie
-use Rattle.entries.proofs.changed_piece.Reads as changed-piece-reads
 use Rattle.images.proofs.store_map.Reads as store-map-reads
 
 add-number : tie.Need-add-number
@@ -36,25 +36,13 @@ cast-k c =
     let k = the-pre .1 .1 .1 .1 .0 (a .count + a .j) (omega arith) in
     omega arith
 
-slice-aggregate-changed-piece : tie.Need-slice-aggregate-changed-piece
-slice-aggregate-changed-piece c = search needs
-
-changed-piece-requires : tie.Need-changed-piece-requires
-changed-piece-requires c κs =
-    let the-pre = c .before .before .before .before .before .before .before .before .before .pre in
-    let last = the-pre .1 .1 .1 .1 .1 .1 .1 .1 .1 in
-    (the-pre .1 .0, (last .0, (the-pre .1 .1 .0, (refl, (the-pre .1 .1 .1 .0, last .1)))))
-
-slice-aggregate-store-map : tie.Need-slice-aggregate-store-map
-slice-aggregate-store-map c = search needs
-
 store-map-requires : tie.Need-store-map-requires
 store-map-requires c κs =
-    let the-changed-piece = c .before .before .before .before .changed-piece in
-    let the-pre = c .before .before .before .before .before .before .before .before .before .before .before .before .before .before .pre in
-    let a = c .before .before .before .before .before .before .before .before .before .before .before .before .before .before .args in
-    let k = the-pre .1 .1 .1 .1 .0 (a .count + a .j) (omega arith) in
-    (omega arith, (the-pre .1 .1 .1 .1 .1 .1 .0, the-changed-piece .kept .1 .1 .1 .1 .1 .0))
+    let r = c .before .before .before .before .before .before .before .before .before .before .pre in
+    let a = c .before .before .before .before .before .before .before .before .before .before .args in
+    let k = r .1 .1 .1 .1 .0 (a .count + a .j) (omega arith) in
+    let last = r .1 .1 .1 .1 .1 .1 .1 .1 .1 in
+    (omega arith, (last .0, (r .1 .1 .1 .1 .1 .1 .0, (omega arith, (r .1 .1 .0, (r .1 .1 .1 .0, last .1))))))
 
 same-length : tie.Need-same-length
 same-length c = search needs
@@ -62,12 +50,13 @@ same-length c = search needs
 returns : tie.Need-returns
 returns c =
     let the-store-map = c .before .before .store-map in
-    let the-if1 = c .before .before .before .before .before .if1 in
-    let the-changed-piece = c .before .before .before .before .before .before .before .changed-piece in
-    let a = c .before .before .before .before .before .before .before .before .before .before .before .before .before .before .before .before .before .args in (
-      the-changed-piece .ensures .0,
-      the-store-map .ensures ∙ ap (updated (sectorAt (a .image .now)) (at (a .taken .now) (a .count + a .j)))
-          (first-member (a .s .geometry .l) (a .s .number) (a .p) (a .members) (a .j) (a .count) (a .branches .now) (a .taken .now) _ _ (the-changed-piece .ensures .1) (the-if1 .taken)),
+    let the-if1 = c .before .before .before .before .if1 in
+    let a = c .before .before .before .before .before .before .before .before .before .before .before .before .before .args in
+    let blocks = a .blocks .now in
+    let entries = pieceEntries (a .s .geometry .l) (updates (at (a .map .now)) (at blocks) (at (a .news .now)) (length blocks)) (a .p) in (
+      the-store-map .ensures .0,
+      the-store-map .ensures .1 ∙ ap (updated (sectorAt (a .image .now)) (at (a .taken .now) (a .count + a .j)))
+          (first-member (a .s .geometry .l) (a .s .number) (a .p) (a .members) (a .j) (a .count) (a .branches .now) (a .taken .now) entries (the-if1 .taken)),
     )
 
 sub-last : tie.Need-sub-last
@@ -78,35 +67,33 @@ mul-last c = search needs
 
 shared-slice-read-last : tie.Need-shared-slice-read-last
 shared-slice-read-last c =
-    let the-pre = c .before .before .before .before .before .before .before .before .before .before .before .before .before .pre in
+    let the-pre = c .before .before .before .before .before .before .before .before .before .before .pre in
     omega arith
 
-slice-aggregate-store-map-2 : tie.Need-slice-aggregate-store-map-2
-slice-aggregate-store-map-2 c = search needs
-
-slice-aggregate-store-map-3 : tie.Need-slice-aggregate-store-map-3
-slice-aggregate-store-map-3 c = search needs
+slice-aggregate-store-map : tie.Need-slice-aggregate-store-map
+slice-aggregate-store-map c = search needs
 
 store-map-requires-2 : tie.Need-store-map-requires-2
 store-map-requires-2 c κs =
-    let the-changed-piece = c .before .before .before .before .before .before .changed-piece in
-    let the-pre = c .before .before .before .before .before .before .before .before .before .before .before .before .before .before .before .before .pre in
-    let a = c .before .before .before .before .before .before .before .before .before .before .before .before .before .before .before .before .args in
-    let k = the-pre .1 .1 .1 .1 .0 (a .count + a .j) (omega arith) in
-    (omega arith, (omega arith, the-changed-piece .kept .1 .1 .1 .1 .1 .0))
+    let r = c .before .before .before .before .before .before .before .before .before .before .before .before .pre in
+    let a = c .before .before .before .before .before .before .before .before .before .before .before .before .args in
+    let k = r .1 .1 .1 .1 .0 (a .count + a .j) (omega arith) in
+    let last = r .1 .1 .1 .1 .1 .1 .1 .1 .1 in
+    (omega arith, (last .0, (omega arith, (omega arith, (r .1 .1 .0, (r .1 .1 .1 .0, last .1))))))
 
 same-length-2 : tie.Need-same-length-2
 same-length-2 c = search needs
 
 returns-2 : tie.Need-returns-2
 returns-2 c =
-    let the-store-map2 = c .before .before .store-map2 in
-    let the-if1 = c .before .before .before .before .before .before .before .if1 in
-    let the-changed-piece = c .before .before .before .before .before .before .before .before .before .changed-piece in
-    let a = c .before .before .before .before .before .before .before .before .before .before .before .before .before .before .before .before .before .before .before .args in (
-      the-changed-piece .ensures .0,
-      the-store-map2 .ensures ∙ ap (updated (sectorAt (a .image .now)) (at (a .taken .now) (a .count + a .j)))
-          (later-member (a .s .geometry .l) (a .s .number) (a .p) (a .members) (a .j) (a .count) (a .branches .now) (a .taken .now) _ _ (the-changed-piece .ensures .1) (the-if1 .left)),
+    let the-store-map = c .before .before .store-map2 in
+    let the-if1 = c .before .before .before .before .before .before .if1 in
+    let a = c .before .before .before .before .before .before .before .before .before .before .before .before .before .before .before .args in
+    let blocks = a .blocks .now in
+    let entries = pieceEntries (a .s .geometry .l) (updates (at (a .map .now)) (at blocks) (at (a .news .now)) (length blocks)) (a .p) in (
+      the-store-map .ensures .0,
+      the-store-map .ensures .1 ∙ ap (updated (sectorAt (a .image .now)) (at (a .taken .now) (a .count + a .j)))
+          (later-member (a .s .geometry .l) (a .s .number) (a .p) (a .members) (a .j) (a .count) (a .branches .now) (a .taken .now) entries (the-if1 .left)),
     )
 
 pub store-member-spec : {M : Type 1} → statement M
@@ -120,17 +107,13 @@ store-member-spec =
     mul-k
     shared-slice-read-k
     cast-k
-    slice-aggregate-changed-piece
-    changed-piece-requires
-    slice-aggregate-store-map
     store-map-requires
     same-length
     returns
     sub-last
     mul-last
     shared-slice-read-last
-    slice-aggregate-store-map-2
-    slice-aggregate-store-map-3
+    slice-aggregate-store-map
     store-map-requires-2
     same-length-2
     returns-2)

@@ -12,7 +12,7 @@ use Rattle.power.proofs.Storing.{Storing, storing-starts, storing-skips, storin
 use Rattle.geometry.specs.Geometry.{piecesFor}
 use Rattle.pieces.specs.Arrays.{flagged}
 use Rattle.pieces.proofs.FlagLaws.{flags-none}
-use Rattle.entries.specs.Cursor.{Cursor}
+use Rattle.piece_entries.specs.Cursor.{Cursor}
 use Rattle.store.proofs.StoreLaws.{stores, member-stored, rank-skips, rank-grows, cursor-starts, cursor-skips, is-flagged, not-flagged}
 use Rattle.store.proofs.store_members.Statement.{statement}
 use Rattle.store.proofs.store_members.Tie as tie
