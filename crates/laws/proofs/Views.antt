@@ -15,10 +15,10 @@ use borrow.Author.Tests.{eqb-true, eqb-false, eq-eqb, ne-eqb}
 use Rattle.geometry.specs.Geometry.{sectorBytes}
 use Rattle.layout.specs.Bounded.{at, updated}
 use Rattle.volume.specs.Tables.{Memory, sectorAt, bitAt, memory}
-use Rattle.laws.proofs.Bounded.{eq?}
+use Rattle.laws.proofs.Bounded.{eq?, updated-here}
 use Rattle.laws.proofs.Words.{Bytes}
 use Rattle.laws.proofs.Runs.{sets-part}
-use Rattle.laws.proofs.Sectors.{sector-stored}
+use Rattle.laws.proofs.Sectors.{sector-length, sector-stored}
 
 pub words-fixed : (xs ys : List ℕ) → length xs ≡ length ys → at xs ≡ at ys → xs ≡ ys
 words-fixed xs ys h e = ext-getD 0 xs ys h (λ i _. ap (λ (f : ℕ → ℕ). f i) e)
@@ -37,10 +37,12 @@ image-fixed im im′ h e =
     ext-getD 0 im im′ h
     (λ i _. byte-of im i ∙ ap (λ (f : ℕ → List ℕ). at (f (i / 512)) (i % 512)) e ∙ sym (byte-of im′ i))
 
--- An image in which one sector was stored: its bytes stand there, and every byte outside it is as it was.
-pub stored-there : (im im′ : List ℕ) (k : ℕ) (b : List ℕ) → length im′ ≡ length im → 512 * k + 512 ≤ length im → length b ≡ 512
+-- An image in which one sector was stored: the sector's bytes stand there, and every byte outside it is as it was.
+pub stored-there : (im im′ : List ℕ) (k : ℕ) (b : List ℕ) → length im′ ≡ length im → 512 * k + 512 ≤ length im
     → sectorAt im′ ≡ updated (sectorAt im) k b → im′ ≡ sets im (512 * k) b
-stored-there im im′ k b h room long e =
+stored-there im im′ k b h room e =
+    let there : sectorAt im′ k ≡ b = ap (λ (f : ℕ → List ℕ). f k) e ∙ updated-here (sectorAt im) k b in
+    let long : length b ≡ 512 = sym (ap length there) ∙ sector-length im′ k (omega arith) in
     let as-part : sectorAt (sets im (512 * k) b) ≡ updated (sectorAt im) k b =
     ap sectorAt (sym (sets-part im (512 * k) b 512 (sym long) (omega arith))) ∙ sector-stored im k b room long 512 refl in
     image-fixed im′ (sets im (512 * k) b) (h ∙ sym (length-sets im (512 * k) b)) (e ∙ sym as-part)

@@ -44,7 +44,7 @@ same-length c =
 returns : tie.Need-returns Inv-loop μ-loop
 returns c =
     let l = c .before .before .before .loop in
-    changing-ends _ _ _ _ _ _ (l .i) (l .s) (l .inv) _ (c .before .before .before .before .before .before .put-piece .ensures) (λ h. c .if1 .taken)
+    changing-ends _ _ _ _ _ _ (l .i) (l .s) (l .inv) _ (c .before .before .before .before .before .before .put-piece .ensures) (λ h. let t = c .if1 .taken in omega arith)
 
 sub-here : tie.Need-sub-here Inv-loop μ-loop
 sub-here c =

@@ -79,7 +79,8 @@ sub-put-zeros : tie.Need-sub-put-zeros
 sub-put-zeros c =
     let at-end = c .before .before .before .before .before .before in
     let a = at-end .before .before .before .before .args in
-    held (a .map .now) (96 * a .p) 96 _ _ (at-end .before .lesser .ensures) (at-end .lesser2 .ensures) .2
+    let h = held (a .map .now) (96 * a .p) 96 _ _ (at-end .before .lesser .ensures) (at-end .lesser2 .ensures) in
+    omega arith
 
 put-zeros-requires : tie.Need-put-zeros-requires
 put-zeros-requires c κs =
