@@ -73,6 +73,18 @@ pub fn store_block(dst: &mut [u8], block: &[u8])
     }
 }
 
+// Copies a sector out. By way of a local one, so that the compiler makes it one move of a known length: of the two that are lent it does not
+// know that they are apart.
+fn copy_out(out: &mut [u8], bytes: &[u8])
+    requires { ⌜ length (now out) ≡ sectorBytes ⌝ }
+    requires { ⌜ length (now bytes) ≡ sectorBytes ⌝ }
+    ensures { λ _. ⌜ now (out .exit) ≡ now (bytes .entry) ⌝ }
+{
+    let mut held = [0u8; Geometry::SECTOR];
+    marks::copy_over(&mut held, bytes, Geometry::SECTOR);
+    marks::copy_over(out, &held, Geometry::SECTOR);
+}
+
 // Fills out with the block that an entry reads as, given the bytes of its sector.
 pub fn restore_block(out: &mut [u8], entry: u32, bytes: &[u8])
     requires { ⌜ length (now out) ≡ sectorBytes ⌝ }
@@ -84,7 +96,7 @@ pub fn restore_block(out: &mut [u8], entry: u32, bytes: &[u8])
         marks::copy_over(out, &zeros, Geometry::SECTOR);
         return;
     }
-    marks::copy_over(out, bytes, Geometry::SECTOR);
+    copy_out(out, bytes);
     if is_flipped(entry) {
         complement(out);
     }

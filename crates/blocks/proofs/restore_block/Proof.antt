@@ -21,8 +21,8 @@ returns c =
     let a = c .before .before .before .before .before .before .before .before .args in
     c .before .before .copy-over .ensures ∙ sym (restored-empty (a .entry) (a .bytes .now) (the-if1 .taken))
 
-copy-over-requires-2 : tie.Need-copy-over-requires-2
-copy-over-requires-2 c κs = search needs
+copy-out-requires : tie.Need-copy-out-requires
+copy-out-requires c κs = search needs
 
 is-flipped-requires : tie.Need-is-flipped-requires
 is-flipped-requires c κs = search needs
@@ -37,11 +37,11 @@ returns-2 : tie.Need-returns-2
 returns-2 c =
     let the-if2 = c .before .before .before .before .if2 in
     let the-is-flipped = c .before .before .before .before .before .is-flipped in
-    let the-copy = c .before .before .before .before .before .before .before .before .copy-over2 in
+    let the-copy-out = c .before .before .before .before .before .before .before .before .copy-out in
     let the-if1 = c .before .before .before .before .before .before .before .before .before .before .if1 in
     let a = c .before .before .before .before .before .before .before .before .before .before .before .before .before .args in
     c .before .before .complement .ensures
-    ∙ ap complemented (the-copy .ensures)
+    ∙ ap complemented (the-copy-out .ensures)
     ∙ sym (restored-flipped (a .entry) (a .bytes .now) (the-if1 .left) (sym (the-is-flipped .ensures) ∙ the-if2 .taken))
 
 same-length-3 : tie.Need-same-length-3
@@ -49,10 +49,10 @@ same-length-3 c = search needs
 
 returns-3 : tie.Need-returns-3
 returns-3 c =
-    let the-copy = c .before .before .before .before .copy-over2 in
+    let the-copy-out = c .before .before .before .before .copy-out in
     let the-if1 = c .before .before .before .before .before .before .if1 in
     let a = c .before .before .before .before .before .before .before .before .before .args in
-    the-copy .ensures
+    the-copy-out .ensures
     ∙ sym (restored-plain (a .entry) (a .bytes .now) (the-if1 .left) (sym (c .before .is-flipped .ensures) ∙ c .if2 .left))
 
 pub restore-block-spec : {M : Type 1} → statement M
@@ -63,7 +63,7 @@ restore-block-spec =
     copy-over-requires
     same-length
     returns
-    copy-over-requires-2
+    copy-out-requires
     is-flipped-requires
     complement-requires
     same-length-2
