@@ -36,6 +36,11 @@ header-stored s s₀ s₁ s₂ s₃ s₄ s₅ s₆ s₇ w₁ w₂ w₃ w₄ w₅
     let l₆ = laid-word s mapMark refl (w₁ ∷ w₂ ∷ w₃ ∷ w₄ ∷ w₅ ∷ []) 6 w₆ s₅ s₆ refl l₅ e₆ in
     laid-word s mapMark refl (w₁ ∷ w₂ ∷ w₃ ∷ w₄ ∷ w₅ ∷ w₆ ∷ []) 7 w₇ s₆ s₇ refl l₆ e₇
 
+-- The balance of what was put before it.
+pub then-balanced : (laid s s′ : List ℕ) → s ≡ laid → s′ ≡ sets s 4 (wordBytes (balance (wordSum (wordsOf s))))
+    → s′ ≡ sets laid 4 (wordBytes (balance (wordSum (wordsOf laid))))
+then-balanced laid s s′ e f = f ∙ ap (λ (t : List ℕ). sets t 4 (wordBytes (balance (wordSum (wordsOf t))))) e
+
 module _ (l number piece : ℕ) (closing : Bool) (branches entries : List ℕ) (few : length branches ≤ 24) (all-96 : length entries ≡ 96) where
   spare : List ℕ
   spare = replicate (24 - length branches) 0

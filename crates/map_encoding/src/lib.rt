@@ -6,7 +6,7 @@ ghost use lib.ListN.{length, replicate};
 ghost use lib.Seq.{sets};
 ghost use Rattle.geometry.specs.Geometry.{sectorBytes, branchRoom, mostPieces};
 ghost use Rattle.layout.specs.Bounded.{at, updates};
-ghost use Rattle.layout.specs.Word.{bytesOf};
+ghost use Rattle.layout.specs.Word.{wordBytes, wordsOf, bytesOf, wordSum, balance};
 ghost use Rattle.layout.specs.MapSector.{mapMark, kindOf, encoded};
 ghost use Rattle.volume.specs.Tables.{pieceEntries};
 ghost use Rattle.piece_entries.specs.Cursor.{Cursor};
@@ -45,6 +45,29 @@ fn put_branches(s: &mut [u8], branches: &[u32])
     words::put_zeros(s, 8 + count, Geometry::BRANCH_ROOM - count);
 }
 
+// Words 32 to 127, the entries of the piece, and last the balance of all words that then stand there.
+fn put_rest(
+    s: &mut [u8],
+    l: u32,
+    piece: u32,
+    map: &[u32],
+    blocks: &[u32],
+    news: &[u32],
+    from: usize,
+) -> usize
+    requires { ⌜ length (now s) ≡ sectorBytes ⌝ }
+    requires { ⌜ length (now map) ≤ l ⌝ }
+    requires { ⌜ piece < mostPieces ⌝ }
+    requires { ⌜ length (now blocks) ≤ length (now news) ⌝ }
+    requires { ⌜ ((i : ℕ) → i < length (now blocks) → at (now blocks) i < l) ⌝ }
+    requires { ⌜ Cursor (now blocks) piece from ⌝ }
+    ensures { λ r. ⌜ Cursor (now (blocks .entry)) (piece + 1) r × (let laid = sets (now (s .entry)) 128 (bytesOf (pieceEntries l (updates (at (now (map .entry))) (at (now (blocks .entry))) (at (now (news .entry))) (length (now (blocks .entry)))) piece)) in now (s .exit) ≡ sets laid 4 (wordBytes (balance (wordSum (wordsOf laid))))) ⌝ }
+{
+    let next = piece_entries::put_entries(s, l, piece, map, blocks, news, from);
+    sums::put_balance(s);
+    next
+}
+
 // Fills s with the map sector of a piece of a volume of l blocks: the map's entries, and the new ones of the named blocks. The piece's blocks
 // stand from `from` on; answers where they end.
 pub fn put_map(
@@ -70,7 +93,5 @@ pub fn put_map(
 {
     put_header(s, l, number, piece, closing, branches.len() as u32);
     put_branches(s, branches);
-    let next = piece_entries::put_entries(s, l, piece, map, blocks, news, from);
-    sums::put_balance(s);
-    next
+    put_rest(s, l, piece, map, blocks, news, from)
 }

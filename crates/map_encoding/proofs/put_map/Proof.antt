@@ -1,5 +1,5 @@
 -- The words are laid in order with a zero for the balance, and the balance takes its place.
-use mathlib.Core.Path.{_∙_}
+use mathlib.Core.Path.{refl, _∙_}
 use lib.ListN.{length}
 use Rattle.layout.specs.Bounded.{at, updates}
 use Rattle.volume.specs.Tables.{pieceEntries}
@@ -18,25 +18,21 @@ put-header-requires c κs = search needs
 put-branches-requires : tie.Need-put-branches-requires
 put-branches-requires c κs = search needs
 
-put-entries-requires : tie.Need-put-entries-requires
-put-entries-requires c κs =
+put-rest-requires : tie.Need-put-rest-requires
+put-rest-requires c κs =
     let at-put-branches = c .before .before .before in
     let at-put-header = at-put-branches .before .before .before .before in
     let r = at-put-header .before .before .before .before .before .before .before .pre in
     let long = at-put-branches .put-branches .kept .0 ∙ at-put-header .put-header .kept .0 ∙ r .0 in
     (long, (r .1 .1 .1 .0, (r .1 .0, (r .1 .1 .1 .1 .0, (r .1 .1 .1 .1 .1 .0, r .1 .1 .1 .1 .1 .1)))))
 
-put-balance-requires : tie.Need-put-balance-requires
-put-balance-requires c κs = search needs
-
 same-length : tie.Need-same-length
 same-length c = search needs
 
 returns : tie.Need-returns
 returns c =
-    let at-put-balance = c .before .before in
-    let at-put-entries = at-put-balance .before .before .before .before in
-    let at-put-branches = at-put-entries .before .before .before .before in
+    let at-put-rest = c .before .before in
+    let at-put-branches = at-put-rest .before .before .before .before in
     let at-put-header = at-put-branches .before .before .before .before in
     let at-news = at-put-header .before .before in
     let at-map = at-news .before .before in
@@ -49,12 +45,11 @@ returns c =
     let changed = updates (at (a .map .now)) (at blocks) (at (a .news .now)) (length blocks) in
     let words = piece-words (a .l) (a .piece) (length blocks) (a .map .now) blocks (a .news .now)
     (λ i. (at-map .shared-slice-known2 .given i) .fits) (λ i. (at-news .shared-slice-known4 .given i) .fits) in (
-      at-put-entries .put-entries .ensures .0,
+      at-put-rest .put-rest .ensures .0,
       map-stored (a .l) (a .number) (a .piece) (a .closing) (a .branches .now) (pieceEntries (a .l) changed (a .piece)) (r .1 .1 .0)
           (piece-length (a .l) (a .piece) changed) (a .s .now) _ _ _ _ (r .0)
           (f .l .fits) (f .number .fits) (f .piece .fits) (λ i. (at-branches .shared-slice-known .given i) .fits) words
-          (at-put-header .put-header .ensures) (at-put-branches .put-branches .ensures) (at-put-entries .put-entries .ensures .1)
-          (at-put-balance .put-balance .ensures),
+          (at-put-header .put-header .ensures) (at-put-branches .put-branches .ensures) refl (at-put-rest .put-rest .ensures .1),
     )
 
 pub put-map-spec : {M : Type 1} → statement M
@@ -64,7 +59,6 @@ put-map-spec =
     cast-put-header
     put-header-requires
     put-branches-requires
-    put-entries-requires
-    put-balance-requires
+    put-rest-requires
     same-length
     returns)
