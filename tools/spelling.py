@@ -29,6 +29,8 @@ APART = {"sum_below": "sum_below_lem"}
 def snake(name):
     if name in FACTS:
         return FACTS[name]
+    if name[0].isupper():
+        return name
     if name in APART:
         return APART[name]
     name = re.sub(r"(?<=[a-z0-9'])([A-Z])", lambda m: "_" + m[1].lower(), name)

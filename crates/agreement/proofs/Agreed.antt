@@ -11,7 +11,7 @@ use Rattle.geometry.specs.declared.Geometry.{Geometry}
 use Rattle.state.specs.declared.State.{State}
 use Rattle.geometry.specs.Geometry.{pieces_for}
 use Rattle.layout.specs.Bounded.{same}
-use Rattle.layout.specs.Map_sector.{Map_sector}
+use Rattle.layout.specs.MapSector.{MapSector}
 use Rattle.volume.specs.Tables.{Tables, Memory, named_by, used_by, consistent, piece_entries, says_piece, live_valid}
 use Rattle.volume.specs.Calls.{view_of, tables_agree}
 use Rattle.volume.specs.Recover.{image_view}
@@ -25,7 +25,7 @@ pub record Agreed (g : Geometry) (image : ℕ → List ℕ) (t : Tables) (tail n
   pub sound : Sound g t tail number
   pub words : (b : ℕ) → b < g.l → t.entry b < 2 ^ 32
   pub live : (p : ℕ) → p < pieces_for g.l
-      → (m : Map_sector) × (image_view g image (t.place p) ≡ some m) × (m.piece ≡ p) × (m.number ≡ t.number p)
+      → (m : MapSector) × (image_view g image (t.place p) ≡ some m) × (m.piece ≡ p) × (m.number ≡ t.number p)
       × (m.entries ≡ piece_entries g.l t.entry p)
 
 module _ {g : Geometry} {t : Tables} {tail number : ℕ} (s : Sound g t tail number) where
@@ -45,10 +45,10 @@ same_true (x ∷ xs) (y ∷ ys) e =
 
 -- What a sector says, as the test has it and as facts.
 module _ (p number : ℕ) (entries : List ℕ) where
-  abbrev Says : Option Map_sector → Type 0
-  Says o = (m : Map_sector) × (o ≡ some m) × (m.piece ≡ p) × (m.number ≡ number) × (m.entries ≡ entries)
+  abbrev Says : Option MapSector → Type 0
+  Says o = (m : MapSector) × (o ≡ some m) × (m.piece ≡ p) × (m.number ≡ number) × (m.entries ≡ entries)
 
-  says : (o : Option Map_sector) → says_piece o p number entries ≡ true → Says o
+  says : (o : Option MapSector) → says_piece o p number entries ≡ true → Says o
   unfolding says_piece
   says none e = absurd (true≢false (sym e))
   says (some m) e =
@@ -60,7 +60,7 @@ module _ (p number : ℕ) (entries : List ℕ) where
         same_true m.entries entries (and_r (eqb m.piece p && eqb m.number number) (same m.entries entries) e),
       )
 
-  said : (o : Option Map_sector) → Says o → says_piece o p number entries ≡ true
+  said : (o : Option MapSector) → Says o → says_piece o p number entries ≡ true
   unfolding says_piece
   said o w =
       rw (w.1, eq-eqb w.0.piece p w.2, eq-eqb w.0.number number w.3, w.4) (same_is entries)

@@ -25,7 +25,7 @@ use Rattle.laws.proofs.Codec.{entry_sector, entry_full, entry_word}
 use Rattle.laws.proofs.Placing.{Choosing}
 use Rattle.laws.proofs.Sizes.{Fits, fits}
 use Rattle.laws.proofs.Judged.{refusal_some, verdict?, performed_cut, performed_whole}
-use Rattle.laws.proofs.Commit_passed.{Commit_passed, all_apart, commit_passed}
+use Rattle.laws.proofs.CommitPassed.{CommitPassed, all_apart, commit_passed}
 use Rattle.agreement.proofs.Agreed.{Agreed, agree_agreed, agreed_agree}
 use Rattle.agreement.proofs.Plan.{Given, started, plan}
 use Rattle.agreement.proofs.Members.{tables'}
@@ -34,7 +34,7 @@ use Rattle.agreement.proofs.Sound.{tail', number', agreed'}
 
 -- What a write and a drop start from, where no refusal stops them.
 module _ (rules : Rules) (s : State) (m : Memory) (head : ℕ) (blocks : List ℕ) (bytes_fit has_room : Bool)
-    (words : (b : ℕ) → b < s.geometry.l → m.tables.entry b < 2 ^ 32) (c : Commit_passed rules s m head blocks bytes_fit has_room) where
+    (words : (b : ℕ) → b < s.geometry.l → m.tables.entry b < 2 ^ 32) (c : CommitPassed rules s m head blocks bytes_fit has_room) where
   fit : Fits s.geometry
   unfolding state_fits
   fit = fits s.geometry (and_r (eqb m.lengths.image (sector_bytes * s.geometry.n)) (geometry_fits s.geometry) c.sizes)
@@ -89,7 +89,7 @@ module _ (rules : Rules) (s : State) (m : Memory) (head : ℕ) (blocks : List �
       }
 
 -- What an accepted commit leaves: the tables agree again, the volume is the same and running, and the lengths are the same.
-pub record Kept_by (s : State) (m : Memory) (r : After) : Type 0 where
+pub record KeptBy (s : State) (m : Memory) (r : After) : Type 0 where
   pub agree : tables_agree r.outcome.state r.memory ≡ true
   pub geometry : r.outcome.state.geometry ≡ s.geometry
   pub drive : r.outcome.state.drive ≡ s.drive
@@ -98,16 +98,16 @@ pub record Kept_by (s : State) (m : Memory) (r : After) : Type 0 where
 
 -- A commit of any change that starts from such tables.
 module _ (rules : Rules) (law : Choosing rules) (s : State) (m : Memory) (head : ℕ) (change : Change) (bytes_fit has_room : Bool)
-    (given : Commit_passed rules s m head change.blocks bytes_fit has_room → Given rules s m.tables m.image head change) where
+    (given : CommitPassed rules s m head change.blocks bytes_fit has_room → Given rules s m.tables m.image head change) where
   abbrev action : Action
   action = commit_action rules s m.tables (view_of s.geometry m.image) head change
 
   whole_keeps : Given rules s m.tables m.image head change → (allowance : ℕ) → length action.stores ≤ allowance
-      → Kept_by s m (performed allowance action m)
+      → KeptBy s m (performed allowance action m)
   unfolding commit_action plan_action plan tables'
   whole_keeps u allowance h =
       let g = started law u in
-      subst (Kept_by s m) (sym (performed_whole allowance action m h))
+      subst (KeptBy s m) (sym (performed_whole allowance action m h))
       (record {
         agree = agreed_agree (committed_state s (tail' g) (number' g)) (memory_with m (image' g) (tables' g)) (agreed' g);
         geometry = refl;
@@ -117,7 +117,7 @@ module _ (rules : Rules) (law : Choosing rules) (s : State) (m : Memory) (head :
       })
 
   passed_keeps : Given rules s m.tables m.image head change → (allowance : ℕ)
-      → number_of (performed allowance action m).outcome.answer ≡ 0 → Kept_by s m (performed allowance action m)
+      → number_of (performed allowance action m).outcome.answer ≡ 0 → KeptBy s m (performed allowance action m)
   passed_keeps u allowance a =
       ⊎_elim (λ (h : allowance < length action.stores).
       let z = subst (λ (r : After). number_of r.outcome.answer ≡ 0) (performed_cut allowance action m h) a in
@@ -125,7 +125,7 @@ module _ (rules : Rules) (law : Choosing rules) (s : State) (m : Memory) (head :
       (whole_keeps u allowance) (lt? allowance (length action.stores))
 
   commit_keeps : (allowance : ℕ) → number_of (commit_of rules s m head change bytes_fit has_room allowance).outcome.answer ≡ 0
-      → Kept_by s m (commit_of rules s m head change bytes_fit has_room allowance)
+      → KeptBy s m (commit_of rules s m head change bytes_fit has_room allowance)
   unfolding commit_of
   commit_keeps allowance a =
       ⊎_elim (λ (e : judged (commit_checks rules s m head change.blocks bytes_fit has_room) ≡ Pass).
@@ -136,7 +136,7 @@ module _ (rules : Rules) (law : Choosing rules) (s : State) (m : Memory) (head :
 pub write_keeps : (rules : Rules) → Choosing rules → (s : State) (m : Memory) (head : ℕ) (blocks bytes : List ℕ) (allowance : ℕ)
     → ((b : ℕ) → b < s.geometry.l → m.tables.entry b < 2 ^ 32)
     → number_of (write_by rules s m head blocks bytes allowance).outcome.answer ≡ 0
-    → Kept_by s m (write_by rules s m head blocks bytes allowance)
+    → KeptBy s m (write_by rules s m head blocks bytes allowance)
 unfolding write_by write_change
 write_keeps rules law s m head blocks bytes allowance words a =
     let bytes_fit = eqb (length bytes) (sector_bytes * length blocks) in
@@ -146,7 +146,7 @@ write_keeps rules law s m head blocks bytes allowance words a =
 pub drop_keeps : (rules : Rules) → Choosing rules → (s : State) (m : Memory) (head : ℕ) (blocks : List ℕ) (bytes_fit : Bool) (allowance : ℕ)
     → ((b : ℕ) → b < s.geometry.l → m.tables.entry b < 2 ^ 32)
     → number_of (commit_of rules s m head (drop_change blocks) bytes_fit true allowance).outcome.answer ≡ 0
-    → Kept_by s m (commit_of rules s m head (drop_change blocks) bytes_fit true allowance)
+    → KeptBy s m (commit_of rules s m head (drop_change blocks) bytes_fit true allowance)
 unfolding drop_change
 drop_keeps rules law s m head blocks bytes_fit allowance words a =
     commit_keeps rules law s m head (drop_change blocks) bytes_fit true

@@ -8,7 +8,7 @@ use native.Mathlib.Omega.{arith}
 use lib.Dec.{ltb}
 use borrow.Author.Tests.{lt-ltb, le-ltb, ltb-true, ne_eqb}
 use Rattle.layout.specs.Bounded.{count_below, best, elem}
-use Rattle.layout.specs.Map_sector.{View}
+use Rattle.layout.specs.MapSector.{View}
 use Rattle.volume.specs.Tables.{Tables}
 use Rattle.volume.specs.Commit.{branches_in, older_key, listing}
 use Rattle.laws.proofs.Bounded.{bool?, eq?, and_l, and_r, and_i, or_cases, cond_true, cond_false, elem_cons, elem_here, elem_there, best_most, best_below, count_before, count_less}

@@ -11,13 +11,13 @@ use lib.Dec.{eqb, ltb, leb}
 use borrow.Author.Tests.{eq-eqb, ne_eqb, eqb-true, lt-ltb, ltb-false, le-leb, lt-leb}
 use Rattle.geometry.specs.Geometry.{within, pieces_for, branch_room}
 use Rattle.layout.specs.Bounded.{at, all, elem, any_below, list_from, tabled, is_zero}
-use Rattle.layout.specs.Map_sector.{Map_sector, decoded, encoded}
+use Rattle.layout.specs.MapSector.{MapSector, decoded, encoded}
 use Rattle.layout.specs.Entry.{is_empty, sector_of}
 use Rattle.volume.specs.Tables.{Tables, named_by, used_by, piece_entries}
 use Rattle.volume.specs.Commit.{touches, branches_for, planned, rank, member_place, changed_entries, committed_tables, member}
 use Rattle.volume.specs.Calls.{view_of}
 use Rattle.laws.proofs.Bounded.{bool?, lt?, clash, and_i, cond_true, cond_false, elem_here, elem_there, updates_at, updates_other, list_from_same, length_list_from, any_below_at, any_below_is}
-use Rattle.laws.proofs.Codec.{is_word, Well_formed, decoded_encoded}
+use Rattle.laws.proofs.Codec.{is_word, WellFormed, decoded_encoded}
 use Rattle.laws.proofs.Names.{piece, within_is}
 use Rattle.laws.proofs.Sizes.{some_pieces}
 use Rattle.agreement.proofs.Listing.{listing_places}
@@ -179,7 +179,7 @@ module _ (g : Start) where
       (given.agreed.sound.high (piece w.0) w.1)))))
       (bool? (plan g).fold)
 
-  abbrev pub member_of : ℕ → Map_sector
+  abbrev pub member_of : ℕ → MapSector
   member_of p = member s t (plan g) change p
 
   pub member_number : (p : ℕ) → (member_of p).number ≡ suc (s.number + rank (plan g) p)
@@ -227,7 +227,7 @@ module _ (g : Start) where
           let high = at_below g (change.data_sectors + j) (omega arith) in
           rw (member_later p j e, within_is 1 (s.geometry.n - 1) (at (plan g).places (change.data_sectors + j)) low (omega arith)) refl
 
-  pub member_fits : (p : ℕ) → (plan g).written p ≡ true → Well_formed s.geometry (member_of p)
+  pub member_fits : (p : ℕ) → (plan g).written p ≡ true → WellFormed s.geometry (member_of p)
   member_fits p e =
       let r = rank_below g p e in
       let f = members_few g in

@@ -8,7 +8,7 @@ use native.Mathlib.Omega.{arith}
 use lib.ListN.{length}
 use Rattle.geometry.specs.Geometry.{pieces_for}
 use Rattle.layout.specs.Bounded.{at, best, count_below}
-use Rattle.layout.specs.Map_sector.{Map_sector}
+use Rattle.layout.specs.MapSector.{MapSector}
 use Rattle.layout.specs.Entry.{is_empty, sector_of}
 use Rattle.volume.specs.Tables.{named_by, used_by, free_sectors, piece_entries}
 use Rattle.volume.specs.Commit.{rank, member_place, changed_entries, committed_tables}
@@ -212,7 +212,7 @@ module _ (g : Start) where
 
   -- What the image then says.
   live' : (p : ℕ) → p < pieces_for s.geometry.l
-      → (m : Map_sector) × (image_view s.geometry (image' g) ((tables' g).place p) ≡ some m) × (m.piece ≡ p)
+      → (m : MapSector) × (image_view s.geometry (image' g) ((tables' g).place p) ≡ some m) × (m.piece ≡ p)
       × (m.number ≡ (tables' g).number p) × (m.entries ≡ piece_entries s.geometry.l (tables' g).entry p)
   live' p h =
       ⊎_elim (λ (e : (plan g).written p ≡ true).

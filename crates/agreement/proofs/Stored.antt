@@ -8,7 +8,7 @@ use mathlib.Core.Option.{some}
 use native.Mathlib.Omega.{arith}
 use Rattle.geometry.specs.Geometry.{pieces_for}
 use Rattle.layout.specs.Bounded.{at, always}
-use Rattle.layout.specs.Map_sector.{decoded, encoded}
+use Rattle.layout.specs.MapSector.{decoded, encoded}
 use Rattle.volume.specs.Store.{Store, applied, stores_below}
 use Rattle.volume.specs.Commit.{rank, data_store, member_store, commit_stores}
 use Rattle.volume.specs.Recover.{image_view}

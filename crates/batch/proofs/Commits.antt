@@ -21,7 +21,7 @@ use Rattle.batches.specs.Batch.{Commit, commit_made, blocks_of, bytes_of, commit
 use Rattle.laws.proofs.Bounded.{bool?}
 use Rattle.laws.proofs.Placing.{base_chooses}
 use Rattle.batch_checks.proofs.BatchLaws.{sum_grows}
-use Rattle.agreement.proofs.Kept.{Kept_by, write_keeps, drop_keeps}
+use Rattle.agreement.proofs.Kept.{KeptBy, write_keeps, drop_keeps}
 
 module _ (s : State) (m : Memory) (kind head : ℕ) (blocks bytes : List ℕ) (allowance : ℕ) where
   abbrev one : Commit
@@ -84,17 +84,17 @@ put_five l i a b c d e h =
 
 -- An accepted commit of a batch keeps the tables in agreement with the image.
 made_keeps : (s : State) (m : Memory) (c : Commit) (allowance : ℕ) → ((b : ℕ) → b < s.geometry.l → m.tables.entry b < 2 ^ 32)
-    → (r : After) → r ≡ commit_made base s m c allowance → number_of r.outcome.answer ≡ 0 → Kept_by s m r
+    → (r : After) → r ≡ commit_made base s m c allowance → number_of r.outcome.answer ≡ 0 → KeptBy s m r
 unfolding commit_made
 made_keeps s m c allowance words r f ok =
     ⊎_elim (λ (e : eqb c.kind 0 ≡ true).
     let g = rw e at f in
-    subst (Kept_by s m) (sym g)
+    subst (KeptBy s m) (sym g)
     (write_keeps base base_chooses s m c.head c.blocks c.bytes allowance words (subst (λ (a : After). number_of a.outcome.answer ≡ 0) g ok)))
     (λ (e : eqb c.kind 0 ≡ false).
     ⊎_elim (λ (h : eqb c.kind 1 ≡ true).
     let g = rw (e, h) at f in
-    subst (Kept_by s m) (sym g)
+    subst (KeptBy s m) (sym g)
     (drop_keeps base base_chooses s m c.head c.blocks (eqb (length c.bytes) 0) allowance words (subst (λ (a : After). number_of a.outcome.answer ≡ 0) g ok)))
     (λ (h : eqb c.kind 1 ≡ false).
     let z : number_of (refused BlockNumbers s m).outcome.answer ≡ 0 = subst (λ (a : After). number_of a.outcome.answer ≡ 0) (rw (e, h) at f) ok in
@@ -104,6 +104,6 @@ made_keeps s m c allowance words r f ok =
 
 pub lent_keeps : (s : State) (im mp pl nu us : List ℕ) (c : Commit) (allowance : ℕ) → ((b : ℕ) → at mp b < 2 ^ 32)
     → (r : After) → r ≡ commit_made base s (memory im mp pl nu us) c allowance → number_of r.outcome.answer ≡ 0
-    → Kept_by s (memory im mp pl nu us) r
+    → KeptBy s (memory im mp pl nu us) r
 unfolding memory
 lent_keeps s im mp pl nu us c allowance words r f ok = made_keeps s (memory im mp pl nu us) c allowance (λ b h. words b) r f ok

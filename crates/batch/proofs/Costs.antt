@@ -21,14 +21,14 @@ use Rattle.volume.specs.Commit.{Change, Plan, planned, data_store, member_store,
 use Rattle.volume.specs.Calls.{view_of, state_fits, commit_checks, commit_of, write_change, drop_change, write_by}
 use Rattle.batches.specs.Batch.{Commit, commit_made}
 use Rattle.laws.proofs.Bounded.{lt?, bool?, and_r, count_le}
-use Rattle.laws.proofs.Delays.{Drive_fits, drive_fits_lem, delay_short}
+use Rattle.laws.proofs.Delays.{DriveFits, drive_fits_lem, delay_short}
 use Rattle.laws.proofs.Stores.{below_length}
 use Rattle.laws.proofs.Sizes.{fits}
 use Rattle.laws.proofs.Judged.{verdict?, performed_cut, performed_whole}
-use Rattle.laws.proofs.Commit_passed.{Commit_passed, commit_passed}
+use Rattle.laws.proofs.CommitPassed.{CommitPassed, commit_passed}
 
 -- The delays to the first j places.
-skipped_few : (n : ℕ) (d : Drive) → Drive_fits n d → (is_used : ℕ → Bool) (head j : ℕ) → (placed_up_to (least_delay d) n is_used head j).skipped ≤ 65791 * j
+skipped_few : (n : ℕ) (d : Drive) → DriveFits n d → (is_used : ℕ → Bool) (head j : ℕ) → (placed_up_to (least_delay d) n is_used head j).skipped ≤ 65791 * j
 unfolding placed_up_to
 skipped_few n d fit is_used head zero = omega arith
 skipped_few n d fit is_used head (suc j) =
@@ -51,7 +51,7 @@ module _ (s : State) (m : Memory) (head : ℕ) (change : Change) (bytes_fit has_
   abbrev plan : Plan
   plan = planned base s m.tables (view_of s.geometry m.image) head change
 
-  module _ (c : Commit_passed base s m head change.blocks bytes_fit has_room) where
+  module _ (c : CommitPassed base s m head change.blocks bytes_fit has_room) where
     stores_few : length action.stores ≤ 320
     unfolding commit_action plan_action commit_stores state_fits
     stores_few =

@@ -20,7 +20,7 @@ use Rattle.volume.specs.Refusals.{applies, first_of, judged}
 use Rattle.volume.specs.Format.{tables_fit}
 use Rattle.volume.specs.Rules.{base}
 use Rattle.volume.specs.Calls.{state_fits}
-use Rattle.batches.specs.Batch.{commits_lent, blocks_of, bytes_of, commits_in, commits_made, batch_fits, batch_checks, Batch_after, batch_done, batch_judged, batch_by, batch_of}
+use Rattle.batches.specs.Batch.{commits_lent, blocks_of, bytes_of, commits_in, commits_made, batch_fits, batch_checks, BatchAfter, batch_done, batch_judged, batch_by, batch_of}
 use Rattle.laws.proofs.Bounded.{and_l, and_r}
 use Rattle.laws.proofs.Judged.{cleared, not_false}
 use Rattle.checks.specs.Left.{lent}
@@ -45,7 +45,7 @@ module _ (s : State) (im mp pl nu us words blocks bytes : List ℕ) (allowance :
       ap (λ (x : Cost). batch_left (record { verdict = Refuse r; answered = 0; cost = x; state = s }) m answers) k ∙ is_judged (Refuse r) e
 
   module _ (e : v ≡ Pass) where
-    pub whole_done : (r : Batch_after) → r ≡ batch_done (commits_made base s m (commits_in words blocks bytes) allowance) answers → r ≡ batch_of s m words blocks bytes allowance answers
+    pub whole_done : (r : BatchAfter) → r ≡ batch_done (commits_made base s m (commits_in words blocks bytes) allowance) answers → r ≡ batch_of s m words blocks bytes allowance answers
     whole_done r d = d ∙ is_judged Pass e
 
     buffers : batch_fits words (length blocks) (length bytes) (length answers) ≡ true

@@ -3,9 +3,9 @@ use Rattle.std.specs.Prelude.{ℕ, ◌*◌, ◌≤◌, ◌≡◌, List}
 use Rattle.state.specs.declared.BatchOutcome.{BatchOutcome}
 use Rattle.layout.specs.Bounded.{sum_below}
 use Rattle.volume.specs.Tables.{Memory}
-use Rattle.batches.specs.Batch.{Batch_after, batch_commits, answer_words, commits_lent, blocks_of, bytes_of}
+use Rattle.batches.specs.Batch.{BatchAfter, batch_commits, answer_words, commits_lent, blocks_of, bytes_of}
 
-abbrev pub batch_left : BatchOutcome → Memory → List ℕ → Batch_after
+abbrev pub batch_left : BatchOutcome → Memory → List ℕ → BatchAfter
 batch_left outcome memory answers = record { outcome = outcome; memory = memory; answers = answers }
 
 -- At most 32 commits, whose counts add up to the lengths of the block numbers and of the bytes, and room for their answers.

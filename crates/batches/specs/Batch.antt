@@ -121,12 +121,12 @@ answers_with [] answers = answers
 answers_with (o ∷ os) answers = answer_of o ++ answers_with os (drop answer_words answers)
 
 -- What a batch hands back, and what it leaves in what it was lent.
-pub record Batch_after : Type 0 where
+pub record BatchAfter : Type 0 where
   pub outcome : BatchOutcome
   pub memory : Memory
   pub answers : List ℕ
 
-abbrev pub batch_done : Answered → List ℕ → Batch_after
+abbrev pub batch_done : Answered → List ℕ → BatchAfter
 batch_done r answers =
     record {
       outcome = record { verdict = Pass; answered = length r.outcomes; cost = total_cost r.outcomes; state = r.state };
@@ -134,7 +134,7 @@ batch_done r answers =
       answers = answers_with r.outcomes answers;
     }
 
-abbrev pub batch_judged : Verdict → State → Memory → Answered → List ℕ → Batch_after
+abbrev pub batch_judged : Verdict → State → Memory → Answered → List ℕ → BatchAfter
 batch_judged Pass s m done answers = batch_done done answers
 batch_judged (Refuse r) s m done answers =
     record {
@@ -143,10 +143,10 @@ batch_judged (Refuse r) s m done answers =
       answers = answers;
     }
 
-unfoldable pub batch_by : Rules → State → Memory → List ℕ → List ℕ → List ℕ → ℕ → List ℕ → Batch_after
+unfoldable pub batch_by : Rules → State → Memory → List ℕ → List ℕ → List ℕ → ℕ → List ℕ → BatchAfter
 batch_by rules s m words blocks bytes allowance answers =
     let done = commits_made rules s m (commits_in words blocks bytes) allowance in
     batch_judged (judged (batch_checks s m words (length blocks) (length bytes) (length answers))) s m done answers
 
-abbrev pub batch_of : State → Memory → List ℕ → List ℕ → List ℕ → ℕ → List ℕ → Batch_after
+abbrev pub batch_of : State → Memory → List ℕ → List ℕ → List ℕ → ℕ → List ℕ → BatchAfter
 batch_of = batch_by base

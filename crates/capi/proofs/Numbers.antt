@@ -7,8 +7,8 @@ use Rattle.state.specs.declared.Outcome.{Outcome}
 use Rattle.state.specs.declared.BatchOutcome.{BatchOutcome}
 use Rattle.volume.specs.Tables.{Memory}
 use Rattle.volume.specs.Store.{After, after}
-use Rattle.volume.specs.Calls.{Read_after}
-use Rattle.batches.specs.Batch.{Batch_after}
+use Rattle.volume.specs.Calls.{ReadAfter}
+use Rattle.batches.specs.Batch.{BatchAfter}
 use Rattle.checks.specs.Left.{read_left}
 use Rattle.batch.specs.Batch.{batch_left}
 use Rattle.plain.specs.declared.CState.{CState}
@@ -22,12 +22,12 @@ module _ (c : CState) (s : State) (o : Outcome) (m : Memory) (r : CResult) (came
   call_in_numbers call e =
       ap (λ (x : CResult). handed x m) gone ∙ ap (λ (a : After). in_numbers c a) (e ∙ ap call came)
 
-  pub read_in_numbers_lem : (out : List ℕ) (call : State → Read_after) → read_left o m out ≡ call s
+  pub read_in_numbers_lem : (out : List ℕ) (call : State → ReadAfter) → read_left o m out ≡ call s
       → read_handed r m out ≡ read_in_numbers c (call (state_of c))
   read_in_numbers_lem out call e =
-      ap (λ (x : CResult). read_handed x m out) gone ∙ ap (λ (a : Read_after). read_in_numbers c a) (e ∙ ap call came)
+      ap (λ (x : CResult). read_handed x m out) gone ∙ ap (λ (a : ReadAfter). read_in_numbers c a) (e ∙ ap call came)
 
 pub batch_in_numbers_lem : (c : CState) (s : State) (o : BatchOutcome) (m : Memory) (answers : List ℕ) (r : CBatchResult) → s ≡ state_of c → r ≡ batch_result_of c o
-    → (call : State → Batch_after) → batch_left o m answers ≡ call s → batch_handed r m answers ≡ batch_in_numbers c (call (state_of c))
+    → (call : State → BatchAfter) → batch_left o m answers ≡ call s → batch_handed r m answers ≡ batch_in_numbers c (call (state_of c))
 batch_in_numbers_lem c s o m answers r came gone call e =
-    ap (λ (x : CBatchResult). batch_handed x m answers) gone ∙ ap (λ (a : Batch_after). batch_in_numbers c a) (e ∙ ap call came)
+    ap (λ (x : CBatchResult). batch_handed x m answers) gone ∙ ap (λ (a : BatchAfter). batch_in_numbers c a) (e ∙ ap call came)

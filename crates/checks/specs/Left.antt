@@ -2,10 +2,10 @@
 use Rattle.std.specs.Prelude.{List, [], ℕ}
 use Rattle.state.specs.declared.Outcome.{Outcome}
 use Rattle.volume.specs.Tables.{Memory, zero_tables}
-use Rattle.volume.specs.Calls.{Read_after}
+use Rattle.volume.specs.Calls.{ReadAfter}
 
 -- Of a read: the outcome, the memory that it was lent, and its 512 bytes.
-abbrev pub read_left : Outcome → Memory → List ℕ → Read_after
+abbrev pub read_left : Outcome → Memory → List ℕ → ReadAfter
 read_left outcome memory out = record { outcome = outcome; memory = memory; out = out }
 
 -- Memory of which only the lengths matter.

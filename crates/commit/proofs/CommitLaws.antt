@@ -15,7 +15,7 @@ use Rattle.answer.specs.declared.Answer.TheVariants.{Accepted, PowerFailed}
 use Rattle.geometry.specs.Geometry.{pieces_for}
 use Rattle.state.specs.State.{committed_state, cut_state}
 use Rattle.layout.specs.Bounded.{at, always, is_zero, count_below, updated, updates}
-use Rattle.layout.specs.Map_sector.{encoded}
+use Rattle.layout.specs.MapSector.{encoded}
 use Rattle.volume.specs.Tables.{Tables, memory, sector_at, tables_of, named_by, used_by, piece_entries}
 use Rattle.volume.specs.Store.{Store, applied, stores_below, after, Action, performed}
 use Rattle.volume.specs.Commit.{Change, Plan, rank, member_place, changed_entries, committed_tables, member, data_store, member_store, commit_stores, bill, plan_action}

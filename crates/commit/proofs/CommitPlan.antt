@@ -13,7 +13,7 @@ use Rattle.laws.proofs.Filling.{zeros_get}
 use Rattle.state.specs.declared.State.{State}
 use Rattle.geometry.specs.Geometry.{pieces_for, piece_of}
 use Rattle.layout.specs.Bounded.{at, count_below, is_zero, list_from, always}
-use Rattle.layout.specs.Map_sector.{View}
+use Rattle.layout.specs.MapSector.{View}
 use Rattle.layout.specs.Entry.{is_empty, sector_of, stored, entry_for}
 use Rattle.volume.specs.Tables.{Memory, bit_at, memory, sector_at, tables_of, used_by, free_sectors}
 use Rattle.volume.specs.Store.{stores_below, Action, performed}

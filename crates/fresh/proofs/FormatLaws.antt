@@ -19,7 +19,7 @@ use Rattle.geometry.specs.Geometry.{pieces_for, geometry_of}
 use Rattle.answer.specs.Answer.{stores_alone}
 use Rattle.state.specs.State.{fresh_state, lost_state}
 use Rattle.layout.specs.Bounded.{at, is_zero, always, count_below, updates}
-use Rattle.layout.specs.Map_sector.{encoded}
+use Rattle.layout.specs.MapSector.{encoded}
 use Rattle.volume.specs.Tables.{memory, sector_at, tables_of, zero_tables, piece_entries}
 use Rattle.volume.specs.Refusals.{judged}
 use Rattle.volume.specs.Store.{applied, stores_below, After, after, performed, unless_refused}

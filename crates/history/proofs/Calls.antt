@@ -20,7 +20,7 @@ use Rattle.answer.specs.Answer.{refusal_number, cost_of}
 use Rattle.geometry.specs.Geometry.{within, pieces_for, settings_of, drive_fits}
 use Rattle.state.specs.State.{fresh_state, is_running, is_readable}
 use Rattle.layout.specs.Bounded.{at, updated, updates, is_zero}
-use Rattle.layout.specs.Map_sector.{Map_sector}
+use Rattle.layout.specs.MapSector.{MapSector}
 use Rattle.layout.specs.Entry.{blank, is_empty, sector_of, restored}
 use Rattle.layout.specs.ParkRecord.{park_record}
 use Rattle.volume.specs.Tables.{Tables, Memory, zero_tables, sector_at}
@@ -39,7 +39,7 @@ use Rattle.laws.proofs.Names.{block, sector_named, within_is}
 use Rattle.laws.proofs.Placing.{Choosing}
 use Rattle.laws.proofs.Sizes.{Fits, view_same}
 use Rattle.laws.proofs.Judged.{refusal_some, verdict?, cleared, not_false, performed_cut, performed_whole}
-use Rattle.laws.proofs.Commit_passed.{Commit_passed, commit_passed}
+use Rattle.laws.proofs.CommitPassed.{CommitPassed, commit_passed}
 use Rattle.agreement.proofs.Plan.{Given, started}
 use Rattle.agreement.proofs.Kept.{write_given, drop_given}
 use Rattle.history.proofs.Invariant.{Committed, Settled, ground_moves}
@@ -74,7 +74,7 @@ module _ (rules : Rules) (law : Choosing rules) (g : Geometry) (fit : Fits g) wh
       (head : ℕ) (change : Change) (values : ℕ → List ℕ) (bytes_fit has_room : Bool)
       (given : (drive : Drive) (tail number : ℕ) → s ≡ fresh_state g drive tail number
       → Settled g m.image m.tables tail number disk → m.image 0 ≡ blank
-      → Commit_passed rules (fresh_state g drive tail number) m head change.blocks bytes_fit has_room
+      → CommitPassed rules (fresh_state g drive tail number) m head change.blocks bytes_fit has_room
       → (u : Given rules (fresh_state g drive tail number) m.tables m.image head change) × Settling (started law u) disk values) where
     abbrev changed : Disk
     changed = updates disk (at change.blocks) values (length change.blocks)
@@ -84,7 +84,7 @@ module _ (rules : Rules) (law : Choosing rules) (g : Geometry) (fit : Fits g) wh
         → Step g m (performed allowance (commit_action rules s m.tables (view_of s.geometry m.image) head change) m) disk changed
     passed allowance e (running drive tail number q settled unparked) =
         let c = commit_passed rules s m head change.blocks bytes_fit has_room e in
-        let u = given drive tail number q settled unparked (subst (λ (x : State). Commit_passed rules x m head change.blocks bytes_fit has_room) q c) in
+        let u = given drive tail number q settled unparked (subst (λ (x : State). CommitPassed rules x m head change.blocks bytes_fit has_room) q c) in
         subst (λ (x : State). Step g m (performed allowance (commit_action rules x m.tables (view_of x.geometry m.image) head change) m) disk changed)
         (sym q) (commit_step rules law g fit m size drive tail number disk head change values u.0 u.1 allowance)
     passed allowance e (parked drive tail number q settled) =
@@ -156,13 +156,13 @@ module _ (rules : Rules) (law : Choosing rules) (g : Geometry) (fit : Fits g) wh
         (bool? (eqb c.kind 0))
 
   -- Commits one after the other: what each keeps, how the volume then stands, and the lengths.
-  pub record Commits_stand (s : State) (m : Memory) (cs : List Commit) (allowance : ℕ) (disk : Disk) : Type 0 where
+  pub record CommitsStand (s : State) (m : Memory) (cs : List Commit) (allowance : ℕ) (disk : Disk) : Type 0 where
     pub kept : CommitsKept rules g s m cs allowance
     pub stands : Standing g (left_by (commits_made rules s m cs allowance)) (disk_commits cs (acceptances (commits_made rules s m cs allowance).outcomes) disk)
     pub sized : Sized g (commits_made rules s m cs allowance).memory
 
   pub commits_stand : (cs : List Commit) (s : State) (m : Memory) (allowance : ℕ) (disk : Disk) → Sized g m
-      → Standing g (record { state = s; memory = m }) disk → Commits_stand s m cs allowance disk
+      → Standing g (record { state = s; memory = m }) disk → CommitsStand s m cs allowance disk
   unfolding commits_made CommitsKept disk_commits acceptances
   commits_stand [] s m allowance disk size stands = record { kept = tt; stands = stands; sized = size }
   commits_stand (c ∷ cs) s m allowance disk size stands =
@@ -186,7 +186,7 @@ module _ (rules : Rules) (law : Choosing rules) (g : Geometry) (fit : Fits g) wh
       (bool? (accepted r))
 
   -- A batch.
-  pub record Batch_stands (w : World) (words blocks bytes : List ℕ) (allowance : ℕ) (answers : List ℕ) (disk : Disk) : Type 0 where
+  pub record BatchStands (w : World) (words blocks bytes : List ℕ) (allowance : ℕ) (answers : List ℕ) (disk : Disk) : Type 0 where
     pub kept : accepted (made rules g w (batch words blocks bytes allowance answers)) ≡ true
         → CommitsKept rules g w.state w.memory (commits_in words blocks bytes) allowance
     pub stands : Standing g (world_of (made rules g w (batch words blocks bytes allowance answers)))
@@ -194,7 +194,7 @@ module _ (rules : Rules) (law : Choosing rules) (g : Geometry) (fit : Fits g) wh
     pub sized : Sized g (made rules g w (batch words blocks bytes allowance answers)).memory
 
   pub batch_stands : (w : World) (words blocks bytes : List ℕ) (allowance : ℕ) (answers : List ℕ) (disk : Disk) → Sized g w.memory → Standing g w disk
-      → Batch_stands w words blocks bytes allowance answers disk
+      → BatchStands w words blocks bytes allowance answers disk
   unfolding made batch_by batch_run acceptances
   batch_stands w words blocks bytes allowance answers disk size stands =
       let v = judged (batch_checks w.state w.memory words (length blocks) (length bytes) (length answers)) in
@@ -216,7 +216,7 @@ module _ (g : Geometry) (fit : Fits g) (image : ℕ → List ℕ) (t : Tables) (
   abbrev park_image : ℕ → List ℕ
   park_image = updated image 0 (park_record (record { number = number; tail = tail }))
 
-  was : (k : ℕ) (a : Map_sector) → image_view g park_image k ≡ some a → image_view g image k ≡ some a
+  was : (k : ℕ) (a : MapSector) → image_view g park_image k ≡ some a → image_view g image k ≡ some a
   was k a e =
       ⊎_elim (λ (z : k ≡ 0).
       absurd (view_parked g park_image 0 (record { number = number; tail = tail })
@@ -228,7 +228,7 @@ module _ (g : Geometry) (fit : Fits g) (image : ℕ → List ℕ) (t : Tables) (
   parked_settles : Settled g park_image t tail number disk
   parked_settles =
       let c = settled.committed in
-      let above : (k : ℕ) (a : Map_sector) → image_view g park_image k ≡ some a → a.number ≤ number = λ k a e. settled.none_above k a (was k a e) in
+      let above : (k : ℕ) (a : MapSector) → image_view g park_image k ≡ some a → a.number ≤ number = λ k a e. settled.none_above k a (was k a e) in
       record {
         committed = record {
           ground = ground_moves park_image fit

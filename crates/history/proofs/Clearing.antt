@@ -12,7 +12,7 @@ use borrow.Author.Tests.{lt-ltb, ltb-true, le-ltb}
 use Rattle.geometry.specs.declared.Geometry.{Geometry}
 use Rattle.layout.specs.Bounded.{all}
 use Rattle.layout.specs.Word.{balanced}
-use Rattle.layout.specs.Map_sector.{Map_sector, decoded}
+use Rattle.layout.specs.MapSector.{MapSector, decoded}
 use Rattle.layout.specs.Entry.{blank, sector_of}
 use Rattle.layout.specs.ParkRecord.{Parked, park_record}
 use Rattle.volume.specs.Tables.{Tables}
@@ -30,21 +30,21 @@ use Rattle.history.proofs.Invariant.{Committed, Settled, ground_moves}
 use Rattle.history.proofs.Scan.{number_some}
 
 -- A blank sector is not signed, also as the view has it.
-pub view_blank : (g : Geometry) (image : ℕ → List ℕ) (k : ℕ) → image k ≡ blank → (a : Map_sector) → image_view g image k ≡ some a → ⊥
+pub view_blank : (g : Geometry) (image : ℕ → List ℕ) (k : ℕ) → image k ≡ blank → (a : MapSector) → image_view g image k ≡ some a → ⊥
 view_blank g image k e a s =
     let h = view_below g image k a s in
     let q = view_at g image k h ∙ ap (decoded g) e ∙ blank_unsigned g in
     let c : ◌≡◌ {A = ℕ} 0 1 = cc in
     omega arith
 
-pub view_parked : (g : Geometry) (image : ℕ → List ℕ) (k : ℕ) (p : Parked) → image k ≡ park_record p → (a : Map_sector) → image_view g image k ≡ some a → ⊥
+pub view_parked : (g : Geometry) (image : ℕ → List ℕ) (k : ℕ) (p : Parked) → image k ≡ park_record p → (a : MapSector) → image_view g image k ≡ some a → ⊥
 view_parked g image k p e a s =
     let h = view_below g image k a s in
     let q = view_at g image k h ∙ ap (decoded g) e ∙ park_unsigned g p in
     let c : ◌≡◌ {A = ℕ} 0 1 = cc in
     omega arith
 
-number_unsigned : (o : Option Map_sector) → ((a : Map_sector) → o ≡ some a → ⊥) → number_in o ≡ 0
+number_unsigned : (o : Option MapSector) → ((a : MapSector) → o ≡ some a → ⊥) → number_in o ≡ 0
 unfolding number_in
 number_unsigned none f = refl
 number_unsigned (some a) f = absurd (f a refl)
@@ -62,14 +62,14 @@ module _ (g : Geometry) (image : ℕ → List ℕ) (t : Tables) (tail number : �
 
   module _ (ss : List Store) (f : Clears ss) where
     -- A sector that is signed afterwards was not touched.
-    untouched : (k : ℕ) (a : Map_sector) → image_view g (applied ss image) k ≡ some a → applied ss image k ≡ image k
+    untouched : (k : ℕ) (a : MapSector) → image_view g (applied ss image) k ≡ some a → applied ss image k ≡ image k
     unfolding Outcome Clears
     untouched k a e =
         ⊎_elim (λ w. w.0)
         (λ w. absurd (view_blank g (applied ss image) k (w.3 ∙ ap (λ (s : Store). s.bytes) (f w.0 w.1).1) a e))
         (applied_cases ss image k)
 
-    was : (k : ℕ) (a : Map_sector) → image_view g (applied ss image) k ≡ some a → image_view g image k ≡ some a
+    was : (k : ℕ) (a : MapSector) → image_view g (applied ss image) k ≡ some a → image_view g image k ≡ some a
     was k a e = view_same g image (applied ss image) k (sym (untouched k a e)) ∙ e
 
     kept : (x : Name) → Named g.l t.entry t.place x

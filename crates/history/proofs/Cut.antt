@@ -27,7 +27,7 @@ use Rattle.answer.specs.declared.Refusal.{Refusal}
 use Rattle.answer.specs.declared.Refusal.TheVariants.{BlockNumbers}
 use Rattle.answer.specs.Answer.{is_refusal, refusal_number, cost_of}
 use Rattle.layout.specs.Bounded.{is_zero}
-use Rattle.layout.specs.Map_sector.{View}
+use Rattle.layout.specs.MapSector.{View}
 use Rattle.layout.specs.ParkRecord.{Parked, parked_in}
 use Rattle.volume.specs.Tables.{Memory}
 use Rattle.volume.specs.Refusals.{judged}
@@ -46,23 +46,23 @@ use Rattle.laws.proofs.Stores.{applied_append}
 use Rattle.laws.proofs.Judged.{refusal_some, verdict?, performed_cut, performed_whole}
 
 -- So many stores of a list are made, in order, and counted.
-pub record Cut_there (allowance : ℕ) (stores : List Store) (m : Memory) (r : After) : Type 0 where
+pub record CutThere (allowance : ℕ) (stores : List Store) (m : Memory) (r : After) : Type 0 where
   pub counts : (cost_of r.outcome.answer).stores ≡ length (take allowance stores)
   pub makes : r.memory.image ≡ applied (take allowance stores) m.image
 
 module _ (allowance : ℕ) (a : Action) (m : Memory) (counted : (k : ℕ) → (a.cost k).stores ≡ k)
     (charges : (c : Cost) → cost_of (a.answer c) ≡ c) where
-  pub performed_there : Cut_there allowance a.stores m (performed allowance a m)
+  pub performed_there : CutThere allowance a.stores m (performed allowance a m)
   performed_there =
       ⊎_elim (λ (h : allowance < length a.stores).
-      subst (Cut_there allowance a.stores m) (sym (performed_cut allowance a m h))
+      subst (CutThere allowance a.stores m) (sym (performed_cut allowance a m h))
       (record {
         counts = counted allowance ∙ sym (length-take-le allowance a.stores (omega arith));
         makes = refl;
       }))
       (λ (h : length a.stores ≤ allowance).
       let all = take_all allowance a.stores h in
-      subst (Cut_there allowance a.stores m) (sym (performed_whole allowance a m h))
+      subst (CutThere allowance a.stores m) (sym (performed_whole allowance a m h))
       (record {
         counts =
             ap (λ (c : Cost). c.stores) (charges (a.cost (length a.stores))) ∙ counted (length a.stores)
@@ -77,9 +77,9 @@ passed Pass s m done e = refl
 passed (Refuse r) s m done e = absurd (true≢false e)
 
 module _ (v : Verdict) (s : State) (m : Memory) (done : After) (allowance : ℕ) (stores : List Store) where
-  unless_there : Cut_there allowance stores m done → is_refusal (unless_refused v s m done).outcome.answer ≡ false
-      → Cut_there allowance stores m (unless_refused v s m done)
-  unless_there t e = subst (Cut_there allowance stores m) (sym (passed v s m done e)) t
+  unless_there : CutThere allowance stores m done → is_refusal (unless_refused v s m done).outcome.answer ≡ false
+      → CutThere allowance stores m (unless_refused v s m done)
+  unless_there t e = subst (CutThere allowance stores m) (sym (passed v s m done e)) t
 
 -- What a recovery answers costs what its stores cost.
 data Charges : Finding → Type 0 where
@@ -117,7 +117,7 @@ finding_charges g view sector0 (some parked) =
     either_charges (walk_starts g.n parked (view parked.tail)) (walk_finding g view sector0 log scan) scan (walk_charges g view sector0 log scan p) p
 
 recovered_there : (g : Geometry) (drive : Drive) (allowance : ℕ) (m : Memory) (f : Finding) → Charges f
-    → Cut_there allowance (stores_in f) m (recovered g drive allowance m f)
+    → CutThere allowance (stores_in f) m (recovered g drive allowance m f)
 unfolding recovered stores_in applied
 recovered_there g drive allowance m (found log answer stores) (charged p) =
     performed_there allowance (recovery_action g drive log answer stores) m (λ k. refl) p
@@ -130,25 +130,25 @@ recovered_there g drive allowance m (missing loss) lost =
 
 commit_there : (rules : Rules) (s : State) (m : Memory) (head : ℕ) (change : Change) (bytes_fit has_room : Bool) (allowance : ℕ)
     → is_refusal (commit_of rules s m head change bytes_fit has_room allowance).outcome.answer ≡ false
-    → Cut_there allowance (commit_action rules s m.tables (view_of s.geometry m.image) head change).stores m
+    → CutThere allowance (commit_action rules s m.tables (view_of s.geometry m.image) head change).stores m
     (commit_of rules s m head change bytes_fit has_room allowance)
 unfolding commit_of commit_action plan_action
 commit_there rules s m head change bytes_fit has_room allowance e =
     unless_there (judged (commit_checks rules s m head change.blocks bytes_fit has_room)) s m _ allowance _
     (performed_there allowance (commit_action rules s m.tables (view_of s.geometry m.image) head change) m (λ k. refl) (λ c. refl)) e
 
-read_there : (v : Verdict) (s : State) (m : Memory) (block : ℕ) (out : List ℕ) → Cut_there 0 [] m (record { outcome = (read_judged v s m block out).outcome; memory = (read_judged v s m block out).memory })
+read_there : (v : Verdict) (s : State) (m : Memory) (block : ℕ) (out : List ℕ) → CutThere 0 [] m (record { outcome = (read_judged v s m block out).outcome; memory = (read_judged v s m block out).memory })
 unfolding read_judged applied
 read_there Pass s m block out = record { counts = refl; makes = refl }
 read_there (Refuse r) s m block out = record { counts = refl; makes = refl }
 
 -- What is known of a commit: refused it did nothing; otherwise it made the first of its stores, and all of them where it was accepted.
-record One_there (allowance : ℕ) (stores : List Store) (m : Memory) (r : After) : Type 0 where
+record OneThere (allowance : ℕ) (stores : List Store) (m : Memory) (r : After) : Type 0 where
   none : is_refusal r.outcome.answer ≡ true → ((cost_of r.outcome.answer).stores ≡ 0) × (r.memory.image ≡ m.image) × (accepted r ≡ false)
-  some : is_refusal r.outcome.answer ≡ false → Cut_there allowance stores m r
+  some : is_refusal r.outcome.answer ≡ false → CutThere allowance stores m r
   enough : accepted r ≡ true → length stores ≤ allowance
 
-refused_there : (allowance : ℕ) (stores : List Store) (x : Refusal) (s : State) (m : Memory) → One_there allowance stores m (refused x s m)
+refused_there : (allowance : ℕ) (stores : List Store) (x : Refusal) (s : State) (m : Memory) → OneThere allowance stores m (refused x s m)
 refused_there allowance stores x s m =
     record {
       none = λ e. (refl, refl, refusal_some x);
@@ -160,7 +160,7 @@ module _ (rules : Rules) (s : State) (m : Memory) (head : ℕ) (change : Change)
   abbrev action : Action
   action = commit_action rules s m.tables (view_of s.geometry m.image) head change
 
-  performed_one : One_there allowance action.stores m (performed allowance action m)
+  performed_one : OneThere allowance action.stores m (performed allowance action m)
   unfolding commit_action plan_action
   performed_one =
       let there = performed_there allowance action m (λ k. refl) (λ c. refl) in
@@ -180,7 +180,7 @@ module _ (rules : Rules) (s : State) (m : Memory) (head : ℕ) (change : Change)
       })
       (lt? allowance (length action.stores))
 
-  commit_one : One_there allowance action.stores m (commit_of rules s m head change bytes_fit has_room allowance)
+  commit_one : OneThere allowance action.stores m (commit_of rules s m head change bytes_fit has_room allowance)
   unfolding commit_of
   commit_one =
       ⊎_elim (λ (e : judged (commit_checks rules s m head change.blocks bytes_fit has_room) ≡ Pass). rw e performed_one)
@@ -191,7 +191,7 @@ abbrev own_stores : Rules → State → Memory → Commit → List Store
 own_stores rules s m c =
     commit_list rules (record { state = s; memory = m }) c.head (cond (eqb c.kind 0) (write_change c.blocks c.bytes) (drop_change c.blocks))
 
-one_there : (rules : Rules) (s : State) (m : Memory) (c : Commit) (allowance : ℕ) → One_there allowance (own_stores rules s m c) m (commit_made rules s m c allowance)
+one_there : (rules : Rules) (s : State) (m : Memory) (c : Commit) (allowance : ℕ) → OneThere allowance (own_stores rules s m c) m (commit_made rules s m c allowance)
 unfolding commit_made write_by write_change drop_change
 one_there rules s m c allowance =
     ⊎_elim (λ (e : eqb c.kind 0 ≡ true). rw e (commit_one rules s m c.head _ _ _ allowance))
@@ -210,18 +210,18 @@ both_taken (suc k) (x ∷ xs) second h =
     rw z (ap (λ (ss : List Store). x ∷ ss) (both_taken k xs second (omega arith)))
 
 -- Of commits that are made one after the other.
-record Commits_there (allowance : ℕ) (stores : List Store) (m : Memory) (a : Answered) : Type 0 where
+record CommitsThere (allowance : ℕ) (stores : List Store) (m : Memory) (a : Answered) : Type 0 where
   counts : (total_cost a.outcomes).stores ≡ length (take allowance stores)
   makes : a.memory.image ≡ applied (take allowance stores) m.image
 
-nothing_there : (allowance : ℕ) (m : Memory) (a : Answered) → (total_cost a.outcomes).stores ≡ 0 → a.memory.image ≡ m.image → Commits_there allowance [] m a
+nothing_there : (allowance : ℕ) (m : Memory) (a : Answered) → (total_cost a.outcomes).stores ≡ 0 → a.memory.image ≡ m.image → CommitsThere allowance [] m a
 unfolding applied
 nothing_there allowance m a free same =
     let nil : take {A = Store} allowance [] ≡ [] = take_all {A = Store} allowance [] (omega arith) in
     record { counts = free ∙ ap length (sym nil); makes = same ∙ ap (λ (ss : List Store). applied ss m.image) (sym nil) }
 
 commits_there : (rules : Rules) (cs : List Commit) (s : State) (m : Memory) (allowance : ℕ)
-    → Commits_there allowance (commits_list rules s m cs allowance) m (commits_made rules s m cs allowance)
+    → CommitsThere allowance (commits_list rules s m cs allowance) m (commits_made rules s m cs allowance)
 unfolding commits_made commits_list total_cost
 commits_there rules [] s m allowance = nothing_there allowance m _ refl refl
 commits_there rules (c ∷ cs) s m allowance =
@@ -259,7 +259,7 @@ commits_there rules (c ∷ cs) s m allowance =
 
 batch_there : (rules : Rules) (g : Geometry) (w : World) (words blocks bytes : List ℕ) (allowance : ℕ) (answers : List ℕ)
     → is_refusal (made rules g w (batch words blocks bytes allowance answers)).outcome.answer ≡ false
-    → Cut_there allowance (commits_list rules w.state w.memory (commits_in words blocks bytes) allowance) w.memory
+    → CutThere allowance (commits_list rules w.state w.memory (commits_in words blocks bytes) allowance) w.memory
     (made rules g w (batch words blocks bytes allowance answers))
 unfolding made batch_by
 batch_there rules g w words blocks bytes allowance answers e =
@@ -272,7 +272,7 @@ batch_there rules g w words blocks bytes allowance answers e =
 -- Of every call of a history.
 pub cut_there : (rules : Rules) (g : Geometry) (w : World) (call : Call)
     → is_refusal (made rules g w call).outcome.answer ≡ false
-    → Cut_there (allowed call) (listed rules g w call) w.memory (made rules g w call)
+    → CutThere (allowed call) (listed rules g w call) w.memory (made rules g w call)
 unfolding made listed allowed write_by drop_by read_of park_of park_action recover_of
 cut_there rules g w (write head blocks bytes allowance) e = commit_there rules w.state w.memory head _ _ _ allowance e
 cut_there rules g w (drop head blocks allowance) e = commit_there rules w.state w.memory head _ _ _ allowance e
@@ -290,7 +290,7 @@ cut_there rules g w (recover drive allowance) e =
 
 -- And of a format.
 pub format_there : (s : State) (m : Memory) (settings : Settings) (allowance : ℕ) → is_refusal (format_of s m settings allowance).outcome.answer ≡ false
-    → Cut_there allowance (format_stores (volume_in m settings)) m (format_of s m settings allowance)
+    → CutThere allowance (format_stores (volume_in m settings)) m (format_of s m settings allowance)
 unfolding format_of format_action
 format_there s m settings allowance e =
     unless_there (judged (size_checks m settings)) s m _ allowance _ (performed_there allowance (format_action (volume_in m settings) settings.drive) m (λ k. refl) (λ c. refl)) e

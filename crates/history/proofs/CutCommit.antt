@@ -10,7 +10,7 @@ use lib.ListN.{length, take}
 use borrow.Author.Tests.{ne_eqb}
 use Rattle.geometry.specs.Geometry.{pieces_for}
 use Rattle.layout.specs.Bounded.{at, always}
-use Rattle.layout.specs.Map_sector.{Map_sector, decoded}
+use Rattle.layout.specs.MapSector.{MapSector, decoded}
 use Rattle.layout.specs.Entry.{blank, restored}
 use Rattle.volume.specs.Store.{Store, applied, stores_below}
 use Rattle.volume.specs.Commit.{rank, commit_stores}
@@ -36,7 +36,7 @@ module _ {g : Start} {disk : Disk} {after : ℕ → List ℕ} (on : Settling g d
   open g use {s, t, image, change, given}
   open on use {settled, unparked, unsigned}
 
-  pub old_number : (k : ℕ) (a : Map_sector) → image_view s.geometry image k ≡ some a → a.number ≤ s.number
+  pub old_number : (k : ℕ) (a : MapSector) → image_view s.geometry image k ≡ some a → a.number ≤ s.number
   old_number = settled.none_above
 
   -- Any run of such stores.
@@ -52,7 +52,7 @@ module _ {g : Start} {disk : Disk} {after : ℕ → List ℕ} (on : Settling g d
         ∙ unparked
 
     -- A signed sector is an old one that was not touched, or an allowed member.
-    pub signed_cases : (k : ℕ) (a : Map_sector) → image_view s.geometry (applied ss image) k ≡ some a
+    pub signed_cases : (k : ℕ) (a : MapSector) → image_view s.geometry (applied ss image) k ≡ some a
         → (image_view s.geometry image k ≡ some a)
         ⊎ ((p : ℕ) × ((plan g).written p ≡ true) × Allowed p × (k ≡ at (plan g).places (change.data_sectors + rank (plan g) p)) × (a ≡ member_of g p))
     unfolding Outcome Kind
@@ -71,24 +71,24 @@ module _ {g : Start} {disk : Disk} {after : ℕ → List ℕ} (on : Settling g d
         (kinds w.0 w.1))
         (applied_cases ss image k)
 
-    pub apart_after : (j k : ℕ) (a b : Map_sector) → image_view s.geometry (applied ss image) j ≡ some a
+    pub apart_after : (j k : ℕ) (a b : MapSector) → image_view s.geometry (applied ss image) j ≡ some a
         → image_view s.geometry (applied ss image) k ≡ some b → a.number ≡ b.number → j ≡ k
     apart_after j k a b e f z =
         ⊎_elim (λ x.
         ⊎_elim (λ y. settled.committed.apart j k a b x y z)
         (λ y.
         let o = old_number j a x in
-        let q = ap (λ (m : Map_sector). m.number) y.4 ∙ member_number g y.0 in
+        let q = ap (λ (m : MapSector). m.number) y.4 ∙ member_number g y.0 in
         absurd (omega arith))
         (signed_cases k b f))
         (λ x.
         ⊎_elim (λ y.
         let o = old_number k b y in
-        let q = ap (λ (m : Map_sector). m.number) x.4 ∙ member_number g x.0 in
+        let q = ap (λ (m : MapSector). m.number) x.4 ∙ member_number g x.0 in
         absurd (omega arith))
         (λ y.
-        let q = ap (λ (m : Map_sector). m.number) x.4 ∙ member_number g x.0 in
-        let r = ap (λ (m : Map_sector). m.number) y.4 ∙ member_number g y.0 in
+        let q = ap (λ (m : MapSector). m.number) x.4 ∙ member_number g x.0 in
+        let r = ap (λ (m : MapSector). m.number) y.4 ∙ member_number g y.0 in
         let p = rank_once g x.0 y.0 x.1 y.1 (omega arith) in
         x.3 ∙ ap (λ (p : ℕ). at (plan g).places (change.data_sectors + rank (plan g) p)) p ∙ sym y.3)
         (signed_cases k b f))
@@ -134,10 +134,10 @@ module _ {g : Start} {disk : Disk} {after : ℕ → List ℕ} (on : Settling g d
         apart = apart_after ss Unclosed kinds;
         latest = λ j a e b.
             ⊎_elim (λ x. settled.committed.latest j a x b)
-            (λ x. let q = ap (λ (m : Map_sector). m.number) x.4 ∙ member_number g x.0 in absurd (omega arith))
+            (λ x. let q = ap (λ (m : MapSector). m.number) x.4 ∙ member_number g x.0 in absurd (omega arith))
             (signed_cases ss Unclosed kinds j a e);
         unclosed = λ j a e b.
-            ⊎_elim (λ x. let o = old_number j a x in absurd (omega arith)) (λ x. ap (λ (m : Map_sector). m.closing) x.4 ∙ x.2)
+            ⊎_elim (λ x. let o = old_number j a x in absurd (omega arith)) (λ x. ap (λ (m : MapSector). m.closing) x.4 ∙ x.2)
             (signed_cases ss Unclosed kinds j a e);
         park = inl (blank_kept ss Unclosed kinds);
       }

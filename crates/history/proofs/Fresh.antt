@@ -12,7 +12,7 @@ use borrow.Author.Tests.{eq-eqb, ne_eqb}
 use Rattle.geometry.specs.declared.Geometry.{Geometry}
 use Rattle.geometry.specs.Geometry.{within, pieces_for}
 use Rattle.layout.specs.Bounded.{all, is_zero, always, best, count_below, elem, list_from}
-use Rattle.layout.specs.Map_sector.{Map_sector, decoded, encoded}
+use Rattle.layout.specs.MapSector.{MapSector, decoded, encoded}
 use Rattle.layout.specs.Entry.{blank, is_empty}
 use Rattle.volume.specs.Tables.{named_by, used_by, free_sectors, piece_entries}
 use Rattle.volume.specs.Store.{Store, applied, stores_below}
@@ -20,7 +20,7 @@ use Rattle.volume.specs.Format.{blank_store, fresh_piece, piece_store, format_st
 use Rattle.volume.specs.Recover.{image_view}
 use Rattle.history.specs.History.{zero_disk, Reaches, itself, through}
 use Rattle.laws.proofs.Bounded.{lt?, clash, elem_here, best_unique, tabled_at, tabled_past, count_same, count_le}
-use Rattle.laws.proofs.Codec.{is_word, Well_formed, decoded_encoded, blank_unsigned}
+use Rattle.laws.proofs.Codec.{is_word, WellFormed, decoded_encoded, blank_unsigned}
 use Rattle.laws.proofs.Names.{Name, piece, block, Named, sector_named, Sound, elem_named, named_distinct, within_is}
 use Rattle.laws.proofs.Stores.{Outcome, applied_cases, applied_skip, applied_at, applied_append, below_has, below_own}
 use Rattle.laws.proofs.Sizes.{Fits, some_pieces, view_at, view_below}
@@ -72,7 +72,7 @@ module _ (g : Geometry) (fit : Fits g) (before : ℕ → List ℕ) where
       let q : suc w.0 ≡ suc p = ap (λ (x : Store). x.sector) (sym w.3) ∙ e in
       ap (λ (x : Store). x.bytes) w.3 ∙ ap (λ (z : ℕ). encoded g.l (fresh_piece g.l z)) (let y : w.0 ≡ p = omega arith in y))
 
-  fresh_fits : (p : ℕ) → p < pieces_for g.l → Well_formed g (fresh_piece g.l p)
+  fresh_fits : (p : ℕ) → p < pieces_for g.l → WellFormed g (fresh_piece g.l p)
   unfolding all
   fresh_fits p h =
       let most = fit.most in
@@ -106,7 +106,7 @@ module _ (g : Geometry) (fit : Fits g) (before : ℕ → List ℕ) where
       view_at g image' (suc p) (omega arith) ∙ ap (decoded g) (piece_stands p h) ∙ decoded_encoded g (fresh_piece g.l p) (fresh_fits p h)
 
   -- Only those are signed.
-  signed_pieces_lem : (k : ℕ) (a : Map_sector) → image_view g image' k ≡ some a → (p : ℕ) × (p < pieces_for g.l) × (k ≡ suc p) × (a ≡ fresh_piece g.l p)
+  signed_pieces_lem : (k : ℕ) (a : MapSector) → image_view g image' k ≡ some a → (p : ℕ) × (p < pieces_for g.l) × (k ≡ suc p) × (a ≡ fresh_piece g.l p)
   unfolding Outcome
   signed_pieces_lem k a e =
       let below = view_below g image' k a e in
@@ -258,7 +258,7 @@ module _ (g : Geometry) (fit : Fits g) (before : ℕ → List ℕ) where
         high = omega arith;
         closes = λ m e.
             let w = signed_pieces_lem (pieces_for g.l) m e in
-            ap (λ (x : Map_sector). x.closing) w.3 ∙ eq-eqb (suc w.0) (pieces_for g.l) (sym w.2);
+            ap (λ (x : MapSector). x.closing) w.3 ∙ eq-eqb (suc w.0) (pieces_for g.l) (sym w.2);
         chain = λ p h. reached (pieces_for g.l - suc p) p (omega arith);
         empty = λ b h e. refl;
         full = λ b h e. clash (is_empty ((format_tables g.l).entry b)) (ap is_empty (entry_0 b)) e;
@@ -271,23 +271,23 @@ module _ (g : Geometry) (fit : Fits g) (before : ℕ → List ℕ) where
 
   pub format_settles : Settled g image' (format_tables g.l) (pieces_for g.l) (pieces_for g.l) zero_disk
   format_settles =
-      let above : (k : ℕ) (a : Map_sector) → image_view g image' k ≡ some a → a.number ≤ pieces_for g.l =
-      λ k a e. let w = signed_pieces_lem k a e in let q = ap (λ (x : Map_sector). x.number) w.3 in let b = w.1 in omega arith in
+      let above : (k : ℕ) (a : MapSector) → image_view g image' k ≡ some a → a.number ≤ pieces_for g.l =
+      λ k a e. let w = signed_pieces_lem k a e in let q = ap (λ (x : MapSector). x.number) w.3 in let b = w.1 in omega arith in
       record {
         committed = record {
           ground = ground;
           apart = λ j k a b e f z.
               let v = signed_pieces_lem j a e in
               let w = signed_pieces_lem k b f in
-              let x = ap (λ (m : Map_sector). m.number) v.3 in
-              let y = ap (λ (m : Map_sector). m.number) w.3 in
+              let x = ap (λ (m : MapSector). m.number) v.3 in
+              let y = ap (λ (m : MapSector). m.number) w.3 in
               let c = v.2 in
               let d = w.2 in
               omega arith;
           latest = λ k a e h.
               let w = signed_pieces_lem k a e in
-              let x = ap (λ (m : Map_sector). m.number) w.3 in
-              let y : a.piece ≡ w.0 = ap (λ (m : Map_sector). m.piece) w.3 in
+              let x = ap (λ (m : MapSector). m.number) w.3 in
+              let y : a.piece ≡ w.0 = ap (λ (m : MapSector). m.piece) w.3 in
               let z = number_at w.0 w.1 in
               rw y (omega arith);
           unclosed = λ k a e h. let b = above k a e in absurd (omega arith);

@@ -8,7 +8,7 @@ use mathlib.Core.Option.{none, some}
 use Rattle.geometry.specs.declared.Geometry.{Geometry}
 use Rattle.geometry.specs.Geometry.{pieces_for}
 use Rattle.layout.specs.Bounded.{best}
-use Rattle.layout.specs.Map_sector.{Map_sector, View}
+use Rattle.layout.specs.MapSector.{MapSector, View}
 use Rattle.layout.specs.Entry.{blank, is_empty, sector_of, restored}
 use Rattle.layout.specs.ParkRecord.{park_record}
 use Rattle.volume.specs.Tables.{Tables, named_by, used_by}
@@ -23,7 +23,7 @@ use Rattle.agreement.proofs.Agreed.{Agreed}
 pub record Ground (g : Geometry) (image : ℕ → List ℕ) (t : Tables) (tail number : ℕ) (disk : Disk) : Type 0 where
   pub agreed : Agreed g image t tail number
   pub high : number < 2 ^ 32
-  pub closes : (m : Map_sector) → image_view g image tail ≡ some m → m.closing ≡ true
+  pub closes : (m : MapSector) → image_view g image tail ≡ some m → m.closing ≡ true
   pub chain : (p : ℕ) → p < pieces_for g.l → Reaches (image_view g image) t.place (pieces_for g.l) tail p
   pub empty : (b : ℕ) → b < g.l → is_empty (t.entry b) ≡ true → disk b ≡ blank
   pub full : (b : ℕ) → b < g.l → is_empty (t.entry b) ≡ false → restored (t.entry b) (image (sector_of (t.entry b))) ≡ disk b
@@ -37,17 +37,17 @@ pub record Ground (g : Geometry) (image : ℕ → List ℕ) (t : Tables) (tail n
 -- And of every sector that is signed anywhere, stale ones too.
 pub record Committed (g : Geometry) (image : ℕ → List ℕ) (t : Tables) (tail number : ℕ) (disk : Disk) : Type 0 where
   pub ground : Ground g image t tail number disk
-  pub apart : (j k : ℕ) (a b : Map_sector) → image_view g image j ≡ some a → image_view g image k ≡ some b → a.number ≡ b.number → j ≡ k
-  pub latest : (k : ℕ) (a : Map_sector) → image_view g image k ≡ some a → a.number ≤ number → a.number ≤ t.number a.piece
-  pub unclosed : (k : ℕ) (a : Map_sector) → image_view g image k ≡ some a → number < a.number → a.closing ≡ false
+  pub apart : (j k : ℕ) (a b : MapSector) → image_view g image j ≡ some a → image_view g image k ≡ some b → a.number ≡ b.number → j ≡ k
+  pub latest : (k : ℕ) (a : MapSector) → image_view g image k ≡ some a → a.number ≤ number → a.number ≤ t.number a.piece
+  pub unclosed : (k : ℕ) (a : MapSector) → image_view g image k ≡ some a → number < a.number → a.closing ≡ false
   pub park : (image 0 ≡ blank)
       ⊎ ((image 0 ≡ park_record (record { number = number; tail = tail }))
-      × ((k : ℕ) (a : Map_sector) → image_view g image k ≡ some a → a.number ≤ number))
+      × ((k : ℕ) (a : MapSector) → image_view g image k ≡ some a → a.number ≤ number))
 
 -- No commit was cut since.
 pub record Settled (g : Geometry) (image : ℕ → List ℕ) (t : Tables) (tail number : ℕ) (disk : Disk) : Type 0 where
   pub committed : Committed g image t tail number disk
-  pub none_above : (k : ℕ) (a : Map_sector) → image_view g image k ≡ some a → a.number ≤ number
+  pub none_above : (k : ℕ) (a : MapSector) → image_view g image k ≡ some a → a.number ≤ number
 
 pub reaches_below : {view : View} {live : ℕ → ℕ} {pieces tail p : ℕ} → Reaches view live pieces tail p → p < pieces
 reaches_below (itself h e v) = h

@@ -13,7 +13,7 @@ use Rattle.geometry.specs.declared.Geometry.{Geometry}
 use Rattle.answer.specs.declared.Answer.TheVariants.{Scanned}
 use Rattle.geometry.specs.Geometry.{pieces_for, piece_of, index_of}
 use Rattle.layout.specs.Bounded.{at, best, distinct, elem, tabled, is_zero, any_below}
-use Rattle.layout.specs.Map_sector.{Map_sector}
+use Rattle.layout.specs.MapSector.{MapSector}
 use Rattle.volume.specs.Tables.{Tables, named_by, used_by, piece_entries}
 use Rattle.volume.specs.Recover.{number_in, entry_in, closing_number, piece_number, tables_from, found, newest_closing, closed_up_to, scan_place, signed_numbers, scanned_log, scan_damaged, scan_stores, scan_finding, image_view}
 use Rattle.history.specs.History.{Disk}
@@ -27,24 +27,24 @@ pub option? : {A : Type 0} (o : Option A) → (o ≡ none) ⊎ ((a : A) × (o �
 option? none = inl refl
 option? (some a) = inr (a, refl)
 
-pub number_some : (o : Option Map_sector) (a : Map_sector) → o ≡ some a → number_in o ≡ a.number
+pub number_some : (o : Option MapSector) (a : MapSector) → o ≡ some a → number_in o ≡ a.number
 unfolding number_in
 number_some o a e = ap number_in e
 
-number_none : (o : Option Map_sector) → o ≡ none → number_in o ≡ 0
+number_none : (o : Option MapSector) → o ≡ none → number_in o ≡ 0
 unfolding number_in
 number_none o e = ap number_in e
 
 -- A number that is not 0 is that of a signed sector.
-pub number_signed : (o : Option Map_sector) → (number_in o ≡ 0 → ⊥) → (a : Map_sector) × (o ≡ some a)
+pub number_signed : (o : Option MapSector) → (number_in o ≡ 0 → ⊥) → (a : MapSector) × (o ≡ some a)
 number_signed o f = ⊎_elim (λ e. absurd (f (number_none o e))) (λ w. w) (option? o)
 
-closing_is : (o : Option Map_sector) (a : Map_sector) → o ≡ some a → a.closing ≡ true → closing_number o ≡ a.number
+closing_is : (o : Option MapSector) (a : MapSector) → o ≡ some a → a.closing ≡ true → closing_number o ≡ a.number
 unfolding closing_number
 closing_is o a e c = ap closing_number e ∙ cond_true a.closing a.number 0 c
 
 -- The key of a closing sector is below any bound that its number is below.
-closing_below : (o : Option Map_sector) (bound : ℕ) → 1 ≤ bound → ((a : Map_sector) → o ≡ some a → a.closing ≡ true → a.number < bound)
+closing_below : (o : Option MapSector) (bound : ℕ) → 1 ≤ bound → ((a : MapSector) → o ≡ some a → a.closing ≡ true → a.number < bound)
     → closing_number o < bound
 unfolding closing_number
 closing_below o bound h f =
@@ -54,14 +54,14 @@ closing_below o bound h f =
     (bool? w.0.closing))
     (option? o)
 
-piece_is : (c p : ℕ) (o : Option Map_sector) (a : Map_sector) → o ≡ some a → a.piece ≡ p → a.number ≤ c → piece_number c p o ≡ a.number
+piece_is : (c p : ℕ) (o : Option MapSector) (a : MapSector) → o ≡ some a → a.piece ≡ p → a.number ≤ c → piece_number c p o ≡ a.number
 unfolding piece_number
 piece_is c p o a e q h =
     ap (piece_number c p) e
     ∙ cond_true (eqb a.piece p && leb a.number c) a.number 0 (rw (eq-eqb a.piece p q) (le-leb a.number c h))
 
-piece_below : (c p : ℕ) (o : Option Map_sector) (bound : ℕ) → 1 ≤ bound
-    → ((a : Map_sector) → o ≡ some a → a.piece ≡ p → a.number ≤ c → a.number < bound) → piece_number c p o < bound
+piece_below : (c p : ℕ) (o : Option MapSector) (bound : ℕ) → 1 ≤ bound
+    → ((a : MapSector) → o ≡ some a → a.piece ≡ p → a.number ≤ c → a.number < bound) → piece_number c p o < bound
 unfolding piece_number
 piece_below c p o bound h f =
     ⊎_elim (λ (e : o ≡ none). rw e h)
@@ -100,7 +100,7 @@ module _ (g : Geometry) (image : ℕ → List ℕ) (t : Tables) (tail number : �
   number_low = rw ground.agreed.sound.number_is (ground.agreed.sound.from1 newest newest_below)
 
   -- The tail is signed and closing, and has the number.
-  pub tail_says : (m : Map_sector) × (image_view g image tail ≡ some m) × (m.number ≡ number) × (m.closing ≡ true) × (m.piece < pieces_for g.l)
+  pub tail_says : (m : MapSector) × (image_view g image tail ≡ some m) × (m.number ≡ number) × (m.closing ≡ true) × (m.piece < pieces_for g.l)
   unfolding newest ground
   tail_says =
       let w = ground.agreed.live newest newest_below in

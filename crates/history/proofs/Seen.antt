@@ -23,11 +23,11 @@ use Rattle.volume.specs.Store.{After, after, memory_with}
 use Rattle.volume.specs.Format.{volume_in, format_of}
 use Rattle.volume.specs.Refusals.{judged}
 use Rattle.volume.specs.Rules.{base}
-use Rattle.volume.specs.Calls.{Read_after, read_of}
+use Rattle.volume.specs.Calls.{ReadAfter, read_of}
 use Rattle.volume.specs.Recover.{recover_of}
-use Rattle.batches.specs.Batch.{Commit, commit_made, Answered, commits_made, commits_in, batch_checks, answer_of, answers_with, Batch_after, batch_by, batch_of}
-use Rattle.history.specs.History.{Call, write, drop, batch, read, park, recover, World, whole_outcome, batch_run, made, world_of, accepted, outcomes_of, acceptances, Disk, zero_disk, disk_after, Marked, Commit_kept, CommitsKept, Kept, recovery_stores, Recovers, Faithful}
-use Rattle.history.specs.Seen.{Buffers, held_in, Seen, IsAccepted, FormatMeets, Meets, Run, seen_acceptances, KeptSeen, Recovers_seen, FaithfulSeen}
+use Rattle.batches.specs.Batch.{Commit, commit_made, Answered, commits_made, commits_in, batch_checks, answer_of, answers_with, BatchAfter, batch_by, batch_of}
+use Rattle.history.specs.History.{Call, write, drop, batch, read, park, recover, World, whole_outcome, batch_run, made, world_of, accepted, outcomes_of, acceptances, Disk, zero_disk, disk_after, Marked, CommitKept, CommitsKept, Kept, recovery_stores, Recovers, Faithful}
+use Rattle.history.specs.Seen.{Buffers, held_in, Seen, IsAccepted, FormatMeets, Meets, Run, seen_acceptances, KeptSeen, RecoversSeen, FaithfulSeen}
 use Rattle.laws.proofs.Bounded.{bool?, lt?, clash}
 use Rattle.laws.proofs.Judged.{verdict?}
 use Rattle.history.proofs.History.{base_histories}
@@ -45,9 +45,9 @@ unfolding Meets made
 made_is g s b (write head blocks bytes allowance) r e = sym e
 made_is g s b (drop head blocks allowance) r e = sym e
 made_is g s b (batch words blocks bytes allowance answers) r e =
-    ap (λ (a : Batch_after). after (whole_outcome a.outcome) a.memory) (sym e.1) ∙ ap (λ (o : Outcome). after o (held_in r.buffers)) (sym e.2)
+    ap (λ (a : BatchAfter). after (whole_outcome a.outcome) a.memory) (sym e.1) ∙ ap (λ (o : Outcome). after o (held_in r.buffers)) (sym e.2)
 made_is g s b (read block out) r e =
-    ap (λ (a : Read_after). after a.outcome a.memory) (sym e.0) ∙ ap (λ (c : Buffers). after r.outcome (held_in c)) (sym e.1)
+    ap (λ (a : ReadAfter). after a.outcome a.memory) (sym e.0) ∙ ap (λ (c : Buffers). after r.outcome (held_in c)) (sym e.1)
 made_is g s b (park allowance) r e = sym e
 made_is g s b (recover drive allowance) r e = sym e
 
@@ -93,8 +93,8 @@ oks_are g s b (drop head blocks allowance) r e = ap (λ (a : After). accepted a 
 oks_are g s b (batch words blocks bytes allowance answers) r e =
     let x = batch_ran (world_seen s b) words blocks bytes allowance answers in
     let outs = (ran (world_seen s b) words blocks bytes allowance answers).outcomes in
-    let own : r.out ≡ answers_with outs answers = ap (λ (a : Batch_after). a.answers) e.1 ∙ x.0 in
-    let count : r.answered ≡ length outs = e.3 ∙ ap (λ (a : Batch_after). a.outcome.answered) e.1 ∙ x.1 in
+    let own : r.out ≡ answers_with outs answers = ap (λ (a : BatchAfter). a.answers) e.1 ∙ x.0 in
+    let count : r.answered ≡ length outs = e.3 ∙ ap (λ (a : BatchAfter). a.outcome.answered) e.1 ∙ x.1 in
     sym (ap (λ (n : ℕ). list_from (answered_at r.out) 0 n) count ∙ ap (λ (xs : List ℕ). list_from (answered_at xs) 0 (length outs)) own ∙ acceptances_seen outs answers)
 oks_are g s b (read block out) r e = ap (λ (a : After). accepted a ∷ []) (made_is g s b (read block out) r e)
 oks_are g s b (park allowance) r e = ap (λ (a : After). accepted a ∷ []) (made_is g s b (park allowance) r e)
@@ -158,22 +158,22 @@ kept_seen : (g : Geometry) (s : State) (b : Buffers) (disk : Disk) (call : Call)
 unfolding Kept KeptSeen Meets
 kept_seen g s b disk (write head blocks bytes allowance) r e k =
     let is = made_is g s b (write head blocks bytes allowance) r e in
-    λ ok. subst (λ (a : After). Commit_kept g (held_in b) a.memory) is (k (seen_ok r _ is ok))
+    λ ok. subst (λ (a : After). CommitKept g (held_in b) a.memory) is (k (seen_ok r _ is ok))
 kept_seen g s b disk (drop head blocks allowance) r e k =
     let is = made_is g s b (drop head blocks allowance) r e in
-    λ ok. subst (λ (a : After). Commit_kept g (held_in b) a.memory) is (k (seen_ok r _ is ok))
+    λ ok. subst (λ (a : After). CommitKept g (held_in b) a.memory) is (k (seen_ok r _ is ok))
 kept_seen g s b disk (batch words blocks bytes allowance answers) r e k =
     let w = world_seen s b in
     let is = made_is g s b (batch words blocks bytes allowance answers) r e in
     let x = batch_ran w words blocks bytes allowance answers in
-    let own : r.out ≡ answers_with (ran w words blocks bytes allowance answers).outcomes answers = ap (λ (a : Batch_after). a.answers) e.1 ∙ x.0 in
-    let count : r.answered ≡ length (ran w words blocks bytes allowance answers).outcomes = e.3 ∙ ap (λ (a : Batch_after). a.outcome.answered) e.1 ∙ x.1 in
+    let own : r.out ≡ answers_with (ran w words blocks bytes allowance answers).outcomes answers = ap (λ (a : BatchAfter). a.answers) e.1 ∙ x.0 in
+    let count : r.answered ≡ length (ran w words blocks bytes allowance answers).outcomes = e.3 ∙ ap (λ (a : BatchAfter). a.outcome.answered) e.1 ∙ x.1 in
     λ ok some last.
     batch_marked g w words blocks bytes allowance answers (k (seen_ok r _ is ok)) r.out r.answered own count some last (held_in r.buffers)
-    (ap (λ (a : Batch_after). a.memory) e.1 ∙ x.2)
+    (ap (λ (a : BatchAfter). a.memory) e.1 ∙ x.2)
 kept_seen g s b disk (read block out) r e k =
     let is = made_is g s b (read block out) r e in
-    λ ok. ap (λ (a : Read_after). a.out) (read_is g s b block out r e) ∙ k (seen_ok r _ is ok)
+    λ ok. ap (λ (a : ReadAfter). a.out) (read_is g s b block out r e) ∙ k (seen_ok r _ is ok)
 kept_seen g s b disk (park allowance) r e k = tt
 kept_seen g s b disk (recover drive allowance) r e k = tt
 
@@ -208,11 +208,11 @@ module _ (g : Geometry) (b : Buffers) (disk : Disk) (left : Recovers g (held_in 
         let is = read_is g r.outcome.state r.buffers block out q met in
         let seen = subst (λ (a : After). (number_of (read_of a.outcome.state a.memory block out).outcome.answer ≡ 0)
         × ((read_of a.outcome.state a.memory block out).out ≡ disk block)) recovery given in (
-          ap (λ (a : Read_after). number_of a.outcome.answer) is ∙ seen.0,
-          ap (λ (a : Read_after). a.out) is ∙ seen.1,
+          ap (λ (a : ReadAfter). number_of a.outcome.answer) is ∙ seen.0,
+          ap (λ (a : ReadAfter). a.out) is ∙ seen.1,
         )
 
-  recovers_seen : Recovers_seen g b disk
+  recovers_seen : RecoversSeen g b disk
   recovers_seen =
       record {
         recovered = λ drive holds s other allowance r e h enough met.

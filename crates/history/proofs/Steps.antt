@@ -24,7 +24,7 @@ use Rattle.volume.specs.Rules.{Rules}
 use Rattle.volume.specs.Commit.{Change, plan_action, commit_action}
 use Rattle.volume.specs.Calls.{view_of}
 use Rattle.volume.specs.Recover.{image_view, newest_closing}
-use Rattle.history.specs.History.{World, world_of, accepted, Disk, Commit_kept, live_sectors, live_place, Reaches, itself, through}
+use Rattle.history.specs.History.{World, world_of, accepted, Disk, CommitKept, live_sectors, live_place, Reaches, itself, through}
 use Rattle.laws.proofs.Bounded.{lt?, or_none}
 use Rattle.laws.proofs.Names.{elem_named}
 use Rattle.laws.proofs.Placing.{Choosing}
@@ -85,7 +85,7 @@ unused named k d e = or_none (eqb k 0) (elem k named) (ne_eqb k 0 d) e
 
 -- What a step comes to: what a commit keeps, how the volume stands, and the lengths.
 pub record Step (g : Geometry) (m : Memory) (r : After) (disk disk' : Disk) : Type 0 where
-  pub kept : accepted r ≡ true → Commit_kept g m r.memory
+  pub kept : accepted r ≡ true → CommitKept g m r.memory
   pub stands : Standing g (world_of r) (cond (accepted r) disk' disk)
   pub sized : Sized g r.memory
 
@@ -117,7 +117,7 @@ module _ (rules : Rules) (law : Choosing rules) (g : Geometry) (fit : Fits g) (m
         })
 
     -- Used exactly what is live, freed what is not, and all of it reached.
-    commit_kept : Commit_kept g m (memory_with m (image' start) (tables' start))
+    commit_kept : CommitKept g m (memory_with m (image' start) (tables' start))
     commit_kept =
         let new = (whole_commit on).committed in
         let now = live_is g (image' start) (tables' start) (tail' start) (number' start) (disk' on) fit new in

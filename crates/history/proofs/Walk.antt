@@ -11,7 +11,7 @@ use borrow.Author.Tests.{lt-ltb, ltb-true, eq-eqb, ne_eqb, eqb-true}
 use Rattle.geometry.specs.declared.Geometry.{Geometry}
 use Rattle.geometry.specs.Geometry.{pieces_for}
 use Rattle.layout.specs.Bounded.{best, count_below, elem, is_zero, updated}
-use Rattle.layout.specs.Map_sector.{Map_sector, View}
+use Rattle.layout.specs.MapSector.{MapSector, View}
 use Rattle.volume.specs.Tables.{Tables}
 use Rattle.volume.specs.Commit.{branches_in}
 use Rattle.volume.specs.Recover.{number_in, piece_in, Walk, waiting_number, target_waits, targets_read, walk_step, walked_for, walk_from, image_view}
@@ -41,27 +41,27 @@ module _ (g : Geometry) (image : ℕ → List ℕ) (t : Tables) (tail number : �
   record Good (w : Walk) : Type 0 where
     done_live : (p : ℕ) → (w.taken p ≡ 0 → ⊥) → w.taken p ≡ t.place p
     waits : (p : ℕ) → (w.waiting p ≡ 0 → ⊥)
-        → (a : Map_sector) × (image_view g image (w.waiting p) ≡ some a) × (a.piece ≡ p) × (a.number ≤ t.number p) × (w.taken p ≡ 0)
+        → (a : MapSector) × (image_view g image (w.waiting p) ≡ some a) × (a.piece ≡ p) × (a.number ≤ t.number p) × (w.taken p ≡ 0)
 
   Ready : Walk → ℕ → Type 0
   Ready w q = (w.taken q ≡ 0 → ⊥) ⊎ (w.waiting q ≡ t.place q)
 
-  abbrev waits? : Walk → ℕ → Map_sector → Bool
+  abbrev waits? : Walk → ℕ → MapSector → Bool
   waits? w holder m = ltb m.number holder && is_zero (w.taken m.piece) && ltb (waiting_number view w m.piece) m.number
 
-  abbrev next : Walk → ℕ → Map_sector → Walk
+  abbrev next : Walk → ℕ → MapSector → Walk
   next w target m = record { waiting = updated w.waiting m.piece target; taken = w.taken }
 
   reads_none : (holder : ℕ) (w : Walk) (target : ℕ) → image_view g image target ≡ none → target_waits view holder w target (view target) ≡ w
   unfolding target_waits
   reads_none holder w target e = ap (target_waits view holder w target) e
 
-  reads_kept : (holder : ℕ) (w : Walk) (target : ℕ) (m : Map_sector) → image_view g image target ≡ some m → waits? w holder m ≡ false
+  reads_kept : (holder : ℕ) (w : Walk) (target : ℕ) (m : MapSector) → image_view g image target ≡ some m → waits? w holder m ≡ false
       → target_waits view holder w target (view target) ≡ w
   unfolding target_waits
   reads_kept holder w target m e b = ap (target_waits view holder w target) e ∙ cond_false (waits? w holder m) (next w target m) w b
 
-  reads_new : (holder : ℕ) (w : Walk) (target : ℕ) (m : Map_sector) → image_view g image target ≡ some m → waits? w holder m ≡ true
+  reads_new : (holder : ℕ) (w : Walk) (target : ℕ) (m : MapSector) → image_view g image target ≡ some m → waits? w holder m ≡ true
       → target_waits view holder w target (view target) ≡ next w target m
   unfolding target_waits
   reads_new holder w target m e b = ap (target_waits view holder w target) e ∙ cond_true (waits? w holder m) (next w target m) w b
@@ -69,8 +69,8 @@ module _ (g : Geometry) (image : ℕ → List ℕ) (t : Tables) (tail number : �
   -- Three ways for a target that is read.
   Read : ℕ → Walk → ℕ → Type 0
   Read holder w target =
-      ((target_waits view holder w target (view target) ≡ w) × ((m : Map_sector) → image_view g image target ≡ some m → waits? w holder m ≡ false))
-      ⊎ ((m : Map_sector) × (image_view g image target ≡ some m) × (waits? w holder m ≡ true)
+      ((target_waits view holder w target (view target) ≡ w) × ((m : MapSector) → image_view g image target ≡ some m → waits? w holder m ≡ false))
+      ⊎ ((m : MapSector) × (image_view g image target ≡ some m) × (waits? w holder m ≡ true)
       × (target_waits view holder w target (view target) ≡ next w target m))
 
   read? : (holder : ℕ) (w : Walk) (target : ℕ) → Read holder w target
@@ -83,24 +83,24 @@ module _ (g : Geometry) (image : ℕ → List ℕ) (t : Tables) (tail number : �
       (λ (b : waits? w holder v.0 ≡ false).
       inl (
         reads_kept holder w target v.0 v.1 b,
-        λ m q. let same : m ≡ v.0 = cc in subst (λ (x : Map_sector). waits? w holder x ≡ false) (sym same) b,
+        λ m q. let same : m ≡ v.0 = cc in subst (λ (x : MapSector). waits? w holder x ≡ false) (sym same) b,
       ))
       (bool? (waits? w holder v.0)))
       (option? (image_view g image target))
 
-  waits_2 : (w : Walk) (holder : ℕ) (m : Map_sector) → waits? w holder m ≡ true → w.taken m.piece ≡ 0
+  waits_2 : (w : Walk) (holder : ℕ) (m : MapSector) → waits? w holder m ≡ true → w.taken m.piece ≡ 0
   waits_2 w holder m e =
       eqb-true (w.taken m.piece) 0
       (and_r (ltb m.number holder) (is_zero (w.taken m.piece))
       (and_l (ltb m.number holder && is_zero (w.taken m.piece)) (ltb (waiting_number view w m.piece) m.number) e))
 
-  waits_3 : (w : Walk) (holder : ℕ) (m : Map_sector) → waits? w holder m ≡ true → waiting_number view w m.piece < m.number
+  waits_3 : (w : Walk) (holder : ℕ) (m : MapSector) → waits? w holder m ≡ true → waiting_number view w m.piece < m.number
   waits_3 w holder m e =
       ltb-true (waiting_number view w m.piece) m.number
       (and_r (ltb m.number holder && is_zero (w.taken m.piece)) (ltb (waiting_number view w m.piece) m.number) e)
 
   -- The number of what waits.
-  waiting_is : (w : Walk) (p : ℕ) (a : Map_sector) → (w.waiting p ≡ 0 → ⊥) → image_view g image (w.waiting p) ≡ some a → waiting_number view w p ≡ a.number
+  waiting_is : (w : Walk) (p : ℕ) (a : MapSector) → (w.waiting p ≡ 0 → ⊥) → image_view g image (w.waiting p) ≡ some a → waiting_number view w p ≡ a.number
   unfolding number_in
   waiting_is w p a d e = cond_false (is_zero (w.waiting p)) 0 (number_in (view (w.waiting p))) (ne_eqb (w.waiting p) 0 d) ∙ ap number_in e
 
@@ -109,7 +109,7 @@ module _ (g : Geometry) (image : ℕ → List ℕ) (t : Tables) (tail number : �
       let v = c.ground.agreed.live q h in
       waiting_is w q v.0 (λ (z : w.waiting q ≡ 0). place_some q h (sym e ∙ z)) (ap view e ∙ v.1) ∙ v.3
 
-  next_good : (w : Walk) (holder target : ℕ) (m : Map_sector) → Good w → image_view g image target ≡ some m → waits? w holder m ≡ true → Good (next w target m)
+  next_good : (w : Walk) (holder target : ℕ) (m : MapSector) → Good w → image_view g image target ≡ some m → waits? w holder m ≡ true → Good (next w target m)
   next_good w holder target m good e b =
       record {
         done_live = good.done_live;
@@ -130,7 +130,7 @@ module _ (g : Geometry) (image : ℕ → List ℕ) (t : Tables) (tail number : �
       }
 
   -- What waits with its live sector keeps it.
-  next_ready : (w : Walk) (holder target : ℕ) (m : Map_sector) → image_view g image target ≡ some m → waits? w holder m ≡ true
+  next_ready : (w : Walk) (holder target : ℕ) (m : MapSector) → image_view g image target ≡ some m → waits? w holder m ≡ true
       → (q : ℕ) → q < pieces_for g.l → Ready w q → Ready (next w target m) q
   unfolding Ready
   next_ready w holder target m e b q h r =
@@ -172,7 +172,7 @@ module _ (g : Geometry) (image : ℕ → List ℕ) (t : Tables) (tail number : �
       (λ (z : w.taken q ≡ 0 → ⊥). inl (subst (λ (x : Walk). x.taken q ≡ 0 → ⊥) (sym r.0) z)) (eq? (w.taken q) 0))
       (λ r.
       let same : r.0 ≡ m = let a = r.1 in let b = v.1 in cc in
-      let at : r.0.piece ≡ q = ap (λ (x : Map_sector). x.piece) same ∙ piece_is in
+      let at : r.0.piece ≡ q = ap (λ (x : MapSector). x.piece) same ∙ piece_is in
       inr (subst (λ (x : Walk). x.waiting q ≡ t.place q) (sym r.3)
       (ap (updated w.waiting r.0.piece (t.place q)) (sym at) ∙ updated_here w.waiting r.0.piece (t.place q))))
       (read? holder w (t.place q))
@@ -262,10 +262,10 @@ module _ (g : Geometry) (image : ℕ → List ℕ) (t : Tables) (tail number : �
       let hq = reaches_below r in
       let lq = c.ground.agreed.live q hq in
       let lt' = c.ground.agreed.live top h in
-      let na : a.number ≡ t.number q = (let same : a ≡ lq.0 = let x = lq.1 in cc in ap (λ (x : Map_sector). x.number) same ∙ lq.3) in
-      let nb : m.number ≡ t.number top = (let same : m ≡ lt'.0 = let x = lt'.1 in cc in ap (λ (x : Map_sector). x.number) same ∙ lt'.3) in
+      let na : a.number ≡ t.number q = (let same : a ≡ lq.0 = let x = lq.1 in cc in ap (λ (x : MapSector). x.number) same ∙ lq.3) in
+      let nb : m.number ≡ t.number top = (let same : m ≡ lt'.0 = let x = lt'.1 in cc in ap (λ (x : MapSector). x.number) same ∙ lt'.3) in
       b.links q hq (λ (z : w.taken q ≡ 0). let x = most q hq z in omega arith) top h
-      (subst (λ (o : Option Map_sector). elem (t.place top) (branches_in o) ≡ true) (sym e) f) (omega arith)
+      (subst (λ (o : Option MapSector). elem (t.place top) (branches_in o) ≡ true) (sym e) f) (omega arith)
 
   -- One step, where some piece is not done.
   step_key : Walk → ℕ → ℕ

@@ -11,7 +11,7 @@ use lib.Dec.{ltb}
 use borrow.Author.Tests.{eq-eqb}
 use Rattle.geometry.specs.Geometry.{pieces_for}
 use Rattle.layout.specs.Bounded.{at, elem, tabled, updates}
-use Rattle.layout.specs.Map_sector.{Map_sector, decoded}
+use Rattle.layout.specs.MapSector.{MapSector, decoded}
 use Rattle.layout.specs.Entry.{blank, is_empty, sector_of, restored}
 use Rattle.volume.specs.Commit.{touches, branches_in, branches_for, rank, commit_stores}
 use Rattle.volume.specs.Calls.{view_of}
@@ -78,7 +78,7 @@ module _ {g : Start} {disk : Disk} {after : ℕ → List ℕ} (on : Settling g d
 
   -- The view at an unwritten piece.
   kept_says : (p : ℕ) → p < pieces_for s.geometry.l → (plan g).written p ≡ false
-      → (m : Map_sector) × (image_view s.geometry (image' g) ((tables' g).place p) ≡ some m) × (m.number ≡ t.number p)
+      → (m : MapSector) × (image_view s.geometry (image' g) ((tables' g).place p) ≡ some m) × (m.number ≡ t.number p)
       × (branches_in (view_of s.geometry image (t.place p)) ≡ m.branches)
   unfolding branches_in
   kept_says p h e =
@@ -129,13 +129,13 @@ module _ {g : Start} {disk : Disk} {after : ℕ → List ℕ} (on : Settling g d
       linked_reached w.0 p (all_linked p h w.1))
       (bool? ((plan g).written p))
 
-  closes' : (m : Map_sector) → image_view s.geometry (image' g) (tail' g) ≡ some m → m.closing ≡ true
+  closes' : (m : MapSector) → image_view s.geometry (image' g) (tail' g) ≡ some m → m.closing ≡ true
   closes' m e =
       let w = last_written g in
       let v = subst (λ (k : ℕ). image_view s.geometry (image' g) k ≡ some (member_of g w.0)) (tail_place g w.0 w.1 w.2)
       (view_written g w.0 w.1) in
       let same : m ≡ member_of g w.0 = cc in
-      ap (λ (x : Map_sector). x.closing) same ∙ member_closing g w.0 ∙ eq-eqb (suc (rank (plan g) w.0)) (plan g).members (sym w.2)
+      ap (λ (x : MapSector). x.closing) same ∙ member_closing g w.0 ∙ eq-eqb (suc (rank (plan g) w.0)) (plan g).members (sym w.2)
 
   disk_named : (i : ℕ) → i < length change.blocks → disk' (at change.blocks i) ≡ after i
   disk_named i h = updates_at disk (at change.blocks) after (length change.blocks) i h given.apart
@@ -206,16 +206,16 @@ module _ {g : Start} {disk : Disk} {after : ℕ → List ℕ} (on : Settling g d
         used_all = used_exact g;
       }
 
-  above' : (k : ℕ) (a : Map_sector) → image_view s.geometry (image' g) k ≡ some a → a.number ≤ number' g
+  above' : (k : ℕ) (a : MapSector) → image_view s.geometry (image' g) k ≡ some a → a.number ≤ number' g
   above' k a e =
       ⊎_elim (λ x. let o = old_number on k a x in omega arith)
       (λ x.
-      let q = ap (λ (m : Map_sector). m.number) x.4 ∙ member_number g x.0 in
+      let q = ap (λ (m : MapSector). m.number) x.4 ∙ member_number g x.0 in
       let r = rank_below g x.0 x.1 in
       omega arith)
       (signed_cases on (commit_stores s t (plan g) change) (Any g) (kinds g) k a e)
 
-  latest' : (k : ℕ) (a : Map_sector) → image_view s.geometry (image' g) k ≡ some a → a.number ≤ number' g
+  latest' : (k : ℕ) (a : MapSector) → image_view s.geometry (image' g) k ≡ some a → a.number ≤ number' g
       → a.number ≤ (tables' g).number a.piece
   latest' k a e h =
       ⊎_elim (λ x.
@@ -224,8 +224,8 @@ module _ {g : Start} {disk : Disk} {after : ℕ → List ℕ} (on : Settling g d
       ⊎_elim (λ (z : (plan g).written a.piece ≡ true). rw (number_written g a.piece z) (omega arith))
       (λ (z : (plan g).written a.piece ≡ false). rw (number_unwritten g a.piece z) old) (bool? ((plan g).written a.piece)))
       (λ x.
-      let piece_is : a.piece ≡ x.0 = ap (λ (m : Map_sector). m.piece) x.4 ∙ member_piece g x.0 in
-      let q = ap (λ (m : Map_sector). m.number) x.4 ∙ member_number g x.0 in
+      let piece_is : a.piece ≡ x.0 = ap (λ (m : MapSector). m.piece) x.4 ∙ member_piece g x.0 in
+      let q = ap (λ (m : MapSector). m.number) x.4 ∙ member_number g x.0 in
       let w = number_written g x.0 x.1 in
       rw piece_is (omega arith))
       (signed_cases on (commit_stores s t (plan g) change) (Any g) (kinds g) k a e)

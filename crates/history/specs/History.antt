@@ -14,7 +14,7 @@ use Rattle.answer.specs.declared.Verdict.{Verdict}
 use Rattle.answer.specs.declared.Verdict.TheVariants.{Pass, Refuse}
 use Rattle.answer.specs.Answer.{number_of, cost_of}
 use Rattle.layout.specs.Bounded.{at, elem, is_zero, updates}
-use Rattle.layout.specs.Map_sector.{Map_sector, View}
+use Rattle.layout.specs.MapSector.{MapSector, View}
 use Rattle.layout.specs.Entry.{blank}
 use Rattle.volume.specs.Tables.{Tables, Memory, sector_at, named_by, used_by}
 use Rattle.volume.specs.Store.{Store, After, after, memory_with}
@@ -142,8 +142,8 @@ live_sectors g view =
 -- The live map sector of a piece is reached from the tail, a signed sector, branch by branch to lower numbers, through live map
 -- sectors alone.
 pub data Reaches (view : View) (live : ℕ → ℕ) (pieces tail : ℕ) : ℕ → Type 0 where
-  itself : {p : ℕ} {m : Map_sector} → p < pieces → live p ≡ tail → view tail ≡ some m → Reaches view live pieces tail p
-  through : {q p : ℕ} {a b : Map_sector} → Reaches view live pieces tail q → view (live q) ≡ some a → p < pieces
+  itself : {p : ℕ} {m : MapSector} → p < pieces → live p ≡ tail → view tail ≡ some m → Reaches view live pieces tail p
+  through : {q p : ℕ} {a b : MapSector} → Reaches view live pieces tail q → view (live q) ≡ some a → p < pieces
       → elem (live p) a.branches ≡ true → view (live p) ≡ some b → b.number < a.number → Reaches view live pieces tail p
 
 -- (b) "After each accepted commit the used map marks sector 0 and the live sectors and no other, so all it superseded is free;
@@ -154,7 +154,7 @@ pub record Marked (g : Geometry) (now : Memory) : Type 0 where
   pub reached : (p : ℕ) → p < pieces_for g.l
       → Reaches (image_view g now.image) (live_place g.n (image_view g now.image)) (pieces_for g.l) (newest_closing g.n (image_view g now.image)) p
 
-pub record Commit_kept (g : Geometry) (before now : Memory) : Type 0 where
+pub record CommitKept (g : Geometry) (before now : Memory) : Type 0 where
   pub marked : Marked g now
   pub freed : (k : ℕ) → elem k (live_sectors g (image_view g before.image)) ≡ true
       → elem k (live_sectors g (image_view g now.image)) ≡ false → now.tables.is_used k ≡ false
@@ -164,7 +164,7 @@ unfoldable pub CommitsKept : Rules → Geometry → State → Memory → List Co
 CommitsKept rules g s m [] allowance = Unit {0}
 CommitsKept rules g s m (c ∷ cs) allowance =
     accepted (commit_made rules s m c allowance) ≡ true
-    → Commit_kept g m (commit_made rules s m c allowance).memory
+    → CommitKept g m (commit_made rules s m c allowance).memory
     × CommitsKept rules g (commit_made rules s m c allowance).outcome.state (commit_made rules s m c allowance).memory cs
     (allowance - (cost_of (commit_made rules s m c allowance).outcome.answer).stores)
 
@@ -172,10 +172,10 @@ CommitsKept rules g s m (c ∷ cs) allowance =
 unfoldable pub Kept : Rules → Geometry → World → Disk → Call → Type 0
 Kept rules g w disk (write head blocks bytes allowance) =
     accepted (made rules g w (write head blocks bytes allowance)) ≡ true
-    → Commit_kept g w.memory (made rules g w (write head blocks bytes allowance)).memory
+    → CommitKept g w.memory (made rules g w (write head blocks bytes allowance)).memory
 Kept rules g w disk (drop head blocks allowance) =
     accepted (made rules g w (drop head blocks allowance)) ≡ true
-    → Commit_kept g w.memory (made rules g w (drop head blocks allowance)).memory
+    → CommitKept g w.memory (made rules g w (drop head blocks allowance)).memory
 Kept rules g w disk (batch words blocks bytes allowance answers) =
     accepted (made rules g w (batch words blocks bytes allowance answers)) ≡ true
     → CommitsKept rules g w.state w.memory (commits_in words blocks bytes) allowance

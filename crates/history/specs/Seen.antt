@@ -16,7 +16,7 @@ use Rattle.volume.specs.Format.{format_of}
 use Rattle.volume.specs.Calls.{write_of, drop_of, read_of, park_of}
 use Rattle.volume.specs.Recover.{recover_of}
 use Rattle.batches.specs.Batch.{answer_words, batch_of}
-use Rattle.history.specs.History.{Call, write, drop, batch, read, park, recover, whole_outcome, Disk, disk_after, Marked, Commit_kept, recovery_stores}
+use Rattle.history.specs.History.{Call, write, drop, batch, read, park, recover, whole_outcome, Disk, disk_after, Marked, CommitKept, recovery_stores}
 
 -- The buffers that are lent to every call.
 pub record Buffers : Type 0 where
@@ -76,8 +76,8 @@ seen_acceptances (recover drive allowance) r = is_zero (number_of r.outcome.answ
 -- What is seen of one call: (a) and (b) of `History.Kept`. Between two commits of a batch nothing is seen; after one whose every commit
 -- was accepted it is what stands after its last.
 unfoldable pub KeptSeen : Geometry → Buffers → Disk → Call → Seen → Type 0
-KeptSeen g b disk (write head blocks bytes allowance) r = IsAccepted r → Commit_kept g (held_in b) (held_in r.buffers)
-KeptSeen g b disk (drop head blocks allowance) r = IsAccepted r → Commit_kept g (held_in b) (held_in r.buffers)
+KeptSeen g b disk (write head blocks bytes allowance) r = IsAccepted r → CommitKept g (held_in b) (held_in r.buffers)
+KeptSeen g b disk (drop head blocks allowance) r = IsAccepted r → CommitKept g (held_in b) (held_in r.buffers)
 KeptSeen g b disk (batch words blocks bytes allowance answers) r =
     IsAccepted r → 0 < r.answered → at r.out (answer_words * (r.answered - 1)) ≡ 0 → Marked g (held_in r.buffers)
 KeptSeen g b disk (read block out) r = IsAccepted r → r.out ≡ disk block
@@ -86,7 +86,7 @@ KeptSeen g b disk (recover drive allowance) r = Unit {0}
 
 -- (c): the image is what is left, with other tables of the same lengths and any state; a recovery on any drive that holds the sectors, with
 -- stores enough, and a read of each block after it.
-pub record Recovers_seen (g : Geometry) (b : Buffers) (disk : Disk) : Type 0 where
+pub record RecoversSeen (g : Geometry) (b : Buffers) (disk : Disk) : Type 0 where
   pub recovered : (drive : Drive) → drive_fits g.n drive ≡ true
       → (s : State) (other : Buffers) (allowance : ℕ) (r : Seen) → other.image ≡ b.image
       → (held_in other).lengths ≡ (held_in b).lengths → length (recovery_stores g (sector_at b.image)) ≤ allowance
@@ -97,7 +97,7 @@ pub record Recovers_seen (g : Geometry) (b : Buffers) (disk : Disk) : Type 0 whe
 
 -- Demand 3 of what is seen.
 unfoldable pub FaithfulSeen : Geometry → List Call → List Seen → Buffers → Disk → Type 0
-FaithfulSeen g [] [] b disk = Recovers_seen g b disk
+FaithfulSeen g [] [] b disk = RecoversSeen g b disk
 FaithfulSeen g [] (r ∷ rs) b disk = ⊥
 FaithfulSeen g (call ∷ calls) [] b disk = ⊥
 FaithfulSeen g (call ∷ calls) (r ∷ rs) b disk =

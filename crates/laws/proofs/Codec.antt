@@ -16,7 +16,7 @@ use Rattle.geometry.specs.declared.Geometry.{Geometry}
 use Rattle.geometry.specs.Geometry.{within, pieces_for, branch_room}
 use Rattle.layout.specs.Bounded.{all, same, is_zero}
 use Rattle.layout.specs.Word.{word, words_of, bytes_of, word_sum, balance, starts_with, balanced}
-use Rattle.layout.specs.Map_sector.{Map_sector, map_mark, kind_of, encoded, branches_fit, valid, fields, decoded}
+use Rattle.layout.specs.MapSector.{MapSector, map_mark, kind_of, encoded, branches_fit, valid, fields, decoded}
 use Rattle.layout.specs.Entry.{blank, is_empty, sector_of, complemented, needs_flip, stored, entry_for, restored}
 use Rattle.layout.specs.ParkRecord.{Parked, park_record, is_park_record, parked_in}
 use Rattle.laws.proofs.Bounded.{bool?, and_l, and_r, and_i, cond_true, cond_false}
@@ -68,7 +68,7 @@ all_replicate test zero x e = refl
 all_replicate test (suc n) x e = and_i (test x) (all test (replicate n x)) e (all_replicate test n x e)
 
 -- A map sector that a volume of N sectors and L blocks can hold.
-pub record Well_formed (g : Geometry) (m : Map_sector) : Type 0 where
+pub record WellFormed (g : Geometry) (m : MapSector) : Type 0 where
   pub sectors : g.n ≤ 65536
   pub blocks : g.l < 2 ^ 32
   pub low : 1 ≤ m.number
@@ -84,7 +84,7 @@ abbrev mark_word : ℕ
 mark_word = 0x314D4C56
 
 -- The words from 2 on.
-body : ℕ → Map_sector → List ℕ
+body : ℕ → MapSector → List ℕ
 body l m =
     m.number ∷ 0 ∷ m.piece ∷ kind_of m.closing ∷ length m.branches ∷ l
     ∷ (m.branches ++ (replicate (branch_room - length m.branches) 0 ++ m.entries))
@@ -93,7 +93,7 @@ kind_small : (c : Bool) → (kind_of c ≤ 1) × (eqb (kind_of c) 1 ≡ c)
 kind_small true = (omega arith, refl)
 kind_small false = (omega arith, refl)
 
-module _ (g : Geometry) (m : Map_sector) (ok : Well_formed g m) where
+module _ (g : Geometry) (m : MapSector) (ok : WellFormed g m) where
   body_words : all is_word (body g.l m) ≡ true
   unfolding all body
   body_words =

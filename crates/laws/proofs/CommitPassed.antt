@@ -34,14 +34,14 @@ ascends xs a i (suc j) h b =
 pub all_apart : (xs : List ℕ) → ((i j : ℕ) → i < j → j < length xs → at xs i < at xs j) → (i j : ℕ) → i < j → j < length xs → at xs i ≡ at xs j → ⊥
 all_apart xs a i j h b z = let r = a i j h b in omega arith
 
-pub record Blocks_fit (g : Geometry) (head : ℕ) (blocks : List ℕ) : Type 0 where
+pub record BlocksFit (g : Geometry) (head : ℕ) (blocks : List ℕ) : Type 0 where
   pub some : 1 ≤ length blocks
   pub most : length blocks ≤ 64
   pub below : (i : ℕ) → i < length blocks → at blocks i < g.l
   pub ascending : (i j : ℕ) → i < j → j < length blocks → at blocks i < at blocks j
   pub inside : head < g.n
 
-pub blocks_fit_lem : (g : Geometry) (head : ℕ) (blocks : List ℕ) → blocks_fit g head blocks ≡ true → Blocks_fit g head blocks
+pub blocks_fit_lem : (g : Geometry) (head : ℕ) (blocks : List ℕ) → blocks_fit g head blocks ≡ true → BlocksFit g head blocks
 unfolding blocks_fit
 blocks_fit_lem g head blocks e =
     let a1 = within 1 64 (length blocks) in
@@ -59,19 +59,19 @@ blocks_fit_lem g head blocks e =
       inside = ltb-true head g.n (and_r (a1 && a2 && a3) a4 e);
     }
 
-pub record Commit_passed (rules : Rules) (s : State) (m : Memory) (head : ℕ) (blocks : List ℕ) (bytes_fit has_room : Bool) : Type 0 where
+pub record CommitPassed (rules : Rules) (s : State) (m : Memory) (head : ℕ) (blocks : List ℕ) (bytes_fit has_room : Bool) : Type 0 where
   pub sizes : state_fits s m ≡ true
   pub drive : drive_fits s.geometry.n s.drive ≡ true
   pub lengths : tables_fit m s.geometry ≡ true
   pub bytes : bytes_fit ≡ true
-  pub named : Blocks_fit s.geometry head blocks
+  pub named : BlocksFit s.geometry head blocks
   pub phase : is_running s.phase ≡ true
   pub agree : tables_agree s m ≡ true
   pub room : has_room ≡ true
   pub numbers : s.number ≤ rules.greatest
 
 pub commit_passed : (rules : Rules) (s : State) (m : Memory) (head : ℕ) (blocks : List ℕ) (bytes_fit has_room : Bool)
-    → judged (commit_checks rules s m head blocks bytes_fit has_room) ≡ Pass → Commit_passed rules s m head blocks bytes_fit has_room
+    → judged (commit_checks rules s m head blocks bytes_fit has_room) ≡ Pass → CommitPassed rules s m head blocks bytes_fit has_room
 unfolding commit_checks applies
 commit_passed rules s m head blocks bytes_fit has_room e =
     let g = s.geometry in

@@ -13,7 +13,7 @@ use Rattle.tracks.specs.Placing.{track_of, position_of, wait_for, delay, nearest
 use Rattle.laws.proofs.Bounded.{bool?, lt?, clash, cond_true, cond_false, and_l, and_r, suc_cases}
 
 -- A drive in range, of N sectors.
-pub record Drive_fits (n : ℕ) (d : Drive) : Type 0 where
+pub record DriveFits (n : ℕ) (d : Drive) : Type 0 where
   pub some : 1 ≤ d.sectors
   pub most : d.sectors ≤ 65536
   pub tracks : 1 ≤ d.tracks
@@ -21,7 +21,7 @@ pub record Drive_fits (n : ℕ) (d : Drive) : Type 0 where
   pub switch : d.switch ≤ 255
   pub product : d.sectors * d.tracks ≡ n
 
-pub drive_fits_lem : (n : ℕ) (d : Drive) → drive_fits n d ≡ true → Drive_fits n d
+pub drive_fits_lem : (n : ℕ) (d : Drive) → drive_fits n d ≡ true → DriveFits n d
 drive_fits_lem n d e =
     let a1 = within 1 65536 d.sectors in
     let a2 = within 1 256 d.tracks in
@@ -41,7 +41,7 @@ drive_fits_lem n d e =
     }
 
 -- A track of the drive ends at or before the last sector.
-module _ (n : ℕ) (d : Drive) (fit : Drive_fits n d) where
+module _ (n : ℕ) (d : Drive) (fit : DriveFits n d) where
   pub track_inside : (k : ℕ) → k < n → track_of d k * d.sectors + d.sectors ≤ n
   track_inside k h =
       let t = track_of d k in

@@ -17,4 +17,4 @@ pub mod OneTrack
 pub mod Stores
 pub mod Sizes
 pub mod Judged
-pub mod Commit_passed
+pub mod CommitPassed

@@ -12,7 +12,7 @@ use Rattle.volume.specs.Tables.{free_sectors}
 use Rattle.tracks.specs.Placing.{delay, nearest, least_delay, position_after, placed_up_to, place_of}
 use Rattle.tracks.specs.Upwards.{sector_after, first_free, upwards}
 use Rattle.laws.proofs.Bounded.{bool?, lt?, eq?, clash, cond_true, cond_false}
-use Rattle.laws.proofs.Delays.{Drive_fits, Nearest, nearest_alone}
+use Rattle.laws.proofs.Delays.{DriveFits, Nearest, nearest_alone}
 use Rattle.laws.proofs.Placing.{least_delay_chooses, place_below, start_below, zero_kept, free_left}
 
 -- How far a sector lies ahead: upwards, and around from the last sector to 0.
@@ -111,7 +111,7 @@ module _ (n : ℕ) (is_used : ℕ → Bool) (used0 : is_used 0 ≡ true) where
     search_finds k h = search_ends n k h (ahead_below k h)
 
 -- The delay on one track is how far a sector lies ahead, whatever the switch.
-module _ (n : ℕ) (d : Drive) (fit : Drive_fits n d) (one : d.tracks ≡ 1) where
+module _ (n : ℕ) (d : Drive) (fit : DriveFits n d) (one : d.tracks ≡ 1) where
   whole : d.sectors ≡ n
   whole = let p = fit.product in let q : d.sectors * d.tracks ≡ d.sectors * 1 = ap (λ (x : ℕ). d.sectors * x) one in omega arith
 

@@ -14,7 +14,7 @@ use Rattle.volume.specs.Tables.{free_sectors}
 use Rattle.tracks.specs.Placing.{Choice, delay, least_delay, placed_up_to, place_of}
 use Rattle.volume.specs.Rules.{Rules, base}
 use Rattle.laws.proofs.Bounded.{bool?, lt?, clash, or_l, or_r, not_of, count_near, count_some, suc_cases}
-use Rattle.laws.proofs.Delays.{Drive_fits, drive_fits_lem, after_inside, nearest_is}
+use Rattle.laws.proofs.Delays.{DriveFits, drive_fits_lem, after_inside, nearest_is}
 
 -- What is asked of a choice of place among n sectors: with sector 0 used and some sector free, it answers a free one; and a search
 -- starts below n.
@@ -33,7 +33,7 @@ pub record Choosing (rules : Rules) : Type 0 where
   pub numbers : rules.greatest + 256 < 2 ^ 32
 
 -- The choice of least delay.
-pub least_delay_chooses : (n : ℕ) (d : Drive) → Drive_fits n d → Chooses n (least_delay d)
+pub least_delay_chooses : (n : ℕ) (d : Drive) → DriveFits n d → Chooses n (least_delay d)
 least_delay_chooses n d fit =
     record {
       below = λ is_used start k h u b f. (nearest_is (delay d start) is_used n k b f).below;

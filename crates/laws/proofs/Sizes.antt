@@ -12,7 +12,7 @@ use borrow.Author.Tests.{leb-true, eqb-true}
 use Rattle.geometry.specs.declared.Geometry.{Geometry}
 use Rattle.geometry.specs.Geometry.{within, pieces_for, used_bytes, geometry_fits}
 use Rattle.state.specs.declared.State.{State}
-use Rattle.layout.specs.Map_sector.{Map_sector, decoded}
+use Rattle.layout.specs.MapSector.{MapSector, decoded}
 use Rattle.volume.specs.Tables.{memory}
 use Rattle.volume.specs.Format.{tables_fit}
 use Rattle.volume.specs.Calls.{state_fits}
@@ -42,7 +42,7 @@ pub view_at : (g : Geometry) (image : ℕ → List ℕ) (k : ℕ) → k < g.n �
 unfolding image_view
 view_at g image k h = tabled_at none g.n (λ j. decoded g (image j)) k h
 
-pub view_below : (g : Geometry) (image : ℕ → List ℕ) (k : ℕ) (a : Map_sector) → image_view g image k ≡ some a → k < g.n
+pub view_below : (g : Geometry) (image : ℕ → List ℕ) (k : ℕ) (a : MapSector) → image_view g image k ≡ some a → k < g.n
 unfolding image_view
 view_below g image k a e =
     ⊎_elim (λ (z : k < g.n). z)
@@ -65,13 +65,13 @@ pub some_pieces : (l : ℕ) → 1 ≤ l → 0 < pieces_for l
 some_pieces l h = omega arith
 
 -- The lengths of lent slices that refusals 1 and 2 let through.
-pub record Tables_fit (mp pl nu us : List ℕ) (g : Geometry) : Type 0 where
+pub record TablesFit (mp pl nu us : List ℕ) (g : Geometry) : Type 0 where
   pub map : length mp ≡ g.l
   pub places : length pl ≡ pieces_for g.l
   pub numbers : length nu ≡ pieces_for g.l
   pub used : length us ≡ used_bytes g.n
 
-pub tables_fit_lem : (im mp pl nu us : List ℕ) (g : Geometry) → tables_fit (memory im mp pl nu us) g ≡ true → Tables_fit mp pl nu us g
+pub tables_fit_lem : (im mp pl nu us : List ℕ) (g : Geometry) → tables_fit (memory im mp pl nu us) g ≡ true → TablesFit mp pl nu us g
 unfolding tables_fit memory
 tables_fit_lem im mp pl nu us g e =
     let c1 = eqb (length mp) g.l in
@@ -87,11 +87,11 @@ tables_fit_lem im mp pl nu us g e =
       used = eqb-true (length us) (used_bytes g.n) (and_r (c1 && c2 && c3) c4 e);
     }
 
-pub record State_fits (s : State) (im : List ℕ) : Type 0 where
+pub record StateFits (s : State) (im : List ℕ) : Type 0 where
   pub range : geometry_fits s.geometry ≡ true
   pub image : length im ≡ 512 * s.geometry.n
 
-pub state_fits_lem : (s : State) (im mp pl nu us : List ℕ) → state_fits s (memory im mp pl nu us) ≡ true → State_fits s im
+pub state_fits_lem : (s : State) (im mp pl nu us : List ℕ) → state_fits s (memory im mp pl nu us) ≡ true → StateFits s im
 unfolding state_fits memory
 state_fits_lem s im mp pl nu us e =
     let a = eqb (length im) (512 * s.geometry.n) in

@@ -10,7 +10,7 @@ use lib.Dec.{eqb}
 use Rattle.geometry.proofs.Sized.{sized}
 use Rattle.layout.specs.Bounded.{all, same}
 use Rattle.layout.specs.Word.{words_of, bytes_of, word_sum, starts_with, balanced}
-use Rattle.layout.specs.Map_sector.{Map_sector, encoded, branches_fit, valid, decoded}
+use Rattle.layout.specs.MapSector.{MapSector, encoded, branches_fit, valid, decoded}
 use Rattle.layout.specs.Entry.{complemented, needs_flip, stored, entry_for, restored}
 use Rattle.layout.specs.ParkRecord.{Parked, park_record, is_park_record, parked_in}
 
@@ -34,7 +34,7 @@ altered sector a =
     let rest = word_sum (set ws 1 0) in
     cond (eqb a.word 1) (bytes_of ws) (bytes_of (set ws 1 ((2 ^ 32 - rest) % 2 ^ 32)))
 
-is_signed : Option Map_sector → Bool
+is_signed : Option MapSector → Bool
 is_signed none = false
 is_signed (some m) = true
 

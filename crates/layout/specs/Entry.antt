@@ -3,7 +3,7 @@ use Rattle.std.specs.Prelude.{ℕ, ◌+◌, ◌-◌, ◌%◌, ◌^◌, Bool, con
 use Rattle.layout.specs.Bounded.{is_zero}
 use Rattle.geometry.specs.Geometry.{sector_bytes}
 use Rattle.layout.specs.Word.{starts_with}
-use Rattle.layout.specs.Map_sector.{map_mark}
+use Rattle.layout.specs.MapSector.{map_mark}
 
 -- 512 zero bytes: an empty block, and a blank sector.
 abbrev pub blank : List ℕ

@@ -11,7 +11,7 @@ abbrev pub map_mark : List ℕ
 map_mark = 0x56 ∷ 0x4C ∷ 0x4D ∷ 0x31 ∷ []
 
 -- What a map sector says: its number, its piece, its kind (member or closing), its branches and its 96 entries.
-pub record Map_sector : Type 0 where
+pub record MapSector : Type 0 where
   pub number : ℕ
   pub piece : ℕ
   pub closing : Bool
@@ -22,7 +22,7 @@ abbrev pub kind_of : Bool → ℕ
 kind_of closing = cond closing 1 0
 
 -- The 512 bytes of a map sector of a volume of L blocks.
-unfoldable pub encoded : ℕ → Map_sector → List ℕ
+unfoldable pub encoded : ℕ → MapSector → List ℕ
 encoded l m =
     balanced map_mark
     (m.number ∷ 0 ∷ m.piece ∷ kind_of m.closing ∷ length m.branches ∷ l
@@ -53,7 +53,7 @@ valid g bytes ws =
     && branches_fit g.n (at ws 6) (branch_words ws)
     && all is_zero (drop (g.l - entries_per_piece * at ws 4) (entry_words ws))
 
-abbrev pub fields : List ℕ → Map_sector
+abbrev pub fields : List ℕ → MapSector
 fields ws =
     record {
       number = at ws 2;
@@ -64,7 +64,7 @@ fields ws =
     }
 
 -- What a sector says where it is signed, and nothing where it is not.
-unfoldable pub decoded : Geometry → List ℕ → Option Map_sector
+unfoldable pub decoded : Geometry → List ℕ → Option MapSector
 decoded g bytes =
     let ws = words_of bytes in
     let found = some (fields ws) in
@@ -72,4 +72,4 @@ decoded g bytes =
 
 -- A volume's sectors as map sectors.
 abbrev pub View : Type 0
-View = ℕ → Option Map_sector
+View = ℕ → Option MapSector

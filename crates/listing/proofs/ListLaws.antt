@@ -15,7 +15,7 @@ use Rattle.geometry.specs.declared.Geometry.{Geometry}
 use Rattle.geometry.specs.Geometry.{within, pieces_for}
 use Rattle.layout.specs.Bounded.{at, all, best, elem, is_zero}
 use Rattle.layout.specs.Word.{words_of, word_sum, starts_with}
-use Rattle.layout.specs.Map_sector.{View, map_mark, valid, branches_fit, branch_words, entry_words, decoded}
+use Rattle.layout.specs.MapSector.{View, map_mark, valid, branches_fit, branch_words, entry_words, decoded}
 use Rattle.volume.specs.Tables.{Tables, sector_at, tables_of}
 use Rattle.volume.specs.Commit.{older_key, listing, branches_in}
 use Rattle.volume.specs.Calls.{view_of}

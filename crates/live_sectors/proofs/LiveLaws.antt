@@ -16,7 +16,7 @@ use Rattle.state.specs.declared.State.{State}
 use Rattle.geometry.specs.Geometry.{sector_bytes, pieces_for, used_bytes, geometry_fits}
 use Rattle.layout.specs.Bounded.{at, all_below, same}
 use Rattle.layout.specs.Word.{words_of}
-use Rattle.layout.specs.Map_sector.{Map_sector, entry_words, fields, valid, decoded}
+use Rattle.layout.specs.MapSector.{MapSector, entry_words, fields, valid, decoded}
 use Rattle.volume.specs.Tables.{Memory, sector_at, memory, tables_of, consistent, piece_entries, says_piece, live_valid}
 use Rattle.volume.specs.Format.{tables_fit}
 use Rattle.volume.specs.Calls.{view_of, state_fits, tables_agree}
@@ -126,14 +126,14 @@ module _ (g : Geometry) (p number : ℕ) (bs entries : List ℕ) where
     pub says_unsigned : not r ≡ true → false ≡ Says
     unfolding says_piece decoded
     says_unsigned e =
-        ap (λ (m : Option Map_sector). says_piece m p number entries)
+        ap (λ (m : Option MapSector). says_piece m p number entries)
         (sym (cond_false (valid g bs (words_of bs)) (some (fields (words_of bs))) none (sym h ∙ not_of r e)))
 
     module _ (e : not r ≡ false) where
       said : Says ≡ (Piece && Number && Same)
       unfolding says_piece decoded
       said =
-          ap (λ (m : Option Map_sector). says_piece m p number entries)
+          ap (λ (m : Option MapSector). says_piece m p number entries)
           (cond_true (valid g bs (words_of bs)) (some (fields (words_of bs))) none (sym h ∙ not_false r e))
 
       module _ (k : ℕ) (is : k ≡ at (words_of bs) 4) where

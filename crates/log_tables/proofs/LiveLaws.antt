@@ -10,7 +10,7 @@ use lib.ListN.{length, set, replicate, length-set, length-replicate}
 use lib.Dec.{eqb, leb, ltb}
 use borrow.Author.Tests.{eqb-true, ne_eqb, le-leb, lt-leb, ltb-true, not-false, not-true}
 use Rattle.layout.specs.Bounded.{at, best, all, is_zero, list_from}
-use Rattle.layout.specs.Map_sector.{View}
+use Rattle.layout.specs.MapSector.{View}
 use Rattle.volume.specs.Recover.{number_in, piece_in, piece_number, scan_place, signed_numbers}
 use Rattle.laws.proofs.Bounded.{bool?, lt?, clash, cond_true, cond_false, all_at, gathered_all}
 use Rattle.signed.specs.Signed.{signed_sectors, signed_pieces, Listed, stepped}

@@ -8,7 +8,7 @@ use lib.ListN.{length, set}
 use Rattle.geometry.specs.Geometry.{piece_of, index_of}
 use Rattle.layout.specs.Bounded.{at}
 use Rattle.layout.specs.Word.{words_of}
-use Rattle.layout.specs.Map_sector.{entry_words}
+use Rattle.layout.specs.MapSector.{entry_words}
 use Rattle.volume.specs.Tables.{sector_at}
 use Rattle.laws.proofs.Filling.{Filled, filled_length, filled_more}
 

@@ -3,7 +3,7 @@ use Rattle.std.specs.Prelude.{ℕ, cond, ◌&&◌, List, set, leb, ltb}
 use Rattle.geometry.specs.Geometry.{piece_of, index_of}
 use Rattle.layout.specs.Bounded.{at, list_from}
 use Rattle.layout.specs.Word.{words_of}
-use Rattle.layout.specs.Map_sector.{View, entry_words}
+use Rattle.layout.specs.MapSector.{View, entry_words}
 use Rattle.volume.specs.Tables.{Tables, named_by, used_by}
 use Rattle.volume.specs.Recover.{piece_number, scan_place}
 

@@ -7,7 +7,7 @@ use native.Mathlib.Omega.{arith}
 use lib.ListN.{length, replicate, length-append, length-replicate}
 use lib.Seq.{sets}
 use Rattle.layout.specs.Word.{word_bytes, words_of, bytes_of, word_sum, balance}
-use Rattle.layout.specs.Map_sector.{map_mark, kind_of, encoded}
+use Rattle.layout.specs.MapSector.{map_mark, kind_of, encoded}
 use Rattle.laws.proofs.Words.{Words, words_cons, words_both, words_zeros}
 use Rattle.laws.proofs.Balanced.{laid_mark, laid_word, laid_next, sealed}
 

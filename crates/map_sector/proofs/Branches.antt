@@ -13,7 +13,7 @@ use borrow.Author.Tests.{eqb-true, eq-eqb, ne_eqb, le-leb, lt-leb, lt-ltb, le-lt
 use Rattle.geometry.specs.Geometry.{within}
 use Rattle.layout.specs.Bounded.{at, all_below, all, is_zero}
 use Rattle.layout.specs.Word.{words_of}
-use Rattle.layout.specs.Map_sector.{branch_words, branches_fit}
+use Rattle.layout.specs.MapSector.{branch_words, branches_fit}
 use Rattle.laws.proofs.Words.{length_words_of}
 use Rattle.laws.proofs.Bounded.{bool?, lt?, eq?, cond_true, cond_false}
 use Rattle.map_sector.specs.Header.{branch_fits}

@@ -13,7 +13,7 @@ use Rattle.geometry.specs.declared.Geometry.{Geometry}
 use Rattle.geometry.specs.Geometry.{within, pieces_for, entries_per_piece, branch_room}
 use Rattle.layout.specs.Bounded.{at, all, is_zero}
 use Rattle.layout.specs.Word.{word_sum, starts_with}
-use Rattle.layout.specs.Map_sector.{map_mark, branch_words, entry_words, branches_fit, valid}
+use Rattle.layout.specs.MapSector.{map_mark, branch_words, entry_words, branches_fit, valid}
 use Rattle.map_sector.specs.Header.{fields_fit, header_fits}
 
 -- Both of two tests passed.

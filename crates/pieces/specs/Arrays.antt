@@ -4,7 +4,7 @@ use Rattle.geometry.specs.declared.Geometry.{Geometry}
 use Rattle.geometry.specs.Geometry.{pieces_for, piece_of, branch_room}
 use Rattle.layout.specs.Bounded.{at, any_below, count_below, tabled}
 use Rattle.layout.specs.Word.{words_of}
-use Rattle.layout.specs.Map_sector.{valid}
+use Rattle.layout.specs.MapSector.{valid}
 use Rattle.layout.specs.Entry.{is_empty, sector_of, stored}
 use Rattle.volume.specs.Tables.{sector_at}
 use Rattle.volume.specs.Store.{Store}

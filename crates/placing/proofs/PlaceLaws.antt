@@ -12,7 +12,7 @@ use Rattle.geometry.specs.declared.Drive.{Drive}
 use Rattle.layout.specs.Bounded.{updated}
 use Rattle.tracks.specs.Placing.{Found, track_of, position_of, delay, least_delay, position_after, chosen, placed_up_to, place_of, skipped_by}
 use Rattle.laws.proofs.Bounded.{lt?, eq?, clash, cond_true, cond_false}
-use Rattle.laws.proofs.Delays.{Drive_fits, track_inside, delay_there, delay_short, delay_own, delay_first, delay_switch, Nearest, nearest_alone, none_free}
+use Rattle.laws.proofs.Delays.{DriveFits, track_inside, delay_there, delay_short, delay_own, delay_first, delay_switch, Nearest, nearest_alone, none_free}
 use Rattle.power.specs.Power.{made}
 use Rattle.searching.specs.Searching.{turned, AllPassed, LowestFree, NoneWithin}
 use Rattle.placing.specs.Choosing.{Chosen}
@@ -23,7 +23,7 @@ used_or true e = refl
 used_or false e = absurd (e refl)
 
 -- A search from `start`, whose track begins at `first`.
-module _ (n : ℕ) (d : Drive) (fit : Drive_fits n d) (is_used : ℕ → Bool) (first start : ℕ) (below : start < n) (here : first ≡ track_of d start * d.sectors) where
+module _ (n : ℕ) (d : Drive) (fit : DriveFits n d) (is_used : ℕ → Bool) (first start : ℕ) (below : start < n) (here : first ≡ track_of d start * d.sectors) where
   abbrev size : ℕ
   size = d.sectors
 
@@ -211,7 +211,7 @@ module _ (n : ℕ) (d : Drive) (fit : Drive_fits n d) (is_used : ℕ → Bool) (
           used_or (is_used q) (λ f. let l = late size none q b f in let s = delay_short d fit.some start q in absurd (omega arith))
 
 -- For how long no track but the own one is looked at.
-module _ (n : ℕ) (d : Drive) (fit : Drive_fits n d) (steps : ℕ) (is : steps ≡ cond (eqb d.tracks 1) d.sectors (cond (ltb d.switch d.sectors) d.switch d.sectors)) where
+module _ (n : ℕ) (d : Drive) (fit : DriveFits n d) (steps : ℕ) (is : steps ≡ cond (eqb d.tracks 1) d.sectors (cond (ltb d.switch d.sectors) d.switch d.sectors)) where
   pub steps_one : d.tracks ≡ 1 → steps ≡ d.sectors
   steps_one one = is ∙ cond_true (eqb d.tracks 1) _ _ (eq-eqb d.tracks 1 one)
 
@@ -258,7 +258,7 @@ module _ (d : Drive) (some : 0 < d.sectors) (start : ℕ) where
       ∙ ap (λ (x : ℕ). x + (0 % size + (size - (start % size + x) % size)) % size) (sym least)
 
 -- Where the next search starts, on the track of the sector that was taken.
-module _ (n : ℕ) (d : Drive) (fit : Drive_fits n d) (first k : ℕ) (below : k < n) (here : first ≡ track_of d k * d.sectors) where
+module _ (n : ℕ) (d : Drive) (fit : DriveFits n d) (first k : ℕ) (below : k < n) (here : first ≡ track_of d k * d.sectors) where
   pub next_start : (next : ℕ) → next ≡ cond (ltb (k + 1) (first + d.sectors)) (k + 1) first → next ≡ position_after d k
   next_start next e =
       let size = d.sectors in

@@ -15,7 +15,7 @@ use Rattle.geometry.specs.declared.Geometry.{Geometry}
 use Rattle.geometry.specs.Geometry.{pieces_for, piece_of, used_bytes, geometry_fits}
 use Rattle.laws.proofs.Sizes.{fits}
 use Rattle.layout.specs.Bounded.{at, list_from, tabled, count_below}
-use Rattle.layout.specs.Map_sector.{View}
+use Rattle.layout.specs.MapSector.{View}
 use Rattle.volume.specs.Tables.{bit_at, tables_of}
 use Rattle.tracks.specs.Placing.{Choice, least_delay, place_of, skipped_by}
 use Rattle.volume.specs.Rules.{base}

@@ -2,7 +2,7 @@
 use Rattle.std.specs.Prelude.{ℕ, suc, ◌≤◌, ◌≡◌, false, List, [], length, take}
 use Rattle.state.specs.declared.State.{State}
 use Rattle.geometry.specs.Geometry.{folding_branches, most_pieces}
-use Rattle.layout.specs.Map_sector.{View}
+use Rattle.layout.specs.MapSector.{View}
 use Rattle.volume.specs.Tables.{tables_of}
 use Rattle.volume.specs.Commit.{touches, listing}
 use Rattle.pieces.specs.Arrays.{flagged, unflagged}

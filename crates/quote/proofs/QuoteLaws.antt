@@ -16,20 +16,20 @@ use Rattle.answer.specs.declared.Verdict.TheVariants.{Pass, Refuse}
 use Rattle.answer.specs.Answer.{stores_alone}
 use Rattle.state.specs.declared.State.{State}
 use Rattle.geometry.specs.Geometry.{pieces_for, geometry_fits}
-use Rattle.layout.specs.Map_sector.{View}
+use Rattle.layout.specs.MapSector.{View}
 use Rattle.volume.specs.Tables.{Tables, Memory, memory, bit_at, sector_at, tables_of, free_sectors}
 use Rattle.volume.specs.Refusals.{judged}
 use Rattle.volume.specs.Rules.{base}
 use Rattle.volume.specs.Commit.{Change, Plan, planned}
 use Rattle.volume.specs.Calls.{view_of, commit_checks, write_change, drop_change, room_for}
 use Rattle.laws.proofs.Bounded.{cond_false, count_le}
-use Rattle.laws.proofs.Commit_passed.{commit_passed}
+use Rattle.laws.proofs.CommitPassed.{commit_passed}
 use Rattle.laws.proofs.Sizes.{fits}
 use Rattle.pieces.specs.Arrays.{change_of, Planning}
 use Rattle.plan.proofs.PlanLaws.{plan_any}
 use Rattle.verdict.proofs.CommitChecks.{Passed, passed, drop_room}
 use Rattle.quotes.specs.declared.Quote.{Quote}
-use Rattle.quotes.specs.Quote.{Quote_after, quote_of, no_quote, quoted, quote_judged, quote_by, quote_write_by, quote_drop_by, quote_write_of, quote_drop_of}
+use Rattle.quotes.specs.Quote.{QuoteAfter, quote_of, no_quote, quoted, quote_judged, quote_by, quote_write_by, quote_drop_by, quote_write_of, quote_drop_of}
 
 -- There is room for the sectors of every plan.
 pub few_stores : (s : State) (t : Tables) (view : View) (head : ℕ) (change : Change) (count members : ℕ) → geometry_fits s.geometry ≡ true → count ≤ 64

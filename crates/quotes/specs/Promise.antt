@@ -9,14 +9,14 @@ use Rattle.answer.specs.Answer.{number_of, verdict_number}
 use Rattle.state.specs.declared.State.{State}
 use Rattle.geometry.specs.Geometry.{branch_room, commit_sectors, pieces_for}
 use Rattle.layout.specs.Bounded.{at}
-use Rattle.layout.specs.Map_sector.{Map_sector, decoded}
+use Rattle.layout.specs.MapSector.{MapSector, decoded}
 use Rattle.volume.specs.Tables.{Memory}
 use Rattle.volume.specs.Store.{Store, After, applied, refused}
 use Rattle.volume.specs.Rules.{Rules}
 use Rattle.volume.specs.Commit.{touches, branches_for}
 use Rattle.volume.specs.Calls.{view_of}
 use Rattle.quotes.specs.declared.Quote.{Quote}
-use Rattle.quotes.specs.Quote.{filled, no_quote, Quote_after}
+use Rattle.quotes.specs.Quote.{filled, no_quote, QuoteAfter}
 
 -- The sectors that stores go to, in their order.
 unfoldable pub sectors_of : List Store → List ℕ
@@ -24,8 +24,8 @@ sectors_of [] = []
 sectors_of (s ∷ ss) = s.sector ∷ sectors_of ss
 
 -- The map sector that stands in an image after so many data sectors of a quote: the first member, with the branches of the quote.
-pub record First_member (s : State) (q : Quote) (data_sectors : ℕ) (image : ℕ → List ℕ) : Type 0 where
-  pub member : Map_sector
+pub record FirstMember (s : State) (q : Quote) (data_sectors : ℕ) (image : ℕ → List ℕ) : Type 0 where
+  pub member : MapSector
   pub stands : decoded s.geometry (image (at q.sectors data_sectors)) ≡ some member
   pub first : member.number ≡ suc s.number
   pub count : length member.branches ≡ q.listed
@@ -43,7 +43,7 @@ pub record Does (rules : Rules) (s : State) (m : Memory) (blocks : List ℕ) (da
   -- "Given fewer, its answer is 10."
   pub fewer : (k : ℕ) → k < q.cost.stores → number_of (real k).outcome.answer ≡ 10
   -- Its first member has just these branches.
-  pub branches : (k : ℕ) → q.cost.stores ≤ k → First_member s q data_sectors (real k).memory.image
+  pub branches : (k : ℕ) → q.cost.stores ≤ k → FirstMember s q data_sectors (real k).memory.image
   -- It folds where more than the limit would be listed: every piece is written then, and otherwise those of the named blocks alone.
   pub folds : q.fold
       ≡ ltb rules.branch_limit (length (branches_for s.geometry.l m.tables (view_of s.geometry m.image) s.number blocks))
@@ -51,7 +51,7 @@ pub record Does (rules : Rules) (s : State) (m : Memory) (blocks : List ℕ) (da
       → ltb s.number ((real k).memory.tables.number p) ≡ (q.fold || touches blocks p)
 
 -- What a quote is worth. The real call is made next, on the memory that the quote left.
-pub record Promise (rules : Rules) (s : State) (m : Memory) (blocks : List ℕ) (data_sectors : ℕ) (q : Quote_after) (real : Memory → ℕ → After) : Type 0 where
+pub record Promise (rules : Rules) (s : State) (m : Memory) (blocks : List ℕ) (data_sectors : ℕ) (q : QuoteAfter) (real : Memory → ℕ → After) : Type 0 where
   -- It changes no memory.
   pub same : q.memory ≡ m
   -- A refusal is the refusal of the real call, whatever that is allowed; it is never 10, and shows nothing of each.

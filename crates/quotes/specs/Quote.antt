@@ -42,34 +42,34 @@ no_quote r =
     }
 
 -- What a quote hands back, and what it leaves in what it was lent: it changes no memory.
-pub record Quote_after : Type 0 where
+pub record QuoteAfter : Type 0 where
   pub quote : Quote
   pub memory : Memory
 
-abbrev pub quoted : Quote → Memory → Quote_after
+abbrev pub quoted : Quote → Memory → QuoteAfter
 quoted quote memory = record { quote = quote; memory = memory }
 
-unfoldable pub quote_judged : Verdict → Plan → Memory → Quote_after
+unfoldable pub quote_judged : Verdict → Plan → Memory → QuoteAfter
 quote_judged Pass plan m = quoted (quote_of plan) m
 quote_judged (Refuse r) plan m = quoted (no_quote r) m
 
 -- It is judged as the commit is, and shows the plan that the commit would carry out.
-unfoldable pub quote_by : Rules → State → Memory → ℕ → Change → Bool → Bool → Quote_after
+unfoldable pub quote_by : Rules → State → Memory → ℕ → Change → Bool → Bool → QuoteAfter
 quote_by rules s m head change lengths_fit has_room =
     let plan = planned rules s m.tables (view_of s.geometry m.image) head change in
     quote_judged (judged (commit_checks rules s m head change.blocks lengths_fit has_room)) plan m
 
 -- The quote of a write, and of a drop. The caller may have lent buffers of its own for the answer, with lengths to fit: where they do not,
 -- that is the refusal of a wrong length.
-unfoldable pub quote_write_by : Rules → State → Memory → ℕ → List ℕ → List ℕ → Bool → Quote_after
+unfoldable pub quote_write_by : Rules → State → Memory → ℕ → List ℕ → List ℕ → Bool → QuoteAfter
 quote_write_by rules s m head blocks bytes own_fit =
     quote_by rules s m head (write_change blocks bytes) (eqb (length bytes) (sector_bytes * length blocks) && own_fit) (room_for s m blocks)
 
-unfoldable pub quote_drop_by : Rules → State → Memory → ℕ → List ℕ → Bool → Quote_after
+unfoldable pub quote_drop_by : Rules → State → Memory → ℕ → List ℕ → Bool → QuoteAfter
 quote_drop_by rules s m head blocks own_fit = quote_by rules s m head (drop_change blocks) own_fit true
 
-abbrev pub quote_write_of : State → Memory → ℕ → List ℕ → List ℕ → Bool → Quote_after
+abbrev pub quote_write_of : State → Memory → ℕ → List ℕ → List ℕ → Bool → QuoteAfter
 quote_write_of = quote_write_by base
 
-abbrev pub quote_drop_of : State → Memory → ℕ → List ℕ → Bool → Quote_after
+abbrev pub quote_drop_of : State → Memory → ℕ → List ℕ → Bool → QuoteAfter
 quote_drop_of = quote_drop_by base

@@ -15,7 +15,7 @@ use Rattle.answer.specs.declared.Answer.TheVariants.{Scanned}
 use Rattle.answer.specs.declared.Loss.TheVariants.{NoLog, DamagedLog}
 use Rattle.layout.specs.Bounded.{at, any_below, all, distinct, is_zero, list_from, tabled}
 use Rattle.layout.specs.Word.{words_of}
-use Rattle.layout.specs.Map_sector.{View, entry_words, fields}
+use Rattle.layout.specs.MapSector.{View, entry_words, fields}
 use Rattle.volume.specs.Tables.{Tables, tables_of, named_by, used_by, bit_at, consistent}
 use Rattle.volume.specs.Recover.{number_in, piece_in, entry_in, piece_number, tables_from, image_view, newest_closing, scan_place, signed_numbers, is_uncommitted, is_consistent, scanned_log, scan_damaged, scan_stores, scan_finding, closed_up_to, Finding, found, missing}
 use Rattle.laws.proofs.Bounded.{bool?, clash, any_below_at, any_below_is, all_at, gathered_all, list_from_same, best_below, cond_true, cond_false}

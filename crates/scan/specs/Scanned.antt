@@ -1,7 +1,7 @@
 -- The log as a scan finds it, in the arrays that were lent.
 use Rattle.std.specs.Prelude.{ℕ, ◌≡◌, Bool, List}
 use Rattle.answer.specs.declared.Answer.TheVariants.{Scanned}
-use Rattle.layout.specs.Map_sector.{View}
+use Rattle.layout.specs.MapSector.{View}
 use Rattle.volume.specs.Tables.{Tables}
 use Rattle.volume.specs.Recover.{Finding, found, missing, scan_stores, is_uncommitted}
 use Rattle.scan.specs.declared.Found.{Found}

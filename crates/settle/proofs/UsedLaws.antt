@@ -19,7 +19,7 @@ use Rattle.volume.specs.Commit.{rank, member_place, changed_entries, committed_t
 use Rattle.laws.proofs.Bounded.{bool?, lt?, clash, and_l, and_r, and_i, or_cases, or_l, or_r, or_none, not_is, not_of, cond_true, cond_false, updates_other, updates_at, any_below_at, any_below_is, count_before, count_nth, not_elem}
 use Rattle.laws.proofs.Names.{Name, piece, block, Named, sector_named, named_elem, elem_named, Sound, sound}
 use Rattle.laws.proofs.Sizes.{fits}
-use Rattle.laws.proofs.Commit_passed.{all_apart}
+use Rattle.laws.proofs.CommitPassed.{all_apart}
 use Rattle.pieces.specs.Arrays.{flagged, without, plan_of, change_of, Settling}
 
 alike : (a b : Bool) → (a ≡ true → b ≡ true) → (b ≡ true → a ≡ true) → a ≡ b

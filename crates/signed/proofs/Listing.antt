@@ -12,7 +12,7 @@ use lib.ListN.{length, take, drop, set, length-set, length-drop}
 use lib.Seq.{take_all, drop-length, drop-cons, drop-set-lt, get_or-set_same}
 use borrow.Author.Tests.{eq-eqb, ne_eqb}
 use Rattle.layout.specs.Bounded.{at, all, elem, gathered, is_zero}
-use Rattle.layout.specs.Map_sector.{Map_sector, View}
+use Rattle.layout.specs.MapSector.{MapSector, View}
 use Rattle.volume.specs.Recover.{number_in, piece_in, signed_numbers}
 use Rattle.laws.proofs.Bounded.{bool?, eq?, gathered_hit, gathered_miss}
 use Rattle.signed.specs.Signed.{signed_sectors, signed_pieces, Listed, stepped}
@@ -43,7 +43,7 @@ module _ (view : View) where
   unfolding number_in
   unsigned k e = ap (λ o. not (is_zero (number_in o))) e
 
-  signed : (k : ℕ) (m : Map_sector) → view k ≡ some m → (m.number ≡ 0 → ⊥) → numbered k ≡ true
+  signed : (k : ℕ) (m : MapSector) → view k ≡ some m → (m.number ≡ 0 → ⊥) → numbered k ≡ true
   unfolding number_in
   signed k m e d = ap (λ o. not (is_zero (number_in o))) e ∙ ap not (ne_eqb m.number 0 d)
 
@@ -96,7 +96,7 @@ module _ (view : View) where
     pub listing_room : k < room → 0 < from
     listing_room h = let left = l.left in omega arith
 
-    pub listing_lists : (m : Map_sector) → view k ≡ some m → (m.number ≡ 0 → ⊥) → k < room → (sectors' numbers' pieces' : List ℕ)
+    pub listing_lists : (m : MapSector) → view k ≡ some m → (m.number ≡ 0 → ⊥) → k < room → (sectors' numbers' pieces' : List ℕ)
         → sectors' ≡ set sectors (from - 1) k → numbers' ≡ set numbers (from - 1) m.number → pieces' ≡ set pieces (from - 1) m.piece
         → Listing room sectors' numbers' pieces' (from - 1) (k + 1)
     unfolding signed_sectors signed_numbers signed_pieces number_in piece_in

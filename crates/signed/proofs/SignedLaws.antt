@@ -13,7 +13,7 @@ use borrow.Author.Tests.{eqb-true, eq-eqb, ne_eqb, lt-ltb, le-ltb, not-false}
 use Rattle.geometry.specs.declared.Geometry.{Geometry}
 use Rattle.layout.specs.Bounded.{is_zero, updated}
 use Rattle.layout.specs.Word.{words_of}
-use Rattle.layout.specs.Map_sector.{View, valid}
+use Rattle.layout.specs.MapSector.{View, valid}
 use Rattle.volume.specs.Tables.{bit_at}
 use Rattle.volume.specs.Recover.{number_in, signed_numbers, is_uncommitted}
 use Rattle.laws.proofs.Filling.{zeros_get}

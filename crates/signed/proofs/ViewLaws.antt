@@ -13,7 +13,7 @@ use Rattle.geometry.specs.declared.Geometry.{Geometry}
 use Rattle.geometry.specs.Geometry.{within, pieces_for, branch_room, entries_per_piece}
 use Rattle.layout.specs.Bounded.{at, best, all, is_zero}
 use Rattle.layout.specs.Word.{words_of, word_sum, starts_with}
-use Rattle.layout.specs.Map_sector.{Map_sector, View, map_mark, branches_fit, branch_words, entry_words, valid, fields, decoded}
+use Rattle.layout.specs.MapSector.{MapSector, View, map_mark, branches_fit, branch_words, entry_words, valid, fields, decoded}
 use Rattle.volume.specs.Recover.{number_in, piece_in, closing_number, piece_number, newest_closing, closed_up_to, image_view, is_uncommitted}
 use Rattle.laws.proofs.Bounded.{bool?, lt?, and_l, and_r, cond_true, cond_false, tabled_past}
 use Rattle.laws.proofs.Sizes.{view_at}
@@ -52,7 +52,7 @@ module _ (a b c d e f g h i j : Bool) (z : (a && b && c && d && e && f && g && h
       (and_l (a && b && c && d && e && f && g) h (and_l (a && b && c && d && e && f && g && h) i up_to_ninth))
 
 -- A sector's number for a piece, by its number and its piece.
-pub number_of_piece : (c p : ℕ) (o : Option Map_sector) → cond (eqb (piece_in o) p && leb (number_in o) c) (number_in o) 0 ≡ piece_number c p o
+pub number_of_piece : (c p : ℕ) (o : Option MapSector) → cond (eqb (piece_in o) p && leb (number_in o) c) (number_in o) 0 ≡ piece_number c p o
 unfolding piece_in number_in piece_number
 number_of_piece c p none = none_of (eqb 0 p && leb 0 c)
   where
@@ -150,7 +150,7 @@ module _ (g : Geometry) (image : ℕ → List ℕ) where
   unfolding below number_in
   above_view c = fun_ext (λ k.
       ⊎_elim (λ (h : k < g.n). rw (lt-ltb k g.n h) refl)
-      (λ (h : g.n ≤ k). rw (le-ltb k g.n h) (sym (ap (λ (o : Option Map_sector). ltb c (number_in o)) (past_view k h) ∙ le-ltb c 0 (omega arith))))
+      (λ (h : g.n ≤ k). rw (le-ltb k g.n h) (sym (ap (λ (o : Option MapSector). ltb c (number_in o)) (past_view k h) ∙ le-ltb c 0 (omega arith))))
       (lt? k g.n))
 
   -- Where there is a number there is a piece.
@@ -168,7 +168,7 @@ module _ (g : Geometry) (image : ℕ → List ℕ) where
       ⊎_elim (λ (z : signed_at g image k ≡ true). view_signed k z)
       (λ (z : signed_at g image k ≡ false). absurd (d (ap (piece_number c p) (view_unsigned k z)))) (bool? (signed_at g image k))
 
-pub piece_number_lem : (c p : ℕ) (o : Option Map_sector) → (piece_number c p o ≡ 0 → ⊥) → piece_number c p o ≡ number_in o
+pub piece_number_lem : (c p : ℕ) (o : Option MapSector) → (piece_number c p o ≡ 0 → ⊥) → piece_number c p o ≡ number_in o
 unfolding piece_number number_in
 piece_number_lem c p none d = refl
 piece_number_lem c p (some m) d = go (eqb m.piece p && leb m.number c) d
@@ -178,7 +178,7 @@ piece_number_lem c p (some m) d = go (eqb m.piece p && leb m.number c) d
     go false f = absurd (f refl)
 
 -- The newest closing sector, as a loop found it.
-pub no_closing : (o : Option Map_sector) → o ≡ none → 0 ≡ closing_number o
+pub no_closing : (o : Option MapSector) → o ≡ none → 0 ≡ closing_number o
 unfolding closing_number
 no_closing o e = sym (ap closing_number e)
 

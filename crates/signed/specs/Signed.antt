@@ -3,7 +3,7 @@ use Rattle.std.specs.Prelude.{ℕ, ◌≡◌, Bool, true, cond, not, ◌&&◌, L
 use Rattle.geometry.specs.declared.Geometry.{Geometry}
 use Rattle.layout.specs.Bounded.{gathered, is_zero, updated}
 use Rattle.layout.specs.Word.{words_of}
-use Rattle.layout.specs.Map_sector.{View, valid}
+use Rattle.layout.specs.MapSector.{View, valid}
 use Rattle.volume.specs.Recover.{number_in, piece_in, signed_numbers}
 
 -- The test, below a bound only.

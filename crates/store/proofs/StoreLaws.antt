@@ -13,7 +13,7 @@ use borrow.Author.Tests.{eqb-true, eq-eqb, ne_eqb}
 use Rattle.state.specs.declared.State.{State}
 use Rattle.geometry.specs.Geometry.{pieces_for, piece_of}
 use Rattle.layout.specs.Bounded.{at, always, is_zero, count_below, updated, updates}
-use Rattle.layout.specs.Map_sector.{encoded}
+use Rattle.layout.specs.MapSector.{encoded}
 use Rattle.volume.specs.Tables.{tables_of, piece_entries}
 use Rattle.volume.specs.Store.{Store, applied, stores_below}
 use Rattle.volume.specs.Commit.{rank, member_place, changed_entries, committed_tables, member, member_store}

@@ -15,7 +15,7 @@ use Rattle.geometry.specs.declared.Geometry.{Geometry}
 use Rattle.geometry.specs.Geometry.{sector_bytes, within, pieces_for}
 use Rattle.layout.specs.Bounded.{at, all, updated}
 use Rattle.layout.specs.Word.{words_of}
-use Rattle.layout.specs.Map_sector.{View, branch_words, fields, valid}
+use Rattle.layout.specs.MapSector.{View, branch_words, fields, valid}
 use Rattle.volume.specs.Tables.{sector_at}
 use Rattle.volume.specs.Commit.{branches_in}
 use Rattle.volume.specs.Recover.{number_in, image_view, Walk, waiting_number, target_waits, targets_read}

@@ -4,7 +4,7 @@ use Rattle.geometry.specs.declared.Geometry.{Geometry}
 use Rattle.geometry.specs.Geometry.{most_pieces}
 use Rattle.layout.specs.Bounded.{at, is_zero}
 use Rattle.layout.specs.Word.{words_of}
-use Rattle.layout.specs.Map_sector.{View, valid}
+use Rattle.layout.specs.MapSector.{View, valid}
 use Rattle.volume.specs.Recover.{Walk, waiting_number}
 use Rattle.tournament.specs.Tournament.{tree_length, ranked, key_at, Replayed, Keyed}
 

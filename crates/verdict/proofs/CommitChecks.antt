@@ -19,7 +19,7 @@ use Rattle.answer.specs.Answer.{lengths, named, standing}
 use Rattle.state.specs.State.{is_running}
 use Rattle.layout.specs.Bounded.{at, all, same}
 use Rattle.layout.specs.Word.{words_of}
-use Rattle.layout.specs.Map_sector.{valid, decoded}
+use Rattle.layout.specs.MapSector.{valid, decoded}
 use Rattle.volume.specs.Tables.{bit_at, memory, sector_at, tables_of, free_sectors, consistent, piece_entries, says_piece, live_valid}
 use Rattle.volume.specs.Refusals.{Check, applies, first_of, judged}
 use Rattle.volume.specs.Rules.{base}
@@ -29,7 +29,7 @@ use Rattle.laws.proofs.Bounded.{bool?, not_of, and_l, and_r, all_below_at}
 use Rattle.laws.proofs.Names.{sound, piece}
 use Rattle.laws.proofs.Sizes.{fits, state_fits_lem, tables_fit_lem}
 use Rattle.laws.proofs.Judged.{later, part_passed}
-use Rattle.laws.proofs.Commit_passed.{blocks_fit_lem, commit_passed}
+use Rattle.laws.proofs.CommitPassed.{blocks_fit_lem, commit_passed}
 use Rattle.pieces.specs.Arrays.{Live}
 use Rattle.checks.specs.Left.{lent}
 use Rattle.checks.proofs.StateLaws.{refused_by_lengths, passed_by_lengths, sizes_passed, tables_passed}

@@ -6,7 +6,7 @@ use lib.ListN.{replicate}
 use Rattle.answer.specs.declared.Answer.TheVariants.{Accepted}
 use Rattle.answer.specs.Answer.{stores_alone}
 use Rattle.layout.specs.Bounded.{updated}
-use Rattle.layout.specs.Map_sector.{encoded}
+use Rattle.layout.specs.MapSector.{encoded}
 use Rattle.layout.specs.Entry.{blank}
 use Rattle.layout.specs.ParkRecord.{park_record}
 use Rattle.state.specs.State.{fresh_state}

@@ -10,7 +10,7 @@ use Rattle.state.specs.State.{fresh_state}
 use Rattle.answer.specs.Answer.{verdict_number, number_of}
 use Rattle.layout.specs.Bounded.{all_below, count_below, best, all, elem, distinct, same, list_from, gathered}
 use Rattle.layout.specs.Word.{words_of, bytes_of, word_sum, starts_with, balanced}
-use Rattle.layout.specs.Map_sector.{Map_sector, encoded, branches_fit, valid, decoded}
+use Rattle.layout.specs.MapSector.{MapSector, encoded, branches_fit, valid, decoded}
 use Rattle.layout.specs.Entry.{blank, complemented, restored}
 use Rattle.layout.specs.ParkRecord.{park_record}
 use Rattle.volume.specs.Tables.{sector_at, bit_at, memory, named_by, used_by, free_sectors, consistent, piece_entries, says_piece, live_valid}

@@ -10,7 +10,7 @@ use lib.Dec.{leb}
 use Rattle.geometry.proofs.Sized.{sized, one_track}
 use Rattle.state.specs.State.{fresh_state}
 use Rattle.layout.specs.Bounded.{any_below, count_below, best, elem, list_from, tabled}
-use Rattle.layout.specs.Map_sector.{View}
+use Rattle.layout.specs.MapSector.{View}
 use Rattle.volume.specs.Tables.{Tables}
 use Rattle.tracks.specs.Placing.{nearest, placed_up_to, place_of}
 use Rattle.volume.specs.Rules.{base}

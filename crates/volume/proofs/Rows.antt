@@ -14,7 +14,7 @@ use Rattle.geometry.specs.Geometry.{pieces_for, used_bytes}
 use Rattle.geometry.specs.declared.Drive.{Drive}
 use Rattle.geometry.proofs.Sized.{sized, one_track, asked}
 use Rattle.layout.specs.Word.{words_of, bytes_of, word_sum, starts_with, balanced}
-use Rattle.layout.specs.Map_sector.{Map_sector, map_mark, kind_of, encoded, branches_fit, valid, decoded}
+use Rattle.layout.specs.MapSector.{MapSector, map_mark, kind_of, encoded, branches_fit, valid, decoded}
 use Rattle.layout.specs.Entry.{complemented, needs_flip, stored, entry_for, restored, is_empty}
 use Rattle.layout.specs.ParkRecord.{park_record, is_park_record, parked_in}
 use Rattle.volume.specs.Tables.{Memory, sector_at, bit_at, memory, named_by, used_by, free_sectors, consistent, piece_entries, says_piece, live_valid}
@@ -149,7 +149,7 @@ entries_in m b (suc n) =
     let rest = entries_in m (suc b) n in
     cond (is_empty (m.tables.entry b)) rest ((b ∷ m.tables.entry b ∷ []) ∷ rest)
 
-seen : ℕ → Option Map_sector → List ℕ
+seen : ℕ → Option MapSector → List ℕ
 seen k none = k ∷ []
 seen k (some m) = k ∷ m.number ∷ m.piece ∷ kind_of m.closing ∷ m.branches
 

@@ -9,7 +9,7 @@ use mathlib.Core.Option.{Option, none, some}
 use lib.Dec.{eqb}
 use Rattle.geometry.proofs.Sized.{sized}
 use Rattle.layout.specs.Bounded.{at, all_below, count_below, best, all, elem, distinct, same, list_from, gathered}
-use Rattle.layout.specs.Map_sector.{Map_sector, View}
+use Rattle.layout.specs.MapSector.{MapSector, View}
 use Rattle.volume.specs.Tables.{Tables, bit_at, named_by, used_by, free_sectors, consistent, piece_entries, says_piece, live_valid}
 
 -- Tables as words and bytes: each block that has an entry, with it; places, numbers and the bytes of the used map; tail and number.
@@ -104,7 +104,7 @@ piece_words : List (List ℕ) → ℕ → List ℕ
 unfolding list_from entry_at
 piece_words es p = list_from (entry_at es) (96 * p) 96
 
-abbrev saying : ℕ → ℕ → Bool → List ℕ → List ℕ → Option Map_sector
+abbrev saying : ℕ → ℕ → Bool → List ℕ → List ℕ → Option MapSector
 saying number piece closing branches words =
     some (record { number = number; piece = piece; closing = closing; branches = branches; entries = words })
 

@@ -10,7 +10,7 @@ use Rattle.answer.specs.declared.Verdict.TheVariants.{Pass, Refuse}
 use Rattle.layout.specs.Bounded.{at, all, all_below}
 use Rattle.geometry.specs.declared.Geometry.{Geometry}
 use Rattle.geometry.specs.Geometry.{within, sector_bytes, commit_blocks, pieces_for, geometry_fits, drive_fits}
-use Rattle.layout.specs.Map_sector.{View, decoded}
+use Rattle.layout.specs.MapSector.{View, decoded}
 use Rattle.layout.specs.Entry.{is_empty, sector_of, stored, entry_for, restored}
 use Rattle.layout.specs.ParkRecord.{park_record}
 use Rattle.volume.specs.Tables.{Memory, sector_at, free_sectors, consistent, live_valid}
@@ -116,16 +116,16 @@ unfoldable pub block_of : Memory → ℕ → List ℕ
 block_of m block = let entry = m.tables.entry block in restored entry (m.image (sector_of entry))
 
 -- What a read hands back, and its 512 bytes: an accepted read changes only those.
-pub record Read_after : Type 0 where
+pub record ReadAfter : Type 0 where
   pub outcome : Outcome
   pub memory : Memory
   pub out : List ℕ
 
-unfoldable pub read_judged : Verdict → State → Memory → ℕ → List ℕ → Read_after
+unfoldable pub read_judged : Verdict → State → Memory → ℕ → List ℕ → ReadAfter
 read_judged Pass s m block out = record { outcome = record { answer = Accepted (stores_alone 0); state = s }; memory = m; out = block_of m block }
 read_judged (Refuse r) s m block out = record { outcome = record { answer = Refused r; state = s }; memory = m; out = out }
 
-unfoldable pub read_of : State → Memory → ℕ → List ℕ → Read_after
+unfoldable pub read_of : State → Memory → ℕ → List ℕ → ReadAfter
 read_of s m block out = read_judged (judged (read_checks s m block (length out))) s m block out
 
 unfoldable pub park_checks : State → Memory → List Check

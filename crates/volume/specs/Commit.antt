@@ -6,7 +6,7 @@ use Rattle.answer.specs.declared.Answer.TheVariants.{Accepted}
 use Rattle.answer.specs.declared.Cost.{Cost}
 use Rattle.layout.specs.Bounded.{at, any_below, count_below, best, elem, is_zero, list_from, tabled, updates, always}
 use Rattle.geometry.specs.Geometry.{pieces_for, piece_of}
-use Rattle.layout.specs.Map_sector.{Map_sector, View, encoded}
+use Rattle.layout.specs.MapSector.{MapSector, View, encoded}
 use Rattle.volume.specs.Tables.{Tables, named_by, used_by, piece_entries}
 use Rattle.state.specs.State.{committed_state, cut_state}
 use Rattle.volume.specs.Store.{Store, stores_below, Action}
@@ -26,7 +26,7 @@ unfoldable pub touches : List ℕ → ℕ → Bool
 touches blocks p = any_below (λ i. eqb (piece_of (at blocks i)) p) (length blocks)
 
 -- The branches of a map sector.
-unfoldable pub branches_in : Option Map_sector → List ℕ
+unfoldable pub branches_in : Option MapSector → List ℕ
 branches_in none = []
 branches_in (some m) = m.branches
 
@@ -113,7 +113,7 @@ committed_tables s t plan change =
     }
 
 -- Numbered from the tail's number + 1; the last one is closing; each after the first has one branch, to the member before.
-unfoldable pub member : State → Tables → Plan → Change → ℕ → Map_sector
+unfoldable pub member : State → Tables → Plan → Change → ℕ → MapSector
 member s t plan change p =
     let j = rank plan p in
     record {

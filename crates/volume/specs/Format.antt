@@ -9,7 +9,7 @@ use Rattle.geometry.specs.declared.Geometry.{Geometry}
 use Rattle.geometry.specs.declared.Drive.{Drive}
 use Rattle.geometry.specs.declared.Settings.{Settings}
 use Rattle.geometry.specs.Geometry.{sector_bytes, pieces_for, entries_per_piece, used_bytes, geometry_of, geometry_fits, drive_fits}
-use Rattle.layout.specs.Map_sector.{Map_sector, encoded}
+use Rattle.layout.specs.MapSector.{MapSector, encoded}
 use Rattle.layout.specs.Entry.{blank}
 use Rattle.volume.specs.Tables.{Tables, Memory, zero_tables, named_by, used_by}
 use Rattle.state.specs.State.{fresh_state, lost_state}
@@ -22,7 +22,7 @@ blank_store k = record { sector = k; bytes = blank }
 
 -- Piece p goes into sector p + 1 with number p + 1; only the last closes, and each after the first has one branch, to the
 -- one before.
-abbrev pub fresh_piece : ℕ → ℕ → Map_sector
+abbrev pub fresh_piece : ℕ → ℕ → MapSector
 fresh_piece l p =
     record {
       number = suc p;

@@ -13,7 +13,7 @@ use Rattle.geometry.specs.declared.Geometry.{Geometry}
 use Rattle.geometry.specs.declared.Drive.{Drive}
 use Rattle.geometry.specs.declared.Settings.{Settings}
 use Rattle.geometry.specs.Geometry.{within, pieces_for, piece_of, index_of}
-use Rattle.layout.specs.Map_sector.{Map_sector, View, decoded}
+use Rattle.layout.specs.MapSector.{MapSector, View, decoded}
 use Rattle.layout.specs.ParkRecord.{Parked, parked_in}
 use Rattle.volume.specs.Tables.{Tables, Memory, zero_tables, named_by, used_by, consistent}
 use Rattle.state.specs.State.{fresh_state, lost_state}
@@ -24,23 +24,23 @@ use Rattle.volume.specs.Commit.{branches_in}
 
 -- What a sector says as a map sector, 0 where it is not signed: its number, its piece, an entry, its number where it is closing, and
 -- its number where it is of piece p and numbered up to c.
-unfoldable pub number_in : Option Map_sector → ℕ
+unfoldable pub number_in : Option MapSector → ℕ
 number_in none = 0
 number_in (some m) = m.number
 
-unfoldable pub piece_in : Option Map_sector → ℕ
+unfoldable pub piece_in : Option MapSector → ℕ
 piece_in none = 0
 piece_in (some m) = m.piece
 
-unfoldable pub entry_in : ℕ → Option Map_sector → ℕ
+unfoldable pub entry_in : ℕ → Option MapSector → ℕ
 entry_in i none = 0
 entry_in i (some m) = at m.entries i
 
-unfoldable pub closing_number : Option Map_sector → ℕ
+unfoldable pub closing_number : Option MapSector → ℕ
 closing_number none = 0
 closing_number (some m) = cond m.closing m.number 0
 
-unfoldable pub piece_number : ℕ → ℕ → Option Map_sector → ℕ
+unfoldable pub piece_number : ℕ → ℕ → Option MapSector → ℕ
 piece_number c p none = 0
 piece_number c p (some m) = cond (eqb m.piece p && leb m.number c) m.number 0
 
@@ -72,7 +72,7 @@ waiting_number view w p = cond (is_zero (w.waiting p)) 0 (number_in (view (w.wai
 
 -- A target that was read waits if signed, lower in number than the holder and of a piece not done; for a piece the highest
 -- waits, of equal ones the first read.
-unfoldable pub target_waits : View → ℕ → Walk → ℕ → Option Map_sector → Walk
+unfoldable pub target_waits : View → ℕ → Walk → ℕ → Option MapSector → Walk
 target_waits view holder w target none = w
 target_waits view holder w target (some m) =
     cond (ltb m.number holder && is_zero (w.taken m.piece) && ltb (waiting_number view w m.piece) m.number)
@@ -188,7 +188,7 @@ scan_finding g view sector0 =
 
 -- It walks when the park record is laid out as it must be, its tail is a sector from 1 to N - 1, and that sector is signed,
 -- closing and has the record's number.
-unfoldable pub walk_starts : ℕ → Parked → Option Map_sector → Bool
+unfoldable pub walk_starts : ℕ → Parked → Option MapSector → Bool
 walk_starts n parked none = false
 walk_starts n parked (some m) = within 1 (n - 1) parked.tail && m.closing && eqb m.number parked.number
 

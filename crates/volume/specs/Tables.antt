@@ -5,7 +5,7 @@ use Rattle.std.proofs.Math.Option.{Option, none, some}
 use Rattle.layout.specs.Bounded.{at, all_below, count_below, best, all, elem, distinct, same, list_from, always, gathered}
 use Rattle.geometry.specs.declared.Geometry.{Geometry}
 use Rattle.geometry.specs.Geometry.{within, sector_bytes, pieces_for, entries_per_piece, used_bytes}
-use Rattle.layout.specs.Map_sector.{Map_sector, View}
+use Rattle.layout.specs.MapSector.{MapSector, View}
 use Rattle.layout.specs.Entry.{is_empty, sector_of}
 
 -- The k-th 512 bytes of a run of bytes: a sector of an image, a block of a write's bytes.
@@ -95,7 +95,7 @@ unfoldable pub piece_entries : ℕ → (ℕ → ℕ) → ℕ → List ℕ
 piece_entries l entry p = list_from (λ b. cond (leb l b) 0 (entry b)) (entries_per_piece * p) entries_per_piece
 
 -- The sector says just this piece, number and entries.
-unfoldable pub says_piece : Option Map_sector → ℕ → ℕ → List ℕ → Bool
+unfoldable pub says_piece : Option MapSector → ℕ → ℕ → List ℕ → Bool
 says_piece none p number entries = false
 says_piece (some m) p number entries = eqb m.piece p && eqb m.number number && same m.entries entries
 

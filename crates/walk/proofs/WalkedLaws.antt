@@ -15,7 +15,7 @@ use Rattle.geometry.specs.Geometry.{sector_bytes, within, pieces_for, geometry_f
 use Rattle.answer.specs.declared.Answer.TheVariants.{Walked}
 use Rattle.layout.specs.Bounded.{at, all_below, is_zero, list_from, tabled}
 use Rattle.layout.specs.Word.{words_of}
-use Rattle.layout.specs.Map_sector.{Map_sector, View, fields}
+use Rattle.layout.specs.MapSector.{MapSector, View, fields}
 use Rattle.layout.specs.ParkRecord.{Parked, parked_in}
 use Rattle.volume.specs.Tables.{Tables, sector_at, tables_of, named_by, used_by, bit_at, consistent}
 use Rattle.volume.specs.Commit.{branches_in}
@@ -193,7 +193,7 @@ module _ (g : Geometry) (view : View) (sector0 : List ℕ) where
         clash (is_tail (Tail tail number)) refl (ap is_tail (e ∙ cond_false (walk_starts g.n p (view p.tail)) (Tail p.tail p.number) Nowhere z)))
         (bool? (walk_starts g.n p (view p.tail)))
 
-  starts_from : (tail number : ℕ) (o : Option Map_sector) → walk_starts g.n (record { number = number; tail = tail }) o ≡ true → 1 ≤ tail
+  starts_from : (tail number : ℕ) (o : Option MapSector) → walk_starts g.n (record { number = number; tail = tail }) o ≡ true → 1 ≤ tail
   unfolding walk_starts
   starts_from tail number none e = clash false e refl
   starts_from tail number (some m) e =

@@ -9,7 +9,7 @@ use Rattle.geometry.specs.declared.Geometry.{Geometry}
 use Rattle.geometry.specs.Geometry.{within}
 use Rattle.layout.specs.Bounded.{at}
 use Rattle.layout.specs.Word.{words_of}
-use Rattle.layout.specs.Map_sector.{Map_sector, View, fields}
+use Rattle.layout.specs.MapSector.{MapSector, View, fields}
 use Rattle.layout.specs.ParkRecord.{Parked, is_park_record, parked_in}
 use Rattle.volume.specs.Recover.{image_view, walk_starts}
 use Rattle.laws.proofs.Bounded.{cond_true, cond_false}
@@ -23,7 +23,7 @@ module _ (g : Geometry) (image : ℕ → List ℕ) (tail number : ℕ) where
   abbrev parked : Parked
   parked = record { number = number; tail = tail }
 
-  out_of_range : (o : Option Map_sector) → within 1 (g.n - 1) tail ≡ false → false ≡ walk_starts g.n parked o
+  out_of_range : (o : Option MapSector) → within 1 (g.n - 1) tail ≡ false → false ≡ walk_starts g.n parked o
   unfolding walk_starts
   out_of_range none e = refl
   out_of_range (some m) e = rw e refl

@@ -1,7 +1,7 @@
 -- Where a walk starts.
 use Rattle.std.specs.Prelude.{ℕ, cond}
 use Rattle.std.proofs.Math.Option.{Option, none, some}
-use Rattle.layout.specs.Map_sector.{View}
+use Rattle.layout.specs.MapSector.{View}
 use Rattle.layout.specs.ParkRecord.{Parked}
 use Rattle.volume.specs.Recover.{walk_starts}
 use Rattle.walk_start.specs.declared.Start.{Start}

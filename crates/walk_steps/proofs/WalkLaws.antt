@@ -15,7 +15,7 @@ use Rattle.geometry.specs.declared.Geometry.{Geometry}
 use Rattle.geometry.specs.Geometry.{sector_bytes, pieces_for, geometry_fits}
 use Rattle.layout.specs.Bounded.{at, best, is_zero, list_from, updated}
 use Rattle.layout.specs.Word.{words_of}
-use Rattle.layout.specs.Map_sector.{Map_sector, View, valid, fields}
+use Rattle.layout.specs.MapSector.{MapSector, View, valid, fields}
 use Rattle.volume.specs.Tables.{sector_at}
 use Rattle.volume.specs.Commit.{branches_in}
 use Rattle.volume.specs.Recover.{number_in, piece_in, image_view, Walk, waiting_number, target_waits, targets_read, walk_step, walked_for, walk_from}
@@ -242,7 +242,7 @@ module _ (pieces : ℕ) (view : View) where
   Taken : Walk → Type 0
   Taken w = (q : ℕ) → (w.taken q ≡ 0 → ⊥) → number_in (view (w.taken q)) ≡ 0 → ⊥
 
-  read_kept : (holder : ℕ) (w : Walk) (target : ℕ) (o : Option Map_sector) → (target_waits view holder w target o).taken ≡ w.taken
+  read_kept : (holder : ℕ) (w : Walk) (target : ℕ) (o : Option MapSector) → (target_waits view holder w target o).taken ≡ w.taken
   unfolding target_waits
   read_kept holder w target none = refl
   read_kept holder w target (some m) =

@@ -21,7 +21,7 @@ use Rattle.volume.specs.Rules.{base}
 use Rattle.volume.specs.Commit.{Change, commit_action}
 use Rattle.volume.specs.Calls.{view_of, commit_checks, commit_of, write_change, drop_change, room_for, write_by, drop_by, write_of, drop_of}
 use Rattle.laws.proofs.Bounded.{cond_false}
-use Rattle.laws.proofs.Commit_passed.{commit_passed}
+use Rattle.laws.proofs.CommitPassed.{commit_passed}
 use Rattle.commit.specs.Commit.{change_by}
 use Rattle.verdict.proofs.CommitChecks.{passed, drop_room}
 

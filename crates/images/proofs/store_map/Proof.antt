@@ -5,7 +5,7 @@ use native.Mathlib.Omega.{arith}
 use lib.ListN.{length, length-take, length-drop}
 use borrow.Author.Rules.{rules}
 use Rattle.layout.specs.Bounded.{at, updates}
-use Rattle.layout.specs.Map_sector.{encoded}
+use Rattle.layout.specs.MapSector.{encoded}
 use Rattle.volume.specs.Tables.{piece_entries}
 use Rattle.laws.proofs.Sectors.{sector_lent}
 use Rattle.images.proofs.store_map.Statement.{statement}

@@ -5,7 +5,7 @@ use mathlib.Core.Path.{◌≡◌, refl, ◌∙◌}
 use native.Mathlib.Omega.{arith}
 use lib.ListN.{length, take}
 use Rattle.layout.specs.Word.{words_of}
-use Rattle.layout.specs.Map_sector.{branch_words}
+use Rattle.layout.specs.MapSector.{branch_words}
 use Rattle.volume.specs.Tables.{sector_at}
 use Rattle.pieces.specs.Arrays.{flagged}
 use Rattle.tournament.specs.Tournament.{Keyed}

@@ -8,7 +8,7 @@ use lib.Dec.{eqb}
 use borrow.Author.Rules.{rules}
 use Rattle.layout.specs.Bounded.{at, all_below}
 use Rattle.layout.specs.Word.{words_of}
-use Rattle.layout.specs.Map_sector.{entry_words}
+use Rattle.layout.specs.MapSector.{entry_words}
 use Rattle.live_sectors.proofs.LiveLaws.{gathered_none, gathered_more, gathered_all}
 use Rattle.live_sectors.proofs.last_matches.Statement.{statement}
 use Rattle.live_sectors.proofs.last_matches.Tie as tie

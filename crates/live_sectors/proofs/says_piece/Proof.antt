@@ -3,7 +3,7 @@ use Prim.Native.Nat.{ℕ}
 use mathlib.Core.Path.{◌∙◌, ap}
 use Rattle.layout.specs.Bounded.{at, same}
 use Rattle.layout.specs.Word.{words_of}
-use Rattle.layout.specs.Map_sector.{entry_words}
+use Rattle.layout.specs.MapSector.{entry_words}
 use Rattle.volume.specs.Tables.{piece_entries}
 use Rattle.live_sectors.proofs.LiveLaws.{says_unsigned, says_other_piece, says_other_number, says_entries}
 use borrow.Author.Rules.{rules}

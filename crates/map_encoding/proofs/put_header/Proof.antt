@@ -4,7 +4,7 @@ use mathlib.Core.Path.{◌∙◌, ap}
 use mathlib.Core.List.{[], ◌∷◌, ◌++◌}
 use lib.Seq.{sets}
 use Rattle.layout.specs.Word.{bytes_of}
-use Rattle.layout.specs.Map_sector.{map_mark}
+use Rattle.layout.specs.MapSector.{map_mark}
 use Rattle.map_encoding.proofs.Encoding.{header_stored}
 use borrow.Author.Rules.{rules}
 use Rattle.map_encoding.proofs.put_header.Statement.{statement}

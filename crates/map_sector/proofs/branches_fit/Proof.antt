@@ -6,7 +6,7 @@ use native.Mathlib.Omega.{arith}
 use borrow.Author.Rules.{rules}
 use Rattle.layout.specs.Bounded.{at, all_below}
 use Rattle.layout.specs.Word.{words_of}
-use Rattle.layout.specs.Map_sector.{branch_words, branches_fit}
+use Rattle.layout.specs.MapSector.{branch_words, branches_fit}
 use Rattle.map_sector.specs.Header.{branch_fits}
 use Rattle.map_sector.proofs.Branches.{branch_room_lem, each_none, each_next, each_branch}
 use Rattle.map_sector.proofs.branches_fit.Statement.{statement}

@@ -7,7 +7,7 @@ use borrow.Author.Rules.{rules}
 use Rattle.geometry.specs.Geometry.{entries_per_piece}
 use Rattle.layout.specs.Bounded.{all, is_zero}
 use Rattle.layout.specs.Word.{words_of}
-use Rattle.layout.specs.Map_sector.{entry_words}
+use Rattle.layout.specs.MapSector.{entry_words}
 use Rattle.laws.proofs.Words.{length_words_of}
 use Rattle.map_sector.proofs.Maps.{entries_all, entries_past}
 use Rattle.map_sector.proofs.entries_fit.Statement.{statement}

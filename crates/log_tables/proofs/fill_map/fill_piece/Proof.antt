@@ -7,7 +7,7 @@ use native.Mathlib.Omega.{arith}
 use lib.ListN.{length, length-set}
 use Rattle.layout.specs.Bounded.{at}
 use Rattle.layout.specs.Word.{words_of}
-use Rattle.layout.specs.Map_sector.{entry_words}
+use Rattle.layout.specs.MapSector.{entry_words}
 use Rattle.laws.proofs.Filling.{Filled}
 use Rattle.log_tables.proofs.MapLaws.{piece_starts, piece_more, piece_ends}
 use Rattle.log_tables.proofs.fill_map.fill_piece.Statement.{statement}
