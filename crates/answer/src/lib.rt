@@ -1,4 +1,6 @@
 // The answers of the calls, and the numbers that document 01 gives them.
+#![tactic(auto)]
+
 ghost use Rattle.std.specs.Prelude.{◌≡◌};
 ghost use Rattle.answer.specs.declared.Answer.TheVariants.{Accepted, Walked, Scanned, PowerFailed};
 ghost use Rattle.answer.specs.Answer.{refusal_number, verdict_number, loss_number, stores_alone, is_refusal, number_of, cost_of, way_of, reads_of};

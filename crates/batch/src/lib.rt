@@ -1,4 +1,6 @@
 // A batch: commits made one after the other in one call, up to and including the first that is turned back.
+#![tactic(auto)]
+
 ghost use Rattle.std.specs.Prelude.{◌≡◌, ◌++◌, ◌+◌, ◌*◌, ◌≤◌, length, take, drop, ltb};
 ghost use Rattle.layout.specs.Bounded.{sum_below};
 ghost use Rattle.volume.specs.Tables.{memory};

@@ -1,4 +1,6 @@
 // The refusals of a batch as a whole: 1, 11, 2 and 12.
+#![tactic(auto)]
+
 ghost use Rattle.std.specs.Prelude.{◌≡◌, cond, ◌+◌, ◌*◌, ◌/◌, ◌<◌, length, eqb};
 ghost use Rattle.geometry.specs.Geometry.{within};
 ghost use Rattle.layout.specs.Bounded.{at, sum_below};

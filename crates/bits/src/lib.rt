@@ -1,4 +1,6 @@
 // The used map: one bit a sector, lowest bit of byte 0 first.
+#![tactic(auto)]
+
 ghost use Rattle.std.specs.Prelude.{◌≡◌, true, false, cond, ℕ, ◌+◌, ◌*◌, ◌/◌, ◌%◌, ◌^◌, ◌≤◌, ◌<◌, length, eqb};
 ghost use Rattle.layout.specs.Bounded.{count_below, updated};
 ghost use Rattle.volume.specs.Tables.{bit_at, free_sectors};

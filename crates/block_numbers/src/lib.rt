@@ -1,4 +1,6 @@
 // Refusal 3: the block numbers that a commit names, and its head.
+#![tactic(auto)]
+
 ghost use Rattle.std.specs.Prelude.{◌≡◌, suc, ◌-◌, ◌*◌, ◌≤◌, length, ltb, eqb};
 ghost use Rattle.geometry.specs.Geometry.{sector_bytes};
 ghost use Rattle.layout.specs.Bounded.{at, all, all_below};

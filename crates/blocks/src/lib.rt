@@ -1,5 +1,7 @@
 // Blocks as they are stored, and map entries. A block that begins with the map mark is stored flipped: with its first byte
 // complemented, and bit 31 of its entry set.
+#![tactic(auto)]
+
 ghost use Rattle.std.specs.Prelude.{◌≡◌, ◌&&◌, ◌<◌, ◌^◌, length};
 ghost use Rattle.geometry.specs.Geometry.{sector_bytes};
 ghost use Rattle.layout.specs.Bounded.{at, all, is_zero};

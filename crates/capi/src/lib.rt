@@ -1,2 +1,4 @@
 // The calls for C and Rust.
+#![tactic(auto)]
+
 pub mod calls;

@@ -1,4 +1,6 @@
 // The checks of sizes, settings and lengths that the calls share: refusals 1, 11 and 2.
+#![tactic(auto)]
+
 ghost use Rattle.std.specs.Prelude.{◌≡◌, ◌&&◌, ◌*◌, ◌/◌, ◌%◌, eqb};
 ghost use Rattle.geometry.specs.Geometry.{sector_bytes, pieces_for, used_bytes, geometry_of, geometry_fits};
 ghost use Rattle.layout.specs.Bounded.{is_zero};

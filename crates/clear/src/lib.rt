@@ -1,4 +1,6 @@
 // Sectors that recovery zeroes, under an allowance.
+#![tactic(auto)]
+
 ghost use Rattle.std.specs.Prelude.{◌≡◌, ◌||◌, ◌++◌, ◌*◌, ◌≤◌, ◌<◌, length, take};
 ghost use Rattle.geometry.specs.Geometry.{sector_bytes};
 ghost use Rattle.layout.specs.Bounded.{count_below};

@@ -1,4 +1,6 @@
 // One commit: write and drop are it, with data sectors and without.
+#![tactic(auto)]
+
 ghost use Rattle.std.specs.Prelude.{◌≡◌, ◌⊎◌, true, not, [], ◌+◌, ◌-◌, ◌*◌, ◌≤◌, length, ltb};
 ghost use Rattle.geometry.specs.Geometry.{sector_bytes, branch_room, pieces_for, used_bytes, geometry_fits};
 ghost use Rattle.answer.specs.declared.Answer.TheVariants.{Accepted};

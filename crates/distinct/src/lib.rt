@@ -1,5 +1,7 @@
 // Whether numbers are all different, in time linear in how many they are, whatever they are. If no two agree in their lower bits, they
 // are; otherwise they are chained by their upper 15 bits, and the lower 17 of each chain's numbers are stamped in a table.
+#![tactic(auto)]
+
 ghost use Rattle.std.specs.Prelude.{◌≡◌, true, false, ℕ, ◌+◌, ◌*◌, ◌≤◌, ◌<◌, length};
 ghost use Rattle.geometry.specs.Geometry.{most_sectors};
 ghost use Rattle.layout.specs.Bounded.{at, distinct};

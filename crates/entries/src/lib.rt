@@ -1,4 +1,6 @@
 // The new entries of the blocks that a commit writes.
+#![tactic(auto)]
+
 ghost use Rattle.std.specs.Prelude.{◌≡◌, ◌++◌, ℕ, ◌*◌, ◌≤◌, ◌<◌, ◌^◌, length, drop};
 ghost use Rattle.geometry.specs.Geometry.{sector_bytes};
 ghost use Rattle.layout.specs.Bounded.{at, list_from};

@@ -1,4 +1,6 @@
 // Answers a paper: each line of standard input is a call on a volume, and its answer is written on standard output.
+#![tactic(auto)]
+
 mod backlog;
 mod calls;
 mod desk;

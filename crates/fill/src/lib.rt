@@ -1,4 +1,6 @@
 // Filling a table.
+#![tactic(auto)]
+
 ghost use Rattle.std.specs.Prelude.{◌≡◌, ◌++◌, suc, ◌+◌, ◌≤◌, length, take, drop, replicate};
 ghost use Rattle.geometry.specs.Geometry.{most_pieces};
 ghost use Rattle.layout.specs.Bounded.{list_from};

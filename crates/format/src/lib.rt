@@ -1,4 +1,6 @@
 // The format call: zeros in every sector, then a fresh map.
+#![tactic(auto)]
+
 ghost use Rattle.std.specs.Prelude.{◌≡◌, ◌*◌, ◌/◌, ◌≤◌, ◌<◌, length, take};
 ghost use Rattle.geometry.specs.Geometry.{sector_bytes, pieces_for, geometry_of, most_pieces};
 ghost use Rattle.volume.specs.Tables.{sector_at, memory};

@@ -1,4 +1,6 @@
 // The stores of a format: zeros in every sector, then a fresh map.
+#![tactic(auto)]
+
 ghost use Rattle.std.specs.Prelude.{◌≡◌, cond, ◌+◌, ◌*◌, ◌≤◌, ◌<◌, length, take, replicate, eqb, ltb};
 ghost use Rattle.geometry.specs.Geometry.{sector_bytes, entries_per_piece, branch_room, pieces_for, most_pieces};
 ghost use Rattle.layout.specs.Bounded.{always, count_below, updated};

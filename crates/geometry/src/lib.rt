@@ -1,5 +1,7 @@
 // What a volume is and what drive it stands on, which the state keeps and every call goes by; and what a format or a recovery is
 // given of both.
+#![tactic(auto)]
+
 ghost use Rattle.std.specs.Prelude.{◌≡◌};
 ghost use Rattle.geometry.specs.Geometry.{pieces_for, piece_of, index_of, used_bytes, geometry_of, settings_of, geometry_fits, drive_fits};
 

@@ -1,4 +1,6 @@
 // The sectors of an image: sector k is its k-th 512 bytes.
+#![tactic(auto)]
+
 ghost use Rattle.std.specs.Prelude.{◌≡◌, ℕ, ◌+◌, ◌*◌, ◌≤◌, ◌<◌, length};
 ghost use Rattle.geometry.specs.Geometry.{sector_bytes, branch_room, most_pieces};
 ghost use Rattle.layout.specs.Bounded.{at, updated, updates};

@@ -1,1 +1,2 @@
 // Definitions alone: the bytes of a sector. There is no code here.
+#![tactic(auto)]

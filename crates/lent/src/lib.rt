@@ -1,4 +1,6 @@
 // The tables that a format or a recovery leaves: fresh ones, or zeros.
+#![tactic(auto)]
+
 ghost use Rattle.std.specs.Prelude.{◌≡◌, ◌*◌, ◌≤◌, ◌<◌, length, replicate, ltb};
 ghost use Rattle.geometry.specs.Geometry.{pieces_for, most_pieces};
 ghost use Rattle.volume.specs.Tables.{bit_at, tables_of, zero_tables};

@@ -1,4 +1,6 @@
 // The lines of standard input, one after the other, by way of a window that the caller lends.
+#![tactic(auto)]
+
 ghost use Rattle.std.specs.Prelude.{◌≡◌, ℕ, ◌+◌, ◌≤◌, ◌<◌, length, get_or};
 ghost use Rattle.line_reader.specs.Reader.{line_bytes, window_bytes, Placed};
 

@@ -1,5 +1,7 @@
 // The branches of a commit's first member: the live sectors of untouched pieces, newest to oldest, without those already reached
 // from a listed one.
+#![tactic(auto)]
+
 ghost use Rattle.std.specs.Prelude.{◌≡◌, true, false, cond, ◌&&◌, ◌||◌, [], ◌∷◌, ◌++◌, ℕ, suc, ◌+◌, ◌*◌, ◌≤◌, ◌<◌, length, take, eqb, ltb};
 ghost use Rattle.geometry.specs.Geometry.{sector_bytes, folding_branches, most_pieces};
 ghost use Rattle.layout.specs.Bounded.{at};

@@ -1,4 +1,6 @@
 // The sectors of an image that a scan of it takes as live. Nothing is stored, and no table of the volume is asked.
+#![tactic(auto)]
+
 ghost use Rattle.std.specs.Prelude.{◌≡◌, true, not, ◌&&◌, ◌*◌, ◌≤◌, length, eqb};
 ghost use Rattle.geometry.specs.Geometry.{sector_bytes, pieces_for, used_bytes, geometry_fits};
 ghost use Rattle.volume.specs.Tables.{bit_at};

@@ -1,4 +1,6 @@
 // The live map sectors against the tables: refusal 5 of write, drop and park.
+#![tactic(auto)]
+
 ghost use Rattle.std.specs.Prelude.{◌≡◌, true, ◌&&◌, [], ℕ, ◌+◌, ◌*◌, ◌≤◌, ◌<◌, length, eqb};
 ghost use Rattle.geometry.specs.Geometry.{sector_bytes, pieces_for, entries_per_piece, most_blocks, most_pieces};
 ghost use Rattle.layout.specs.Bounded.{at, all_below, same};

@@ -1,4 +1,6 @@
 // Map sectors made in their place: the words are put there in order, with zero for the balance, which is put in last.
+#![tactic(auto)]
+
 ghost use Rattle.std.specs.Prelude.{◌≡◌, [], ◌∷◌, ◌++◌, ℕ, ◌+◌, ◌-◌, ◌≤◌, ◌<◌, length, replicate};
 ghost use Rattle.std.proofs.lemmas.List.Edits.{sets};
 ghost use Rattle.geometry.specs.Geometry.{sector_bytes, branch_room, most_pieces};

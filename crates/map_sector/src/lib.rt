@@ -1,5 +1,7 @@
 // Map sectors: whether a sector is one ("signed"), what one says, and how one is made. Word 0 is the mark, 1 the balance, 2 the
 // number, 3 zero, 4 the piece, 5 the kind, 6 the count of branches, 7 L, 8 to 31 the branches, 32 to 127 the entries.
+#![tactic(auto)]
+
 ghost use Rattle.std.specs.Prelude.{◌≡◌, true, ◌&&◌, ◌*◌, ◌-◌, ◌≤◌, ◌<◌, length, drop, eqb};
 ghost use Rattle.geometry.specs.Geometry.{sector_bytes, pieces_for, entries_per_piece, branch_room};
 ghost use Rattle.layout.specs.Bounded.{at, all, is_zero};

@@ -1,4 +1,6 @@
 // The sectors that tables name, marked in a bit map. That none is named twice shows in how many bits are then set.
+#![tactic(auto)]
+
 ghost use Rattle.std.specs.Prelude.{◌≡◌, ℕ, suc, ◌+◌, ◌-◌, ◌*◌, ◌/◌, ◌%◌, ◌^◌, ◌<◌, ◌≤◌, Bool, true, List, [], length, replicate, if◌then◌else◌, ◌==◌, nat_eq};
 ghost use Rattle.geometry.specs.Geometry.{within, most_blocks, pieces_for, most_pieces};
 ghost use Rattle.geometry.specs.SizeClasses.{small_sectors, small_used_bytes};

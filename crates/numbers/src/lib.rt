@@ -1,4 +1,6 @@
 // Live numbers, and the tail among them.
+#![tactic(auto)]
+
 ghost use Rattle.std.specs.Prelude.{◌≡◌, true, ◌&&◌, ◌||◌, [], ◌<◌, length, eqb, leb};
 ghost use Rattle.layout.specs.Bounded.{at, all_below, best, elem, distinct, always, gathered};
 

@@ -1,4 +1,6 @@
 // Papers: the lines that the desk sets.
+#![tactic(auto)]
+
 pub mod data;
 pub mod keywords;
 pub mod request;

@@ -1,4 +1,6 @@
 // The park call: the tail and its number go into sector 0, so that recovery can walk from there.
+#![tactic(auto)]
+
 ghost use Rattle.std.specs.Prelude.{◌≡◌, true, cond, [], ◌∷◌, ◌≤◌, length, take};
 ghost use Rattle.geometry.specs.Geometry.{sector_bytes};
 ghost use Rattle.answer.specs.declared.Refusal.TheVariants.{Inconsistent};

@@ -1,4 +1,6 @@
 // The park record, in sector 0: where the tail was when the volume was parked.
+#![tactic(auto)]
+
 ghost use Rattle.std.specs.Prelude.{◌≡◌, length};
 ghost use Rattle.geometry.specs.Geometry.{sector_bytes};
 ghost use Rattle.layout.specs.Bounded.{at};

@@ -1,5 +1,7 @@
 // The entries of a map sector, words 32 to 127: put into its place straight from the map's words and from the new entries of the named
 // blocks.
+#![tactic(auto)]
+
 ghost use Rattle.std.specs.Prelude.{◌≡◌, cond, ℕ, ◌+◌, ◌*◌, ◌≤◌, ◌<◌, length, ltb};
 ghost use Rattle.std.proofs.lemmas.List.Edits.{sets};
 ghost use Rattle.geometry.specs.Geometry.{sector_bytes, entries_per_piece, most_pieces};

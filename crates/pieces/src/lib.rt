@@ -1,4 +1,6 @@
 // Flags of pieces: those that a commit touches, and those that it writes.
+#![tactic(auto)]
+
 ghost use Rattle.std.specs.Prelude.{◌≡◌, ◌||◌, ℕ, ◌≤◌, ◌<◌, length, replicate, ltb};
 ghost use Rattle.geometry.specs.Geometry.{piece_of};
 ghost use Rattle.layout.specs.Bounded.{at, count_below};

@@ -1,5 +1,7 @@
 // Placing: where the sectors of a commit go. A search looks along the head's own track while the head could not have changed to
 // another, and then at every track.
+#![tactic(auto)]
+
 ghost use Rattle.std.specs.Prelude.{◌≡◌, ◌++◌, true, cond, ◌*◌, ◌≤◌, ◌<◌, length, drop, replicate, eqb, ltb};
 ghost use Rattle.geometry.specs.Geometry.{most_sectors, longest_switch, commit_sectors, drive_fits};
 ghost use Rattle.layout.specs.Bounded.{list_from};

@@ -1,4 +1,6 @@
 // A state and a result in plain numbers, as they cross to C.
+#![tactic(auto)]
+
 ghost use Rattle.std.specs.Prelude.{◌≡◌};
 ghost use Rattle.state.specs.State.{phase_number};
 ghost use Rattle.plain.specs.Plain.{phase_of, state_of, plain_of, state_left, result_of, settings_in, phase_left, batch_result_of};

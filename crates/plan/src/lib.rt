@@ -1,5 +1,7 @@
 // The plan of a commit: which pieces it writes, the first member's branches, and the sectors that it takes. Nothing is stored and
 // no table is touched.
+#![tactic(auto)]
+
 ghost use Rattle.std.specs.Prelude.{◌≡◌, true, cond, ◌||◌, [], ℕ, ◌+◌, ◌*◌, ◌≤◌, ◌<◌, length, take, replicate, ltb};
 ghost use Rattle.geometry.specs.Geometry.{sector_bytes, pieces_for, used_bytes, geometry_fits, drive_fits, branch_room, folding_branches, most_pieces, commit_blocks, commit_sectors};
 ghost use Rattle.geometry.specs.SizeClasses.{small_sectors};

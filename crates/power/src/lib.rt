@@ -1,2 +1,4 @@
 // How a run of stores under an allowance ends.
+#![tactic(auto)]
+
 pub mod allowance;

@@ -1,5 +1,7 @@
 // A quote: what a write or a drop would do, told before it is made. It is judged and planned by the functions of the commit, and
 // everything is lent shared.
+#![tactic(auto)]
+
 ghost use Rattle.std.specs.Prelude.{◌≡◌, true, not, ◌&&◌, [], ℕ, ◌+◌, ◌*◌, ◌≤◌, ◌<◌, length, ltb};
 ghost use Rattle.geometry.specs.Geometry.{sector_bytes, commit_blocks, pieces_for, used_bytes, geometry_fits, drive_fits};
 ghost use Rattle.layout.specs.Bounded.{at};

@@ -1,4 +1,6 @@
 // What a quote of a commit is: the struct that it is handed back in, its definition, and what is promised of it. There is no code here.
+#![tactic(auto)]
+
 use answer::{Cost, Verdict};
 use geometry::Geometry;
 

@@ -1,4 +1,6 @@
 // The read call: the block that an entry names, restored where it was stored flipped.
+#![tactic(auto)]
+
 ghost use Rattle.std.specs.Prelude.{◌≡◌, cond, ◌≤◌, ◌<◌, length};
 ghost use Rattle.answer.specs.declared.Refusal.TheVariants.{Inconsistent};
 ghost use Rattle.answer.specs.declared.Verdict.TheVariants.{Pass, Refuse};

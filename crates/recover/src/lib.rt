@@ -1,4 +1,6 @@
 // The recover call: the log is found again by a walk from the tail that was parked, or by a scan of all sectors.
+#![tactic(auto)]
+
 ghost use Rattle.std.specs.Prelude.{◌≡◌, true, ◌*◌, ◌/◌, length};
 ghost use Rattle.geometry.specs.Geometry.{sector_bytes, pieces_for, used_bytes, geometry_of, geometry_fits};
 ghost use Rattle.answer.specs.declared.Verdict.TheVariants.{Pass};

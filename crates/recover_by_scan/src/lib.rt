@@ -1,4 +1,6 @@
 // A recovery by a scan, once no refusal stops it.
+#![tactic(auto)]
+
 ghost use Rattle.std.specs.Prelude.{◌≡◌, true, ◌*◌, ◌≤◌, length};
 ghost use Rattle.geometry.specs.Geometry.{sector_bytes, pieces_for, used_bytes, geometry_fits};
 ghost use Rattle.geometry.specs.SizeClasses.{small_sectors};

@@ -1,4 +1,6 @@
 // Once the log is found, by a walk or by a scan, what was not committed is cleared, and the volume runs.
+#![tactic(auto)]
+
 ghost use Rattle.std.specs.Prelude.{◌≡◌, ◌||◌, ◌++◌, ◌*◌, ◌≤◌, length, take};
 ghost use Rattle.geometry.specs.Geometry.{sector_bytes};
 ghost use Rattle.answer.specs.Answer.{stores_alone};

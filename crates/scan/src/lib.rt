@@ -1,4 +1,6 @@
 // The scan: the log as all signed sectors tell it.
+#![tactic(auto)]
+
 ghost use Rattle.std.specs.Prelude.{◌≡◌, true, not, ◌*◌, ◌≤◌, length, replicate};
 ghost use Rattle.geometry.specs.Geometry.{sector_bytes, pieces_for, used_bytes, geometry_fits, most_sectors};
 ghost use Rattle.geometry.specs.SizeClasses.{small_sectors, medium_sectors};

@@ -1,6 +1,8 @@
 // A search for a free sector: along one track, or at every track, position by position. What is used stays used for the rest of a
 // commit, so that the tracks that have nothing free at a position are not looked at there again: all searches of a commit together
 // look at each sector once or twice, and at the positions that pass by.
+#![tactic(auto)]
+
 ghost use Rattle.std.specs.Prelude.{◌≡◌, true, false, cond, ℕ, ◌+◌, ◌*◌, ◌%◌, ◌≤◌, ◌<◌, length, ltb};
 ghost use Rattle.geometry.specs.Geometry.{most_sectors};
 ghost use Rattle.layout.specs.Bounded.{at};

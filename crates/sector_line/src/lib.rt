@@ -1,4 +1,6 @@
 // A line for each sector of an image.
+#![tactic(auto)]
+
 ghost use Rattle.std.specs.Prelude.{◌≡◌, ◌≤◌, ◌<◌, ◌+◌, length};
 ghost use Rattle.geometry.specs.Geometry.{sector_bytes};
 

@@ -1,4 +1,6 @@
 // What a whole commit leaves in the tables. It is called only when everything was stored, so that a cut leaves them as they came.
+#![tactic(auto)]
+
 ghost use Rattle.std.specs.Prelude.{◌≡◌, true, false, cond, not, ◌&&◌, ◌||◌, [], ℕ, suc, ◌+◌, ◌*◌, ◌≤◌, ◌<◌, ◌^◌, length, eqb};
 ghost use Rattle.geometry.specs.Geometry.{pieces_for, used_bytes, geometry_fits};
 ghost use Rattle.layout.specs.Bounded.{at, any_below, count_below, updates};

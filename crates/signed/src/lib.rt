@@ -1,4 +1,6 @@
 // The signed sectors of an image: each sector is read once, and what the signed ones say is listed.
+#![tactic(auto)]
+
 ghost use Rattle.std.specs.Prelude.{◌≡◌, cond, ℕ, ◌*◌, ◌≤◌, ◌<◌, length, set, drop, eqb};
 ghost use Rattle.geometry.specs.Geometry.{sector_bytes, pieces_for, most_sectors, most_pieces};
 ghost use Rattle.layout.specs.Bounded.{at};

@@ -1,4 +1,6 @@
 // Sound tables ("consistent"), as a call checks them before it changes anything.
+#![tactic(auto)]
+
 ghost use Rattle.std.specs.Prelude.{◌≡◌, [], true, ◌&&◌, ℕ, ◌+◌, ◌*◌, ◌≤◌, ◌<◌, length, eqb, leb};
 ghost use Rattle.std.specs.Bool.{beq};
 ghost use Rattle.geometry.specs.Geometry.{most_sectors, pieces_for, used_bytes, geometry_fits, most_blocks, most_pieces, most_used_bytes};

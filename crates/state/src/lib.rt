@@ -1,4 +1,6 @@
 // The state of a volume. It goes into every call by value, and every call hands it back.
+#![tactic(auto)]
+
 ghost use Rattle.std.specs.Prelude.{◌≡◌};
 ghost use Rattle.state.specs.State.{parked_state, cut_state, committed_state, fresh_state, lost_state};
 

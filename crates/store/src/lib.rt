@@ -1,4 +1,6 @@
 // The stores of a commit: data in block order, then the map sectors, under the allowance.
+#![tactic(auto)]
+
 ghost use Rattle.std.specs.Prelude.{◌≡◌, cond, [], ◌∷◌, ◌++◌, ℕ, suc, ◌+◌, ◌*◌, ◌-◌, ◌≤◌, ◌<◌, ◌^◌, length, take, eqb};
 ghost use Rattle.geometry.specs.Geometry.{sector_bytes, branch_room, pieces_for, most_pieces};
 ghost use Rattle.layout.specs.Bounded.{at, always, count_below, is_zero, updated, updates};

@@ -1,4 +1,6 @@
 // The calls that may store, by name: programs choose one here, and pass on what it is lent.
+#![tactic(auto)]
+
 use geometry::Settings;
 use state::{Outcome, State};
 

@@ -1,4 +1,6 @@
 // The targets that a walk reads, and which of them then wait.
+#![tactic(auto)]
+
 ghost use Rattle.std.specs.Prelude.{◌≡◌, true, ◌*◌, ◌<◌, ◌≤◌, length};
 ghost use Rattle.geometry.specs.Geometry.{sector_bytes, pieces_for, most_pieces};
 ghost use Rattle.layout.specs.Bounded.{at};

@@ -1,5 +1,7 @@
 // Keys in falling order without a look at all of them for each: a tournament with an entry for each piece, in which the greater
 // of two goes on. When an entry changes, only its own matches, at most eight, are played anew.
+#![tactic(auto)]
+
 ghost use Rattle.std.specs.Prelude.{◌≡◌, ℕ, ◌+◌, ◌*◌, ◌-◌, ◌/◌, ◌%◌, ◌≤◌, ◌<◌, length, set};
 ghost use Rattle.geometry.specs.Geometry.{most_pieces};
 ghost use Rattle.layout.specs.Bounded.{at, best};

@@ -1,5 +1,7 @@
 // Tries the code against the second implementation and the plain disk, on small volumes: the script on standard input, random histories with the
 // power cut at each store, damaged images and damaged memory. The numbers are the same in every run.
+#![tactic(auto)]
+
 mod backlogs;
 mod both;
 mod both_batches;

@@ -1,4 +1,6 @@
 // The trial: its words on the board, the generator, what stands there before a call and what is counted after it.
+#![tactic(auto)]
+
 pub mod backlog;
 pub mod cells;
 pub mod chance;

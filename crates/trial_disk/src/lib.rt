@@ -1,4 +1,6 @@
 // The plain disk: a seed for each block, which stands for its bytes. Seed 0 is a block of zeros.
+#![tactic(auto)]
+
 use reference_board::board;
 use trial_board::cells;
 

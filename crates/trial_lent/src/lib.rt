@@ -1,4 +1,6 @@
 // What the code is lent is made from the board, and what it leaves is held to what stands there afterwards.
+#![tactic(auto)]
+
 ghost use Rattle.std.specs.Prelude.{◌≤◌};
 
 use geometry::{Drive, Geometry, Settings};

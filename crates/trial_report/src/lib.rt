@@ -1,4 +1,6 @@
 // One line a family: what was run, how often, and the first difference if there is one.
+#![tactic(auto)]
+
 use paper::tokens;
 use reference_board::board;
 use trial_board::cells;

@@ -1,4 +1,6 @@
 // What a line of a script does. Calls, and what a volume shows, are carried out elsewhere.
+#![tactic(auto)]
+
 pub mod cell;
 pub mod form;
 pub mod parts;

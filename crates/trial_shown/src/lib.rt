@@ -1,4 +1,6 @@
 // What the code reads of a volume, held to the plain disk.
+#![tactic(auto)]
+
 use paper::tokens;
 use reference_board::board;
 use state::State;

@@ -1,4 +1,6 @@
 // The refusals of a commit.
+#![tactic(auto)]
+
 ghost use Rattle.std.specs.Prelude.{◌≡◌, true, not, [], ◌+◌, ◌≤◌, length, ltb};
 ghost use Rattle.geometry.specs.Geometry.{pieces_for, commit_blocks};
 ghost use Rattle.answer.specs.Answer.{standing};

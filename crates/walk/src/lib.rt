@@ -1,4 +1,6 @@
 // The walk: the log as it is found from its tail.
+#![tactic(auto)]
+
 ghost use Rattle.std.specs.Prelude.{◌≡◌, true, not, ℕ, ◌+◌, ◌*◌, ◌≤◌, ◌<◌, length};
 ghost use Rattle.geometry.specs.Geometry.{sector_bytes, pieces_for, used_bytes, geometry_fits, entries_per_piece, branch_room, most_pieces};
 ghost use Rattle.layout.specs.Bounded.{at, all_below, list_from, is_zero};

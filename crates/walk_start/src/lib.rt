@@ -1,4 +1,6 @@
 // Where a walk starts: the park record, and the tail that it names.
+#![tactic(auto)]
+
 ghost use Rattle.std.specs.Prelude.{◌≡◌, ◌*◌, ◌≤◌, ◌<◌, length};
 ghost use Rattle.geometry.specs.Geometry.{sector_bytes};
 ghost use Rattle.layout.specs.ParkRecord.{parked_in};

@@ -1,4 +1,6 @@
 // The steps of a walk from its tail.
+#![tactic(auto)]
+
 ghost use Rattle.std.specs.Prelude.{◌≡◌, true, ◌*◌, ◌≤◌, ◌<◌, length, replicate};
 ghost use Rattle.geometry.specs.Geometry.{sector_bytes, pieces_for, geometry_fits};
 ghost use Rattle.layout.specs.Bounded.{best, list_from};

@@ -1,4 +1,6 @@
 // The write and drop calls: each is one commit.
+#![tactic(auto)]
+
 ghost use Rattle.std.specs.Prelude.{◌≡◌, true, not, ◌+◌, ◌*◌, length, eqb, ltb};
 ghost use Rattle.geometry.specs.Geometry.{sector_bytes, pieces_for};
 ghost use Rattle.volume.specs.Tables.{bit_at, memory, free_sectors};
