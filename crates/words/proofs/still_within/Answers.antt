@@ -3,8 +3,7 @@ use Rattle.std.proofs.Common.{◌≡◌, ℕ, ◌+◌, ◌%◌, ◌<◌, ◌≤�
 use Rattle.geometry.specs.Geometry.{within}
 use Rattle.laws.proofs.Bounded.{lt?}
 use Rattle.laws.proofs.Lists.{within_below, within_above, within_both}
-use Rattle.words.proofs.still_within.Statement.{statement}
-use Rattle.words.proofs.still_within.Tie as tie
+use Rattle.words.proofs.still_within.Goals as goal
 
 neither : (a b : Bool) → b ≡ false → false ≡ (a && b)
 neither true b e = sym e
@@ -20,26 +19,10 @@ outside low high span w r e small less f h most =
     ⊎_elim (λ (z : w < low). within_below low high w z)
     (λ (z : low ≤ w). within_above low high w z (let past : high < w = omega arith in past)) (lt? w low)
 
-wrapping-sub-u32-requires : tie.Need-wrapping-sub-u32-requires
-wrapping-sub-u32-requires c κs = search rules
+pub returns-then-span-wrapping_sub_u32 : goal.returns-then-span-wrapping_sub_u32
+returns-then-span-wrapping_sub_u32 c =
+    neither c.args.good _ (outside c.args.low c.args.high c.args.span c.args.w c.wrapping_sub_u32.result c.requires.span_value (omega arith) (omega arith) c.wrapping_sub_u32.ensures.value c.if-span-wrapping_sub_u32.true c.requires.high_bound)
 
-returns : tie.Need-returns
+pub returns : goal.returns
 returns c =
-    let a = c.before.before.args in
-    let p = c.before.before.requires in
-    let r = c.before.wrapping-sub-u32 in
-    neither a.good _ (outside a.low a.high a.span a.w r.result p.0 (omega arith) (omega arith) r.ensures c.if1.true p.1)
-
-returns-2 : tie.Need-returns-2
-returns-2 c =
-    let a = c.before.before.args in
-    let p = c.before.before.requires in
-    let r = c.before.wrapping-sub-u32 in
-    let e = p.0 in
-    let most = p.1 in
-    let f = r.ensures in
-    let t = c.if1.false in
-    alone a.good _ (within_both a.low a.high a.w (omega arith) (omega arith))
-
-pub still-within-spec : {M : Type 1} → statement M
-still-within-spec = tie.close (tie.spec wrapping-sub-u32-requires returns returns-2)
+    alone c.args.good _ (within_both c.args.low c.args.high c.args.w (omega arith) (omega arith))

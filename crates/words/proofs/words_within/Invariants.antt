@@ -1,0 +1,15 @@
+-- What was well so far and what is left are the whole.
+use Rattle.std.proofs.Common.{◌≡◌, ◌-◌, ◌≤◌, ◌&&◌, length, refl, arith, rules}
+use lib.Seq.{slice}
+use Rattle.geometry.specs.Geometry.{within}
+use Rattle.layout.specs.Bounded.{all}
+use Rattle.layout.specs.Word.{words_of}
+use Rattle.laws.proofs.Words.{length_words_of}
+use Rattle.words.proofs.Gathering.{gathered_more, gathered_all}
+use Rattle.words.proofs.words_within.Given as goal
+
+abbrev pub invariant-loop-k : goal.invariant-loop-k
+invariant-loop-k l = (l.k ≤ l.end) × (all (within l.low l.high) (slice l.from l.end (words_of l.s)) ≡ (l.good && all (within l.low l.high) (slice l.k l.end (words_of l.s))))
+
+abbrev pub decreases-loop-k : goal.decreases-loop-k
+decreases-loop-k l = l.end - l.k
