@@ -1,0 +1,18 @@
+-- The branches below i fit.
+use Prim.Native.Nat.{ℕ, ◌-◌, ◌≤◌}
+use mathlib.Core.Path.{◌≡◌, sym, ap, ◌∙◌}
+use mathlib.Core.Bool.{Bool, ◌&&◌}
+use native.Mathlib.Omega.{arith}
+use borrow.Author.Rules.{rules}
+use Rattle.layout.specs.Bounded.{at, all_below}
+use Rattle.layout.specs.Word.{words_of}
+use Rattle.layout.specs.MapSector.{branch_words, branches_fit}
+use Rattle.map_sector.specs.Header.{branch_fits}
+use Rattle.map_sector.proofs.Branches.{branch_room_lem, each_none, each_next, each_branch}
+use Rattle.map_sector.proofs.branches_fit.Given as goal
+
+abbrev pub invariant-loop-i : goal.invariant-loop-i
+invariant-loop-i l = (l.i ≤ 24) × (l.good ≡ all_below (λ k. branch_fits l.n l.count k (at (branch_words (words_of l.s)) k)) l.i)
+
+abbrev pub decreases-loop-i : goal.decreases-loop-i
+decreases-loop-i l = 24 - l.i
