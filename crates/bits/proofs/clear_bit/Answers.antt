@@ -1,11 +1,7 @@
--- One bit of one byte changes, by the law bit-clear.
-use Prim.Native.Nat.{◌/◌}
+-- One bit of one byte changes, by the law bit_clear.
 use native.Mathlib.Omega.{arith}
 use Rattle.bits.proofs.BitLaws.{bit_clear}
-use borrow.Author.Rules.{rules}
 use Rattle.bits.proofs.clear_bit.Goals as goal
 
 pub returns : goal.returns
-returns c =
-    let b = c.type_inv.used (c.args.k / 8) in
-    bit_clear c.args.used.now c.args.k c.requires (omega arith)
+returns c = bit_clear c.args.used.now c.args.k c.requires (omega arith)

@@ -1,3 +1,4 @@
+use mathlib.Core.Bool.{not}
 -- What is counted at k is the number of free sectors below k, from the last whole word on.
 use Prim.Native.Nat.{ℕ, ◌+◌, ◌-◌, ◌/◌, ◌≤◌}
 use mathlib.Core.Path.{◌≡◌, ◌∙◌, ap}
@@ -6,6 +7,7 @@ use native.Mathlib.Omega.{arith}
 use Rattle.volume.specs.Tables.{bit_at, free_sectors}
 use Rattle.bits.proofs.BitLaws.{free_le, free_hit, free_miss}
 use Rattle.bits.proofs.WordLaws.{free_words}
+use Rattle.bits.proofs.count_free.Goals.{then-not-is_set, else-not-is_set}
 use Rattle.bits.proofs.count_free.Goals as goal
 
 pub count_words-requires : goal.count_words-requires
@@ -30,8 +32,7 @@ overflow_add-free c =
 pub loop-k-preserved : goal.loop-k-preserved
 loop-k-preserved c = (
   omega arith,
-  ⊎_elim (λ w. w.1 ∙ ap (λ (x : ℕ). x + 1) c.loop-k.invariant.1 ∙ free_hit c.loop-k.k c.args.used.now c.is_set.result c.is_set.ensures w.0.taken)
-      (λ w. w.1 ∙ c.loop-k.invariant.1 ∙ free_miss c.loop-k.k c.args.used.now c.is_set.result c.is_set.ensures w.0.left) c.if-not-is_set.branch,
+  elim c.if-not-is_set.branch [ then-not-is_set w ↦ w.free-is ∙ ap (λ (x : ℕ). x + 1) c.loop-k.invariant.1 ∙ free_hit c.loop-k.k c.args.used.now c.is_set.result c.is_set.ensures (ap not w.if-not-is_set.true) | else-not-is_set w ↦ w.free-is ∙ c.loop-k.invariant.1 ∙ free_miss c.loop-k.k c.args.used.now c.is_set.result c.is_set.ensures (ap not w.if-not-is_set.false) ],
 )
 
 pub returns : goal.returns

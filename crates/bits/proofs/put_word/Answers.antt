@@ -16,10 +16,6 @@ pub loop-i-preserved : goal.loop-i-preserved
 loop-i-preserved c =
     (omega arith, simp length-set c.loop-i.invariant.1, part_more c.loop-i.used c.args.w c.args.x c.loop-i.i _ (bit_at c.args.used.now) c.loop-i-test.true (omega arith) refl c.loop-i.invariant.2)
 
-pub shape_of-used : goal.shape_of-used
-shape_of-used c =
-    c.loop-i.invariant.1
-
 pub returns : goal.returns
 returns c =
     c.loop-i.invariant.2 ∙ part_all c.args.w c.args.x c.loop-i.i (bit_at c.args.used.now) (omega arith)
