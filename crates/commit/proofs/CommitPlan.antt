@@ -19,7 +19,7 @@ use Rattle.volume.specs.Tables.{Memory, bit_at, memory, sector_at, tables_of, us
 use Rattle.volume.specs.Store.{stores_below, Action, performed}
 use Rattle.tracks.specs.Placing.{least_delay, place_of}
 use Rattle.volume.specs.Rules.{base}
-use Rattle.volume.specs.Commit.{Plan, touches, planned, rank, member_place, changed_entries, committed_tables, member, data_store, member_store, commit_stores, bill, plan_action, commit_action}
+use Rattle.volume.specs.Commit.{Plan, touches, branches_for, planned, rank, member_place, changed_entries, committed_tables, member, data_store, member_store, commit_stores, bill, plan_action, commit_action}
 use Rattle.answer.specs.declared.Verdict.TheVariants.{Pass}
 use Rattle.volume.specs.Refusals.{judged}
 use Rattle.volume.specs.Calls.{view_of, commit_checks, write_change, drop_change}
@@ -32,7 +32,7 @@ use Rattle.laws.proofs.Stores.{below_length}
 use Rattle.power.specs.Power.{made}
 use Rattle.power.proofs.Performing.{performed_cost}
 use Rattle.pieces.specs.Arrays.{flagged, plan_of, change_of, Settling, Planning}
-use Rattle.plan.proofs.PlanLaws.{plan_any}
+use Rattle.plan.proofs.PlanLaws.{listing_any}
 use Rattle.commit.specs.Commit.{change_with, change_by}
 use Rattle.verdict.proofs.CommitChecks.{Passed, passed}
 use Rattle.commit.proofs.CommitLaws.{action_plan, action_change}
@@ -104,8 +104,8 @@ module _ (s : State) (im mp pl nu us : List ℕ) (head : ℕ) (blocks : List ℕ
       let least = fit.least in
       (sound s.geometry (tables_of mp pl nu us) s.tail s.number p.sound_tables).used 0 (omega arith)
 
-  module _ (fold : Bool) (first members : ℕ) (bs written taken ts : List ℕ) (skipped allowance : ℕ)
-      (g : Planning the_plan fold first members bs written count taken skipped allowance) (slice : ts ≡ take (count + members) taken) where
+  module _ (first members : ℕ) (bs written taken ts : List ℕ) (skipped allowance : ℕ)
+      (g : Planning the_plan first members bs written count taken skipped allowance) (slice : ts ≡ take (count + members) taken) where
     pub some_members : 1 ≤ members
     some_members = let e = g.members_are in let h = members_some in omega arith
 
@@ -211,6 +211,16 @@ module _ (s : State) (im mp pl nu us : List ℕ) (head : ℕ) (blocks : List ℕ
       pub members_counted : members ≡ count_below (flagged written) (pieces_for s.geometry.l)
       members_counted = g.members_are ∙ members_are ∙ ap (λ (f : ℕ → Bool). count_below f (pieces_for s.geometry.l)) (sym g.written_are)
 
+      -- The same plan of the tables with their map, and of the change itself.
+      branches_any : branches_for s.geometry.l (tables_of [] pl nu us) view s.number blocks ≡ branches_for s.geometry.l (tables_of mp pl nu us) view s.number blocks
+      unfolding branches_for
+      branches_any = listing_any (pieces_for s.geometry.l) [] mp pl nu us us view _ (pieces_for s.geometry.l) (suc s.number) (λ _. false)
+
+      plan_any : (content : ℕ → List ℕ) (entry : ℕ → ℕ → ℕ)
+          → the_plan ≡ planned base s (tables_of mp pl nu us) view head (record { blocks = blocks; data_sectors = count; content = content; entry = entry })
+      unfolding planned
+      plan_any content entry = rw branches_any refl
+
       -- The plan in the arrays, with what is skipped for every number of stores.
       abbrev billed : Plan
       billed =
@@ -234,7 +244,7 @@ module _ (s : State) (im mp pl nu us : List ℕ) (head : ℕ) (blocks : List ℕ
           action_plan s (tables_of mp pl nu us) the_plan (change_with blocks bytes news count) (take first bs) (flagged written) members count ts g.branches_are g.written_are g.members_are data_are here
           ∙ action_change s (tables_of mp pl nu us) the_plan blocks count (λ i. stored (sector_at bytes i)) content (λ i _. at news i) entry same
           (λ i h. new i h ∙ ap (λ (xs : List ℕ). entry i (at xs i)) here)
-          ∙ ap (λ (q : Plan). plan_action s (tables_of mp pl nu us) q (record { blocks = blocks; data_sectors = count; content = content; entry = entry })) (plan_any s mp pl nu us view head (record { blocks = blocks; data_sectors = count; content = content; entry = entry }))
+          ∙ ap (λ (q : Plan). plan_action s (tables_of mp pl nu us) q (record { blocks = blocks; data_sectors = count; content = content; entry = entry })) (plan_any content entry)
 
       commit_action_lem : plan_action s (tables_of mp pl nu us) billed (change_with blocks bytes news count)
           ≡ commit_action base s (tables_of mp pl nu us) view head (change_by blocks bytes count)

@@ -16,7 +16,7 @@ use wording::backlog;
 const ANSWERS: usize = gather::COMMITS as usize * ANSWER_WORDS;
 
 // The desk after a line, or after the backlog that it begins, and the reader at the line that is next.
-#[derive(Drop)]
+#[derive(Clone, Copy)]
 pub struct Turn {
     pub desk: Desk,
     pub reader: Reader,

@@ -12,14 +12,14 @@ use state::State;
 use wording::say;
 
 // Whose lines come next.
-#[derive(Drop)]
+#[derive(Clone, Copy)]
 pub enum Lines {
     Calls,
     // The commits of a backlog, which may make so many stores.
     Backlog(u32),
 }
 
-#[derive(Drop)]
+#[derive(Clone, Copy)]
 pub struct Desk {
     pub state: State,
     // The drive that the volume was formatted for: what a recover is not given is taken from it.

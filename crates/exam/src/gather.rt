@@ -23,7 +23,7 @@ pub const BYTES: usize = BLOCKS * Geometry::SECTOR;
 // The bytes of the most blocks of a line.
 const LINE_BYTES: usize = request::MOST * Geometry::SECTOR;
 
-#[derive(Drop)]
+#[derive(Clone, Copy)]
 pub enum Stage {
     // Its end is still to come.
     Open,
@@ -32,7 +32,7 @@ pub enum Stage {
     Broken,
 }
 
-#[derive(Drop)]
+#[derive(Clone, Copy)]
 pub struct Gathered {
     // The commits, and where their block numbers and their bytes end.
     pub commits: u32,
@@ -44,7 +44,7 @@ pub struct Gathered {
 }
 
 // What was gathered, and where the reader stands after it.
-#[derive(Drop)]
+#[derive(Clone, Copy)]
 pub struct Gathering {
     pub gathered: Gathered,
     pub reader: Reader,

@@ -5,7 +5,7 @@ use paper::keywords::Keywords;
 use paper::request::Request;
 use paper::tokens::Number;
 
-#[derive(Drop)]
+#[derive(Clone, Copy)]
 pub struct Given {
     pub size: Geometry,
     pub drive: Drive,

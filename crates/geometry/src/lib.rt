@@ -6,7 +6,7 @@ ghost use Rattle.std.specs.Prelude.{◌≡◌};
 ghost use Rattle.geometry.specs.Geometry.{pieces_for, piece_of, index_of, used_bytes, geometry_of, settings_of, geometry_fits, drive_fits};
 
 // N sectors, of which the host sees L blocks through a map of P pieces.
-#[derive(Drop)]
+#[derive(Clone, Copy)]
 pub struct Geometry {
     pub n: u32,
     pub l: u32,
@@ -14,7 +14,7 @@ pub struct Geometry {
 
 // What the disk is made of: the sectors a track, the tracks, and how many sectors pass by while the head changes to another
 // track. It decides where a commit's sectors go, and nothing else.
-#[derive(Drop)]
+#[derive(Clone, Copy)]
 pub struct Drive {
     pub sectors: u32,
     pub tracks: u32,
@@ -22,7 +22,7 @@ pub struct Drive {
 }
 
 // What a format or a recovery is given. N comes from the image.
-#[derive(Drop)]
+#[derive(Clone, Copy)]
 pub struct Settings {
     pub l: u32,
     pub drive: Drive,

@@ -14,7 +14,7 @@ pub const LINE: usize = 262_144;
 pub const WINDOW: usize = 2 * LINE;
 
 // The line that is next begins at `from`; no newline stands between there and `sought`; what was read ends at `filled`.
-#[derive(Drop)]
+#[derive(Clone, Copy)]
 pub struct Reader {
     pub from: usize,
     pub sought: usize,
@@ -25,7 +25,7 @@ pub struct Reader {
 }
 
 // What is known of the line that is next.
-#[derive(Drop)]
+#[derive(Clone, Copy)]
 pub enum Standing {
     // It is in the window, up to `sought`.
     Whole,

@@ -85,7 +85,7 @@ fn reach(reached: &mut [u8], places: &[u32], numbers: &[u32], p: u32, b: u32, bo
 }
 
 // The newest candidate and its number; number 0: none is left.
-#[derive(Drop)]
+#[derive(Clone, Copy)]
 struct Newest {
     piece: usize,
     number: u32,

@@ -12,7 +12,7 @@ ghost use Rattle.names.specs.Marked.{with_entries, marked};
 use geometry::Geometry;
 
 // Whether every named sector is one from 1 to n - 1, and then how many names there are.
-#[derive(Drop)]
+#[derive(Clone, Copy)]
 pub struct Names {
     pub inside: bool,
     pub count: u32,

@@ -27,7 +27,7 @@ pub record Live (g : Geometry) (image : ℕ → List ℕ) (place : ℕ → ℕ) 
   pub piece : (q : ℕ) → q < pieces → at (words_of (image (place q))) 4 ≡ q
 
 -- The plan: the first member's branches, the flags of the pieces written, the counts, the sectors taken, and how many sectors
--- were skipped for those of them that are stored. What is carried out does not ask whether it folds.
+-- were skipped for those of them that are stored. Whether it folds is not asked any more.
 abbrev pub plan_of : List ℕ → List ℕ → ℕ → ℕ → List ℕ → ℕ → Plan
 plan_of branches written members data_sectors places skipped =
     record {
@@ -72,8 +72,7 @@ pub record Settling (g : Geometry) (number : ℕ) (blocks entries taken : List �
   pub numbers : number + count_below (flagged written) (pieces_for g.l) < 2 ^ 32
 
 -- The plan, as it stands in the arrays; so many stores are allowed.
-pub record Planning (plan : Plan) (fold : Bool) (count members : ℕ) (branches written : List ℕ) (data_sectors : ℕ) (taken : List ℕ) (skipped allowance : ℕ) : Type 0 where
-  pub fold_is : fold ≡ plan.fold
+pub record Planning (plan : Plan) (count members : ℕ) (branches written : List ℕ) (data_sectors : ℕ) (taken : List ℕ) (skipped allowance : ℕ) : Type 0 where
   pub members_are : members ≡ plan.members
   pub branches_are : take count branches ≡ plan.branches
   pub few : count ≤ branch_room

@@ -20,7 +20,7 @@ pub const KEPT_POSITIONS: usize = 8_192;
 pub const SMALL_KEPT_POSITIONS: usize = 512;
 
 // What a search gives: the free sector, the delay to it, and the first sector of its track.
-#[derive(Drop)]
+#[derive(Clone, Copy)]
 struct Found {
     sector: u32,
     skipped: u32,

@@ -11,7 +11,7 @@ use state::{BatchOutcome, Outcome, Phase, State};
 
 // A volume's state. The phase is 0 running, 1 parked, 2 cut.
 #[repr(C)]
-#[derive(Drop)]
+#[derive(Clone, Copy)]
 pub struct CState {
     pub n: u32,
     pub l: u32,
@@ -25,7 +25,7 @@ pub struct CState {
 
 // What a format or a recovery is given.
 #[repr(C)]
-#[derive(Drop)]
+#[derive(Clone, Copy)]
 pub struct CSettings {
     pub l: u32,
     pub per_track: u32,
@@ -36,7 +36,7 @@ pub struct CSettings {
 // What a call hands back: its answer (0, or the number of the refusal), the stores it made and the sum of the delays to their
 // places, how a recovery found the log (1 walk, 2 scan) and the sectors it read, and the state.
 #[repr(C)]
-#[derive(Drop)]
+#[derive(Clone, Copy)]
 pub struct CResult {
     pub answer: u32,
     pub stores: u32,
@@ -56,7 +56,7 @@ pub struct CResult {
 // What a batch hands back: the refusal of the call as a whole, or 0; how many commits were answered and what they cost together;
 // and the state after the last of them.
 #[repr(C)]
-#[derive(Drop)]
+#[derive(Clone, Copy)]
 pub struct CBatchResult {
     pub answer: u32,
     pub answered: u32,

@@ -20,7 +20,7 @@ use Rattle.volume.specs.Tables.{bit_at, tables_of}
 use Rattle.tracks.specs.Placing.{Choice, least_delay, place_of, skipped_by}
 use Rattle.volume.specs.Rules.{base}
 use Rattle.power.specs.Power.{made}
-use Rattle.volume.specs.Commit.{Change, touches, older_key, listing, branches_for, planned}
+use Rattle.volume.specs.Commit.{touches, older_key, listing, branches_for, planned}
 use Rattle.laws.proofs.Bounded.{bool?, lt?, clash, tabled_at, tabled_past, list_from_at, length_list_from, any_below_none, count_le}
 use Rattle.pieces.specs.Arrays.{flagged, unflagged, change_of, Live, Planning}
 use Rattle.plan.specs.Untouched.{Untouched}
@@ -53,13 +53,6 @@ pub listing_any : (pieces : ℕ) (mp mp' pl nu us us' : List ℕ) (view : View) 
 unfolding listing older_key
 listing_any pieces mp mp' pl nu us us' view remaining zero bound reached = refl
 listing_any pieces mp mp' pl nu us us' view remaining (suc steps) bound reached = rw (listing_any pieces mp mp' pl nu us us' view remaining steps _ _) refl
-
--- So the plan looks at no entry of the map; and of the change it looks at the named blocks and at how many data sectors there are.
-pub plan_any : (s : State) (mp pl nu us : List ℕ) (view : View) (head : ℕ) (change : Change)
-    → planned base s (tables_of [] pl nu us) view head (change_of change.blocks [] change.data_sectors) ≡ planned base s (tables_of mp pl nu us) view head change
-unfolding planned branches_for
-plan_any s mp pl nu us view head change =
-    rw (listing_any (pieces_for s.geometry.l) [] mp pl nu us us view (tabled false (pieces_for s.geometry.l) (λ q. not (touches change.blocks q))) (pieces_for s.geometry.l) (suc s.number) (λ _. false)) refl
 
 -- A list of which the first 25 are known, by their count.
 module _ (bs xs : List ℕ) (r : ℕ) (same : take r bs ≡ take 25 xs) (few : r ≤ 25) (room : length bs ≡ 25) where
@@ -140,12 +133,12 @@ module _ (s : State) (pl nu us blocks : List ℕ) (view : View) (head count : �
   few_after false e f =
       ⊎_elim (λ (h : 24 < listed). clash (ltb 24 listed) (lt-ltb 24 listed h) (sym e)) (λ (h : listed ≤ 24). omega arith) (lt? 24 listed)
 
-  pub planning : (fold : Bool) (skipped allowance : ℕ) → fold ≡ ltb 24 listed → members ≡ count_below (flagged written) pieces
+  pub planning : (skipped allowance : ℕ) → members ≡ count_below (flagged written) pieces
       → take (count + members) taken ≡ list_from (place_of (least_delay s.drive) s.geometry.n (bit_at us) head) 0 (count + members)
       → skipped ≡ skipped_by (least_delay s.drive) s.geometry.n (bit_at us) head (made (count + members) allowance)
-      → Planning (planned base s (tables_of [] pl nu us) view head (change_of blocks [] count)) fold first members bs written count taken skipped allowance
+      → Planning (planned base s (tables_of [] pl nu us) view head (change_of blocks [] count)) first members bs written count taken skipped allowance
   unfolding planned
-  planning fold skipped allowance f m t k =
+  planning skipped allowance m t k =
       let alike = folds_alike bs whole listed same_list untouched.most untouched.room in
       let flags = flags_after (ltb 24 (length whole))
       (written_is ∙ ap (λ (b : Bool). cond b (λ q. ltb q pieces || flagged touched q) (flagged touched)) alike
@@ -153,7 +146,6 @@ module _ (s : State) (pl nu us blocks : List ℕ) (view : View) (head count : �
       let counted : members ≡ count_below (tabled false (pieces_for s.geometry.l) (λ q. ltb 24 (length whole) || touches blocks q)) (pieces_for s.geometry.l)
       = m ∙ ap (count_below (flagged written)) pieces-is ∙ ap (λ (f : ℕ → Bool). count_below f (pieces_for s.geometry.l)) flags in
       record {
-        fold_is = f ∙ alike;
         members_are = counted;
         branches_are = branches_after (ltb 24 (length whole)) refl (first-is ∙ ap (λ (b : Bool). cond b 0 listed) alike);
         few = few_after (ltb 24 listed) refl first-is;

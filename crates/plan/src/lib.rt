@@ -19,16 +19,15 @@ use geometry::{Drive, Geometry};
 use state::State;
 
 // How many branches the first member has, and how many members there are.
-#[derive(Drop)]
+#[derive(Clone, Copy)]
 struct Sizes {
     branches: usize,
     members: u32,
 }
 
-// The same, whether it folds, and the sum of the delays to the sectors that will be stored.
-#[derive(Drop)]
+// The same, and the sum of the delays to the sectors that will be stored.
+#[derive(Clone, Copy)]
 pub struct Planned {
-    pub fold: bool,
     pub branches: usize,
     pub members: u32,
     pub skipped: u32,
@@ -305,7 +304,7 @@ pub fn plan(
     requires written_value { written.old ≡ replicate most_pieces 0 }
     requires branches_len { length branches.old ≡ folding_branches }
     requires taken_len { length taken.old ≡ commit_sectors }
-    ensures { Planning (planned base s (tables_of [] places.now numbers.now used.now) (view_of s.geometry (sector_at image.now)) head (change_of blocks.now [] count)) result.fold result.branches result.members branches.new written.new count taken.new result.skipped allowance }
+    ensures { Planning (planned base s (tables_of [] places.now numbers.now used.now) (view_of s.geometry (sector_at image.now)) head (change_of blocks.now [] count)) result.branches result.members branches.new written.new count taken.new result.skipped allowance }
 {
     let g = s.geometry;
     let listed = list_untouched(s, image, places, numbers, blocks, written, branches);
@@ -313,7 +312,6 @@ pub fn plan(
     let total = (count + sizes.members) as usize;
     let skipped = take_sectors(used, g, s.drive, head, total, taken, allowance);
     Planned {
-        fold: Geometry::BRANCH_ROOM < listed,
         branches: sizes.branches,
         members: sizes.members,
         skipped,

@@ -6,7 +6,7 @@ use geometry::Geometry;
 
 // The refusal of the commit; or what it would cost, the sectors that it would take, in the order of its stores, the branches that its
 // first member would list, and whether it would fold. There are as many sectors as stores; what is past the counts is zeros.
-#[derive(Drop)]
+#[derive(Clone, Copy)]
 pub struct Quote {
     pub verdict: Verdict,
     pub cost: Cost,

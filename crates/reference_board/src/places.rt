@@ -2,7 +2,7 @@
 use crate::{board, consistent};
 
 // A free sector, and how long it is until it comes under the head. Sector 0, which is never free, stands for none.
-#[derive(Drop)]
+#[derive(Clone, Copy)]
 struct Found {
     sector: u32,
     delay: u32,

@@ -15,7 +15,7 @@ use geometry::Geometry;
 use log_tables::{agrees, fill_map, live};
 use signed::Signed;
 
-#[derive(Drop)]
+#[derive(Clone, Copy)]
 pub enum Found {
     // The tail, and its number.
     Log { tail: u32, number: u32 },

@@ -13,7 +13,7 @@ ghost use Rattle.searching.specs.Searching.{turned, AllPassed, UsedAt, LowestFre
 const ALL_TRACKS: u8 = 255;
 
 // How far a search went: the sector where it ended, and the positions that it passed.
-#[derive(Drop)]
+#[derive(Clone, Copy)]
 pub struct Reached {
     pub sector: u32,
     pub skipped: u32,

@@ -13,7 +13,7 @@ use geometry::Geometry;
 
 // What was read of an image: where the list of its signed sectors begins, and the newest closing one with its number, 0 where there
 // is none.
-#[derive(Drop)]
+#[derive(Clone, Copy)]
 pub struct Signed {
     pub from: usize,
     pub tail: u32,

@@ -7,7 +7,7 @@ ghost use Rattle.state.specs.State.{parked_state, cut_state, committed_state, fr
 use answer::{Answer, Cost, Verdict};
 use geometry::{Drive, Geometry};
 
-#[derive(Drop)]
+#[derive(Clone, Copy)]
 pub enum Phase {
     Running,
     Parked,
@@ -15,7 +15,7 @@ pub enum Phase {
     Cut,
 }
 
-#[derive(Drop)]
+#[derive(Clone, Copy)]
 pub struct State {
     pub geometry: Geometry,
     // The sector of the newest closed commit's closing map sector, and its number.
@@ -97,7 +97,7 @@ impl State {
 }
 
 // What a call hands back.
-#[derive(Drop)]
+#[derive(Clone, Copy)]
 pub struct Outcome {
     pub answer: Answer,
     pub state: State,
@@ -105,7 +105,7 @@ pub struct Outcome {
 
 // What a batch of commits hands back: the verdict on the call as a whole, how many commits were answered, what they cost together,
 // and the state after the last of them.
-#[derive(Drop)]
+#[derive(Clone, Copy)]
 pub struct BatchOutcome {
     pub verdict: Verdict,
     pub answered: u32,

@@ -4,7 +4,7 @@
 use geometry::Settings;
 use state::{Outcome, State};
 
-#[derive(Drop)]
+#[derive(Clone, Copy)]
 pub enum Storing {
     Format,
     Write,

@@ -192,15 +192,3 @@ passed s im mp pl nu us head blocks count e =
       room = ltb-false free (count + p) (not_of (ltb free (count + p)) all.room);
       few = all.numbers;
     }
-
--- A drop needs no room of its own: where the tables are sound, P sectors are free.
-pub drop_room : (s : State) (im mp pl nu us : List ℕ) (head : ℕ) (blocks : List ℕ) (fit : Bool)
-    → judged (commit_checks base s (memory im mp pl nu us) head blocks fit (not (ltb (free_sectors s.geometry.n (bit_at us)) (0 + pieces_for s.geometry.l))))
-    ≡ judged (commit_checks base s (memory im mp pl nu us) head blocks fit true)
-unfolding commit_checks judged first_of applies tables_agree memory
-drop_room s im mp pl nu us head blocks fit =
-    ⊎_elim (λ (e : consistent s.geometry (tables_of mp pl nu us) s.tail s.number ≡ true).
-    let room = (sound s.geometry (tables_of mp pl nu us) s.tail s.number e).room in
-    rw (le-ltb (free_sectors s.geometry.n (bit_at us)) (0 + pieces_for s.geometry.l) (omega arith)) refl)
-    (λ (e : consistent s.geometry (tables_of mp pl nu us) s.tail s.number ≡ false). rw e refl)
-    (bool? (consistent s.geometry (tables_of mp pl nu us) s.tail s.number))

@@ -10,7 +10,7 @@ ghost use Rattle.walk_start.specs.Starting.{start_of};
 
 use geometry::Geometry;
 
-#[derive(Drop)]
+#[derive(Clone, Copy)]
 pub enum Start {
     // The tail, and its number.
     Tail { tail: u32, number: u32 },

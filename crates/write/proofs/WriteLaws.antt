@@ -1,12 +1,13 @@
 -- Write and drop: the refusals, and what the commit leaves.
 use Prim.Native.Nat.{ℕ, ◌+◌, ◌*◌, ◌≤◌}
-use mathlib.Core.Path.{◌≡◌, sym, ◌∙◌, ap}
-use mathlib.Core.Bool.{Bool, true, not}
+use mathlib.Core.Path.{◌≡◌, refl, sym, ◌∙◌, ap}
+use mathlib.Core.Logic.{⊎_elim}
+use mathlib.Core.Bool.{Bool, true, false, not}
 use mathlib.Core.List.{List}
 use native.Mathlib.Omega.{arith}
 use lib.ListN.{length}
 use lib.Dec.{eqb, ltb}
-use borrow.Author.Tests.{eqb-true, ne_eqb}
+use borrow.Author.Tests.{eqb-true, ne_eqb, le-ltb}
 use Rattle.state.specs.declared.State.{State}
 use Rattle.answer.specs.declared.Refusal.{Refusal}
 use Rattle.answer.specs.declared.Answer.TheVariants.{Refused}
@@ -14,16 +15,17 @@ use Rattle.answer.specs.declared.Verdict.{Verdict}
 use Rattle.answer.specs.declared.Verdict.TheVariants.{Pass, Refuse}
 use Rattle.geometry.specs.Geometry.{pieces_for}
 use Rattle.layout.specs.Bounded.{is_zero}
-use Rattle.volume.specs.Tables.{Memory, memory, bit_at, sector_at, tables_of, free_sectors}
-use Rattle.volume.specs.Refusals.{judged}
+use Rattle.volume.specs.Tables.{Memory, memory, bit_at, sector_at, tables_of, free_sectors, consistent}
+use Rattle.volume.specs.Refusals.{applies, first_of, judged}
 use Rattle.volume.specs.Store.{After, after, performed, unless_refused}
 use Rattle.volume.specs.Rules.{base}
 use Rattle.volume.specs.Commit.{Change, commit_action}
-use Rattle.volume.specs.Calls.{view_of, commit_checks, commit_of, write_change, drop_change, room_for, write_by, drop_by, write_of, drop_of}
-use Rattle.laws.proofs.Bounded.{cond_false}
+use Rattle.volume.specs.Calls.{view_of, tables_agree, commit_checks, commit_of, write_change, drop_change, room_for, write_by, drop_by, write_of, drop_of}
+use Rattle.laws.proofs.Bounded.{bool?, cond_false}
+use Rattle.laws.proofs.Names.{sound}
 use Rattle.laws.proofs.CommitPassed.{commit_passed}
 use Rattle.commit.specs.Commit.{change_by}
-use Rattle.verdict.proofs.CommitChecks.{passed, drop_room}
+use Rattle.verdict.proofs.CommitChecks.{passed}
 
 module _ (s : State) (im mp pl nu us : List ℕ) (head : ℕ) (blocks : List ℕ) (allowance : ℕ) where
   abbrev m : Memory
@@ -70,17 +72,26 @@ module _ (s : State) (im mp pl nu us : List ℕ) (head : ℕ) (blocks : List ℕ
         (cond_false (is_zero (length blocks)) (drop_change blocks) (write_change blocks bytes) (ne_eqb (length blocks) 0 (λ (z : length blocks ≡ 0). omega arith)))
         ∙ write_is Pass e
 
-  -- A drop.
+  -- A drop needs no room of its own: where the tables are sound, P sectors are free.
   module _ (fit : Bool) where
     abbrev dropped : After
     dropped = commit_of base s m head (drop_change blocks) fit true allowance
+
+    room_kept : checked fit 0 ≡ judged (commit_checks base s m head blocks fit true)
+    unfolding commit_checks judged first_of applies tables_agree memory
+    room_kept =
+        ⊎_elim (λ (e : consistent s.geometry (tables_of mp pl nu us) s.tail s.number ≡ true).
+        let room = (sound s.geometry (tables_of mp pl nu us) s.tail s.number e).room in
+        rw (le-ltb (free_sectors s.geometry.n (bit_at us)) (0 + pieces_for s.geometry.l) (omega arith)) refl)
+        (λ (e : consistent s.geometry (tables_of mp pl nu us) s.tail s.number ≡ false). rw e refl)
+        (bool? (consistent s.geometry (tables_of mp pl nu us) s.tail s.number))
 
     drop_is : (v : Verdict) → v ≡ checked fit 0
         → unless_refused v s m (performed allowance (commit_action base s m.tables (view_of s.geometry m.image) head (drop_change blocks)) m) ≡ dropped
     unfolding commit_of drop_change
     drop_is v e =
         ap (λ (w : Verdict). unless_refused w s m (performed allowance (commit_action base s m.tables (view_of s.geometry m.image) head (drop_change blocks)) m))
-        (e ∙ drop_room s im mp pl nu us head blocks fit)
+        (e ∙ room_kept)
 
     pub drop_refused : (r : Refusal) → Refuse r ≡ checked fit 0 → after (record { answer = Refused r; state = s }) m ≡ dropped
     drop_refused r e = drop_is (Refuse r) e

@@ -30,7 +30,7 @@ add_total : tie.Need-overflow-add-total
 add_total c =
     let the_plan = c.before.before.before.plan in
     let the-pre = c.before.before.before.before.before.before.before.before.before.before.before.before.before.before.before.before.before.before.requires in
-    let total = total_few _ _ _ _ _ _ _ _ _ the-pre.0 the-pre.1.0 _ _ _ _ _ _ _ _ _ the_plan.ensures refl in
+    let total = total_few _ _ _ _ _ _ _ _ _ the-pre.0 the-pre.1.0 _ _ _ _ _ _ _ _ the_plan.ensures refl in
     omega arith
 
 cast-total : tie.Need-overflow-cast-total
@@ -40,14 +40,14 @@ array-share-prefix-taken : tie.Need-array-share-prefix-taken
 array-share-prefix-taken c =
     let the_plan = c.before.before.before.plan in
     let the-pre = c.before.before.before.before.before.before.before.before.before.before.before.before.before.before.before.before.before.before.requires in
-    let total = total_few _ _ _ _ _ _ _ _ _ the-pre.0 the-pre.1.0 _ _ _ _ _ _ _ _ _ the_plan.ensures refl in
+    let total = total_few _ _ _ _ _ _ _ _ _ the-pre.0 the-pre.1.0 _ _ _ _ _ _ _ _ the_plan.ensures refl in
     omega arith
 
 slice-aggregate-sectors : tie.Need-slice-aggregate-sectors
 slice-aggregate-sectors c =
     let the_plan = c.before.before.before.before.plan in
     let the-pre = c.before.before.before.before.before.before.before.before.before.before.before.before.before.before.before.before.before.before.before.requires in
-    ts_all _ _ _ _ _ _ _ _ _ the-pre.0 the-pre.1.0 _ _ _ _ _ _ _ _ _ the_plan.ensures refl the_plan.auto.1.1.1.1.1.1.1.1.1.1.0
+    ts_all _ _ _ _ _ _ _ _ _ the-pre.0 the-pre.1.0 _ _ _ _ _ _ _ _ the_plan.ensures refl the_plan.auto.1.1.1.1.1.1.1.1.1.1.0
 
 slice-aggregate-entries-for : tie.Need-slice-aggregate-entries-for
 slice-aggregate-entries-for c = search rules
@@ -58,8 +58,8 @@ entries-for-requires c κs =
     let the-pre = c.before.before.before.before.before.before.before.before.before.before.before.before.before.before.before.before.before.before.before.before.requires in (
       the-pre.1.1,
       (
-        ts_enough _ _ _ _ _ _ _ _ _ the-pre.0 the-pre.1.0 _ _ _ _ _ _ _ _ _ the_plan.ensures refl,
-        (few_blocks _ _ _ _ _ _ _ _ _ the-pre.0 the-pre.1.0, ts_word _ _ _ _ _ _ _ _ _ the-pre.0 the-pre.1.0 _ _ _ _ _ _ _ _ _ the_plan.ensures refl),
+        ts_enough _ _ _ _ _ _ _ _ _ the-pre.0 the-pre.1.0 _ _ _ _ _ _ _ _ the_plan.ensures refl,
+        (few_blocks _ _ _ _ _ _ _ _ _ the-pre.0 the-pre.1.0, ts_word _ _ _ _ _ _ _ _ _ the-pre.0 the-pre.1.0 _ _ _ _ _ _ _ _ the_plan.ensures refl),
       ),
     )
 
@@ -86,9 +86,9 @@ carry-out-requires c κs =
     let p = passed _ _ _ _ _ _ _ _ _ the-pre.0 in
     let bs = the_plan.new.1.1.1.1.1.1.1.1.1.0 in
     let cut = length-take-le the_plan.result.branches bs (omega arith) in
-    let whole = settling _ _ _ _ _ _ _ _ _ the-pre.0 the-pre.1.0 _ _ _ _ _ _ _ _ _ the_plan.ensures refl _ _ the-entries-for.ensures the_plan.auto.1.1.1.1.1.1.1.1.0 in
-    let counted = members_counted _ _ _ _ _ _ _ _ _ the-pre.0 the-pre.1.0 _ _ _ _ _ _ _ _ _ the_plan.ensures refl _ _ the-entries-for.ensures in
-    let some = some_members _ _ _ _ _ _ _ _ _ the-pre.0 the-pre.1.0 _ _ _ _ _ _ _ _ _ the_plan.ensures refl in
+    let whole = settling _ _ _ _ _ _ _ _ _ the-pre.0 the-pre.1.0 _ _ _ _ _ _ _ _ the_plan.ensures refl _ _ the-entries-for.ensures the_plan.auto.1.1.1.1.1.1.1.1.0 in
+    let counted = members_counted _ _ _ _ _ _ _ _ _ the-pre.0 the-pre.1.0 _ _ _ _ _ _ _ _ the_plan.ensures refl _ _ the-entries-for.ensures in
+    let some = some_members _ _ _ _ _ _ _ _ _ the-pre.0 the-pre.1.0 _ _ _ _ _ _ _ _ the_plan.ensures refl in
     (p.range, (p.image, (p.map, (p.places, (p.numbers, (p.used, (p.sound_tables, (whole, (counted, (some, (omega arith, the-pre.1.1)))))))))))
 
 same_length : tie.Need-same-length
@@ -116,7 +116,7 @@ returns c =
     let the-pre = start.requires in
     let a = start.args in
     the-carry-out.ensures
-    ∙ commit_done _ _ _ _ _ _ _ _ _ the-pre.0 the-pre.1.0 _ _ _ _ _ _ _ _ _ the_plan.ensures refl _ _ the-entries-for.ensures
+    ∙ commit_done _ _ _ _ _ _ _ _ _ the-pre.0 the-pre.1.0 _ _ _ _ _ _ _ _ the_plan.ensures refl _ _ the-entries-for.ensures
     (memory a.image.now a.map.now a.places.now a.numbers.now a.used.now)
 
 pub commit-spec : {M : Type 1} → statement M

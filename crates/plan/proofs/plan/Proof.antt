@@ -1,5 +1,4 @@
 -- The parts give the plan of the definition.
-use mathlib.Core.Path.{refl}
 use native.Mathlib.Omega.{arith}
 use Rattle.plan.proofs.PlanLaws.{planning, pieces_few, pieces_room}
 use borrow.Author.Rules.{rules}
@@ -56,7 +55,7 @@ returns c =
     let pieces = c.before.before.before.before.before.before.before.before.pieces-for.ensures in
     let untouched = c.before.before.before.before.before.before.before.before.before.before.before.before.before.before.list-untouched.ensures in
     let t = c.before.before.take-sectors.ensures in
-    planning _ _ _ _ _ _ _ _ _ _ _ _ _ _ _ _ r.1.1.1.1.1.1.1.1.1.0 pieces r.1.1.1.1.0 untouched m.0 m.1 _ _ _ refl m.2 t.0 t.1
+    planning _ _ _ _ _ _ _ _ _ _ _ _ _ _ _ _ r.1.1.1.1.1.1.1.1.1.0 pieces r.1.1.1.1.0 untouched m.0 m.1 _ _ m.2 t.0 t.1
 
 pub plan-spec : {M : Type 1} → statement M
 plan-spec =

@@ -1,0 +1,15 @@
+-- What is found at i is the best of those below i.
+use Prim.Native.Nat.{◌-◌, ◌≤◌, ◌<◌}
+use mathlib.Core.Path.{◌≡◌, ◌∙◌, ap}
+use mathlib.Core.Logic.{⊎_elim}
+use native.Mathlib.Omega.{arith}
+use lib.ListN.{length}
+use Rattle.layout.specs.Bounded.{at, best}
+use Rattle.numbers.proofs.Numbering.{best_zero, best_new, best_stays}
+use Rattle.numbers.proofs.newest.Given as goal
+
+abbrev pub invariant-loop-i : goal.invariant-loop-i
+invariant-loop-i l = (l.i ≤ length l.numbers) × (l.found < length l.numbers) × (l.found ≡ best (at l.numbers) l.i)
+
+abbrev pub decreases-loop-i : goal.decreases-loop-i
+decreases-loop-i l = length l.numbers - l.i
