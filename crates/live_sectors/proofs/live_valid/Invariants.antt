@@ -1,0 +1,18 @@
+-- The live sectors of the pieces below p are valid; one that is not decides.
+use Prim.Native.Nat.{◌-◌, ◌≤◌}
+use mathlib.Core.Path.{◌≡◌, ◌∙◌, ap}
+use native.Mathlib.Omega.{arith}
+use lib.ListN.{length}
+use borrow.Author.Rules.{rules}
+use Rattle.geometry.specs.Geometry.{pieces_for}
+use Rattle.layout.specs.Bounded.{at}
+use Rattle.laws.proofs.Sectors.{sector_length}
+use Rattle.live_sectors.proofs.LiveLaws.{Lives, live_none, live_more, live_fails, live_all}
+use mathlib.Core.Bool.{not}
+use Rattle.live_sectors.proofs.live_valid.Given as goal
+
+abbrev pub invariant-loop-p : goal.invariant-loop-p
+invariant-loop-p l = (l.p ≤ l.pieces) × Lives l.g l.image l.map l.places l.numbers l.p
+
+abbrev pub decreases-loop-p : goal.decreases-loop-p
+decreases-loop-p l = l.pieces - l.p

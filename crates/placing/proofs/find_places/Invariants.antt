@@ -1,0 +1,27 @@
+-- After j places the copy marks them, and the next search starts after the last.
+use Prim.Native.Nat.{ℕ, ◌+◌, ◌*◌, ◌-◌, ◌≤◌, ◌<◌}
+use mathlib.Core.Path.{◌≡◌, refl, ◌∙◌, sym, ap, subst}
+use mathlib.Core.List.{◌++◌}
+use native.Mathlib.Omega.{arith}
+use lib.ListN.{length, drop, set}
+use borrow.Author.Rules.{rules}
+use Rattle.layout.specs.Bounded.{list_from}
+use Rattle.tracks.specs.Placing.{Found, track_of, position_after, least_delay, place_of, skipped_by}
+use Rattle.volume.specs.Tables.{bit_at}
+use Rattle.power.specs.Power.{made}
+use Rattle.laws.proofs.Filling.{Filled, filled_none, filled_length, filled_more}
+use Rattle.laws.proofs.Delays.{drive_fits_lem, track_inside, after_inside}
+use Rattle.searching.specs.Searching.{Known}
+use Rattle.searching.proofs.TrackLaws.{known_none, known_kept}
+use Rattle.placing.proofs.PlaceLaws.{next_start, next_track, Placed, placed_none, place_here, placed_more, charged_few, billed_none, billed_more}
+use Rattle.placing.proofs.find_places.Given as goal
+
+abbrev pub invariant-loop-j : goal.invariant-loop-j
+invariant-loop-j l =
+    (l.j ≤ l.count) × (l.start < l.n) × (l.first ≡ track_of l.d l.start * l.d.sectors) × (length l.used ≡ length l.initial.used) × (length l.known ≡ length l.initial.known)
+    × Known l.known (bit_at l.used) l.n l.d.sectors × Placed l.d l.n (bit_at l.initial.used) l.head l.j (bit_at l.used) l.start
+    × Filled (place_of (least_delay l.d) l.n (bit_at l.initial.used) l.head) l.initial.places l.j l.places
+    × (l.total ≡ skipped_by (least_delay l.d) l.n (bit_at l.initial.used) l.head (made l.j l.allowance)) × (l.total ≤ 65791 * l.j)
+
+abbrev pub decreases-loop-j : goal.decreases-loop-j
+decreases-loop-j l = l.count - l.j

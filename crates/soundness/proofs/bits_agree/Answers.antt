@@ -1,0 +1,26 @@
+-- So far all bytes were the same.
+use Prim.Native.Nat.{◌*◌, ◌-◌, ◌≤◌}
+use mathlib.Core.Path.{◌≡◌}
+use mathlib.Core.Bool.{beq}
+use native.Mathlib.Omega.{arith}
+use lib.ListN.{length}
+use borrow.Author.Rules.{rules}
+use Rattle.layout.specs.Bounded.{all_below}
+use Rattle.volume.specs.Tables.{bit_at}
+use Rattle.soundness.proofs.SameBits.{same_none, same_more, same_all}
+use Rattle.soundness.proofs.bits_agree.Goals as goal
+
+pub loop-i-init : goal.loop-i-init
+loop-i-init c =
+    (omega arith, same_none c.args.used.now c.args.marks.now)
+
+pub loop-i-preserved : goal.loop-i-preserved
+loop-i-preserved c = (
+  omega arith,
+  same_more c.args.used.now c.args.marks.now c.loop-i.i (c.type_inv.used c.loop-i.i).fits (c.type_inv.marks c.loop-i.i).fits
+      c.loop-i.good c.still_same-good.result c.loop-i.invariant.1 c.still_same-good.ensures,
+)
+
+pub returns : goal.returns
+returns c =
+    same_all c.args.used.now c.args.marks.now c.loop-i.i c.loop-i.good (omega arith) c.loop-i.invariant.1

@@ -1,0 +1,12 @@
+-- The first q entries have the key 0.
+use Prim.Native.Nat.{◌-◌, ◌≤◌}
+use mathlib.Core.Path.{refl, sym, ◌∙◌}
+use native.Mathlib.Omega.{arith}
+use Rattle.tournament.proofs.TournamentLaws.{Entered, entered_on, entered_all}
+use Rattle.tournament.proofs.start.Given as goal
+
+abbrev pub invariant-loop-q : goal.invariant-loop-q
+invariant-loop-q l = (l.q ≤ l.n) × Entered l.n (λ _. 0) l.tree l.q
+
+abbrev pub decreases-loop-q : goal.decreases-loop-q
+decreases-loop-q l = l.n - l.q
