@@ -1,0 +1,29 @@
+-- 1,024 bits are enough.
+use borrow.Author.Rules.{rules}
+use native.Mathlib.Omega.{arith}
+use mathlib.Core.Path.{refl}
+use Rattle.plan.proofs.take_few.Goals as goal
+
+pub take_on_one-requires : goal.take_on_one-requires
+take_on_one-requires c = record {
+  g_value = c.requires.g_value;
+  d_value = c.requires.d_value;
+  used_len = c.requires.used_len;
+  head_lt_n = c.requires.head_lt_n;
+  count_in_bounds = c.requires.count_in_bounds;
+  count_le_commit_sectors = c.requires.count_le_commit_sectors;
+  used_in_bounds = omega arith;
+  marks_value = refl;
+}
+
+pub take_on_few-requires : goal.take_on_few-requires
+take_on_few-requires c = record {
+  g_value = c.requires.g_value;
+  d_value = c.requires.d_value;
+  used_len = c.requires.used_len;
+  head_lt_n = c.requires.head_lt_n;
+  count_in_bounds = c.requires.count_in_bounds;
+  count_le_commit_sectors = c.requires.count_le_commit_sectors;
+  used_in_bounds = omega arith;
+  marks_value = refl;
+}
