@@ -1,0 +1,22 @@
+-- The written pieces below p have their new places and numbers.
+use borrow.Author.Rules.{rules}
+use Prim.Native.Nat.{ℕ, suc, ◌+◌, ◌-◌, ◌≤◌}
+use mathlib.Core.Path.{◌≡◌, refl, ◌∙◌, ap}
+use native.Mathlib.Omega.{arith}
+use lib.ListN.{length, length-set}
+use Rattle.layout.specs.Bounded.{at, count_below, updated}
+use Rattle.pieces.specs.Arrays.{flagged}
+use Rattle.laws.proofs.Bounded.{count_before, at_set}
+use Rattle.pieces.proofs.FlagLaws.{flags_none}
+use Rattle.store.proofs.StoreLaws.{is_flagged, not_flagged, rank_skips, rank_grows}
+use Rattle.settle.proofs.SettleLaws.{live, live_none, live_skip, live_put, live_all}
+use Rattle.settle.proofs.change_live.Given as goal
+
+abbrev pub invariant-pieces : goal.invariant-pieces
+invariant-pieces l =
+    (l.p ≤ length l.initial.places) × (length l.places ≡ length l.initial.places) × (length l.numbers ≡ length l.initial.numbers)
+    × (l.k ≡ l.count + count_below (flagged l.written) l.p) × (l.next ≡ l.number + count_below (flagged l.written) l.p)
+    × (at l.places ≡ live (flagged l.written) (λ q. at l.taken (l.count + count_below (flagged l.written) q)) (at l.initial.places) l.p) × (at l.numbers ≡ live (flagged l.written) (λ q. suc (l.number + count_below (flagged l.written) q)) (at l.initial.numbers) l.p)
+
+abbrev pub decreases-pieces : goal.decreases-pieces
+decreases-pieces l = length l.initial.places - l.p
