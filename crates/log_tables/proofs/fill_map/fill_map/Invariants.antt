@@ -1,0 +1,17 @@
+-- The pieces below p are filled in.
+use borrow.Author.Rules.{rules}
+use Prim.Native.Nat.{◌*◌, ◌-◌, ◌≤◌, ◌<◌}
+use mathlib.Core.Path.{◌≡◌, refl, ◌∙◌}
+use native.Mathlib.Omega.{arith}
+use lib.ListN.{length}
+use Rattle.laws.proofs.Filling.{Filled, filled_none, filled_all}
+use Rattle.log_tables.proofs.MapLaws.{entry_of, piece_entry, place_there, next_piece}
+use Rattle.log_tables.proofs.fill_map.fill_map.Given as goal
+
+abbrev pub invariant-loop-first : goal.invariant-loop-first
+invariant-loop-first l =
+    (length l.map ≡ length l.initial.map) × (l.first ≤ length l.initial.map) × (l.first ≤ 96 * l.p) × (l.first < length l.initial.map → l.first ≡ 96 * l.p) × (l.p ≤ length l.places)
+    × Filled (entry_of l.image l.places) l.initial.map l.first l.map
+
+abbrev pub decreases-loop-first : goal.decreases-loop-first
+decreases-loop-first l = length l.initial.map - l.first

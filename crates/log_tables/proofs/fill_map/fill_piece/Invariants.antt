@@ -1,0 +1,21 @@
+-- The entries below i of the piece are filled in.
+use borrow.Author.Rules.{rules}
+use Prim.Native.Nat.{ℕ, ◌+◌, ◌-◌, ◌≤◌, ◌<◌}
+use mathlib.Core.Path.{◌≡◌, refl, sym, ◌∙◌}
+use mathlib.Core.List.{List}
+use native.Mathlib.Omega.{arith}
+use lib.ListN.{length, length-set}
+use Rattle.layout.specs.Bounded.{at}
+use Rattle.layout.specs.Word.{words_of}
+use Rattle.layout.specs.MapSector.{entry_words}
+use Rattle.laws.proofs.Filling.{Filled}
+use Rattle.log_tables.proofs.MapLaws.{piece_starts, piece_more, piece_ends}
+use Rattle.log_tables.proofs.fill_map.fill_piece.Given as goal
+
+abbrev pub invariant-loop-i : goal.invariant-loop-i
+invariant-loop-i l =
+    (l.i ≤ l.count) × (length l.map ≡ length l.initial.map)
+    × ((f : ℕ → ℕ) (old : List ℕ) → Filled f old l.first l.initial.map → ((j : ℕ) → j < l.count → f (l.first + j) ≡ at (entry_words (words_of l.s)) j) → Filled f old (l.first + l.i) l.map)
+
+abbrev pub decreases-loop-i : goal.decreases-loop-i
+decreases-loop-i l = l.count - l.i

@@ -1,0 +1,43 @@
+-- Those from index i on are put in.
+use Prim.Native.Nat.{ℕ, ◌-◌, ◌≤◌}
+use mathlib.Core.Path.{◌≡◌, refl, sym, ◌∙◌}
+use native.Mathlib.Omega.{arith}
+use lib.ListN.{length}
+use Rattle.log_tables.specs.LogTables.{raised}
+use Rattle.signed.proofs.Listing.{Stepped, stepped_none, stepped_more, stepped_whole}
+use Rattle.log_tables.proofs.live.find_live.Goals as goal
+
+pub loop-i-init : goal.loop-i-init
+loop-i-init c =
+    (omega arith, refl, refl, stepped_none (raised c.args.c) c.args.sectors.now c.args.numbered.now c.args.pieces.now (c.args.places.now, c.args.numbers.now))
+
+pub raise_listed-requires : goal.raise_listed-requires
+raise_listed-requires c =
+    let inside = c.requires.by_index (c.loop-i.i - 1) (omega arith) in record {
+      i_in_bounds = omega arith;
+      i_in_bounds_2 = omega arith;
+      i_in_bounds_3 = omega arith;
+      numbers_len = omega arith;
+      i_in_bounds_4 = omega arith;
+    }
+
+pub loop-i-preserved : goal.loop-i-preserved
+loop-i-preserved c = (
+  omega arith,
+  c.raise_listed.auto.places ∙ c.loop-i.invariant.1,
+  c.raise_listed.auto.numbers ∙ c.loop-i.invariant.2,
+  stepped_more (raised c.args.c) c.args.sectors.now c.args.numbered.now c.args.pieces.now c.loop-i.i (c.args.places.now, c.args.numbers.now) (c.loop-i.places, c.loop-i.numbers) _
+      c.loop-i-test.true c.loop-i.invariant.0 c.requires.numbered_len c.requires.pieces_len c.loop-i.invariant.3 c.raise_listed.ensures,
+)
+
+pub shape_of-places : goal.shape_of-places
+shape_of-places c =
+    c.loop-i.invariant.1
+
+pub shape_of-numbers : goal.shape_of-numbers
+shape_of-numbers c =
+    c.loop-i.invariant.2
+
+pub returns : goal.returns
+returns c =
+    stepped_whole (raised c.args.c) c.args.sectors.now c.args.numbered.now c.args.pieces.now c.loop-i.i (c.args.places.now, c.args.numbers.now) (c.loop-i.places, c.loop-i.numbers) (omega arith) c.loop-i.invariant.3

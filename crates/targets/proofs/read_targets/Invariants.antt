@@ -1,0 +1,22 @@
+-- What is read from i on, from where the loop is, is what is read from the start.
+use borrow.Author.Rules.{rules}
+use Prim.Native.Nat.{◌-◌, ◌≤◌}
+use mathlib.Core.Path.{◌≡◌, refl, ◌∙◌}
+use native.Mathlib.Omega.{arith}
+use lib.ListN.{length}
+use Rattle.volume.specs.Tables.{sector_at}
+use Rattle.geometry.specs.Geometry.{pieces_for}
+use Rattle.volume.specs.Recover.{image_view}
+use Rattle.signed.proofs.ViewLaws.{inside}
+use Rattle.targets.specs.Waiting.{walk_of, Waits}
+use Rattle.targets.proofs.TargetLaws.{sector_size, Held, holds, Reading, reading_starts, reading_more, reading_ends}
+use Rattle.targets.proofs.read_targets.Given as goal
+
+abbrev pub invariant-loop-i : goal.invariant-loop-i
+invariant-loop-i l =
+    (l.i ≤ l.count) × (length l.waiting ≡ length l.initial.waiting) × (length l.tree ≡ length l.initial.tree) × Held l.g l.image l.k l.s l.holder l.count
+    × Waits (pieces_for l.g.l) (image_view l.g (sector_at l.image)) l.waiting l.tree l.taken × Reading l.g l.image l.k (walk_of l.initial.waiting l.taken) (walk_of l.waiting l.taken) l.i
+
+abbrev pub decreases-loop-i : goal.decreases-loop-i
+decreases-loop-i l =
+    l.count - l.i

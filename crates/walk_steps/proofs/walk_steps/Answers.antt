@@ -1,0 +1,40 @@
+-- The walk is that of so many steps.
+use Prim.Native.Nat.{◌*◌, ◌-◌, ◌≤◌, ◌<◌}
+use mathlib.Core.Path.{◌≡◌, refl, ◌∙◌}
+use native.Mathlib.Omega.{arith}
+use lib.ListN.{length}
+use Rattle.geometry.specs.Geometry.{sector_bytes, pieces_for}
+use Rattle.volume.specs.Tables.{sector_at}
+use Rattle.volume.specs.Recover.{image_view, walked_for}
+use Rattle.targets.specs.Waiting.{walk_of, Waits}
+use Rattle.walk_steps.proofs.WalkLaws.{walked_none, walked_more, walked_all}
+use borrow.Author.Rules.{rules}
+use Rattle.walk_steps.proofs.walk_steps.Goals as goal
+
+pub loop-step-init : goal.loop-step-init
+loop-step-init c =
+    (omega arith, refl, refl, refl, c.requires.image_len, c.requires.l_nonzero, c.requires.waits.taken_long, c.requires.waits, walked_none _ _ _)
+
+pub walk_step-requires : goal.walk_step-requires
+walk_step-requires c = record {
+  image_len = c.loop-step.invariant.4;
+  l_nonzero = c.loop-step.invariant.5;
+  waits = c.loop-step.invariant.7;
+}
+
+pub loop-step-preserved : goal.loop-step-preserved
+loop-step-preserved c = (
+  omega arith,
+  c.walk_step.auto.waiting ∙ c.loop-step.invariant.1,
+  c.walk_step.auto.tree ∙ c.loop-step.invariant.2,
+  c.walk_step.auto.taken ∙ c.loop-step.invariant.3,
+  c.loop-step.invariant.4,
+  c.loop-step.invariant.5,
+  c.loop-step.invariant.6,
+  c.walk_step.ensures.1,
+  walked_more _ _ _ _ _ c.loop-step.step c.loop-step.invariant.8 c.walk_step.ensures.0,
+)
+
+pub returns : goal.returns
+returns c =
+    walked_all _ _ _ _ c.loop-step.step _ c.loop-step.invariant.6 c.loop-step.invariant.0 c.loop-step-test.false c.loop-step.invariant.8
