@@ -5,7 +5,7 @@ use crate::tokens;
 // Bytes of a block.
 pub const BLOCK: usize = 512;
 
-#[derive(Drop)]
+#[derive(Clone, Copy)]
 pub enum Trouble {
     Fine,
     // The line's first word is no call.
@@ -46,7 +46,7 @@ pub enum Trouble {
 }
 
 // Where in its line a block's data lies, and where the line goes on after it.
-#[derive(Drop)]
+#[derive(Clone, Copy)]
 pub struct Data {
     pub from: usize,
     pub to: usize,

@@ -2,7 +2,7 @@
 use crate::tokens;
 use crate::tokens::Number;
 
-#[derive(Drop)]
+#[derive(Clone, Copy)]
 pub enum Keyword {
     // The plug: the stores that the call may make.
     Stores,
@@ -13,7 +13,7 @@ pub enum Keyword {
 }
 
 // The keyword that a word begins with.
-#[derive(Drop)]
+#[derive(Clone, Copy)]
 pub enum Named {
     Known(Keyword),
     Nothing,
@@ -42,7 +42,7 @@ pub fn value_in(word: &[u8]) -> Number {
 }
 
 // The numbers given.
-#[derive(Drop)]
+#[derive(Clone, Copy)]
 pub struct Keywords {
     pub stores: Number,
     pub track: Number,

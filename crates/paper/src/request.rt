@@ -4,7 +4,7 @@ use crate::keywords::{Keyword, Keywords, Named};
 use crate::tokens::Number;
 use crate::{data, keywords, tokens};
 
-#[derive(Drop)]
+#[derive(Clone, Copy)]
 pub enum Call {
     // A blank line or a comment.
     Nothing,
@@ -27,7 +27,7 @@ pub enum Call {
     BacklogOther,
 }
 
-#[derive(Drop)]
+#[derive(Clone, Copy)]
 pub struct Request {
     // The numbers of a call, as many as were taken: L and N, or the head, or the block to read.
     pub first: u32,
