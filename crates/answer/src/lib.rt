@@ -6,7 +6,7 @@ ghost use Rattle.answer.specs.declared.Answer.TheVariants.{Accepted, Walked, Sca
 ghost use Rattle.answer.specs.Answer.{refusal_number, verdict_number, loss_number, stores_alone, is_refusal, number_of, cost_of, way_of, reads_of};
 
 // Why a call was turned back before it did anything: everything lent, and the state, is left as it came.
-#[derive(Drop)]
+#[derive(Clone, Copy)]
 pub enum Refusal {
     // 1: N, L or the image's length is out of range, or not the state's.
     Size,
@@ -47,7 +47,7 @@ impl Refusal {
 }
 
 // Why a recovery has no volume to hand out: the image is left as it came, and the tables are filled with zeros.
-#[derive(Drop)]
+#[derive(Clone, Copy)]
 pub enum Loss {
     // 8: no signed closing sector.
     NoLog,
@@ -67,7 +67,7 @@ impl Loss {
 }
 
 // What the checks of a call say: go on, or the first refusal that applies.
-#[derive(Drop)]
+#[derive(Clone, Copy)]
 pub enum Verdict {
     Pass,
     Refuse(Refusal),
@@ -86,7 +86,7 @@ impl Verdict {
 }
 
 // What a call cost: the sectors it stored, and the sum of the delays to their places.
-#[derive(Drop)]
+#[derive(Clone, Copy)]
 pub struct Cost {
     pub stores: u32,
     pub skipped: u32,
@@ -102,7 +102,7 @@ impl Cost {
 }
 
 // What a call answers.
-#[derive(Drop)]
+#[derive(Clone, Copy)]
 pub enum Answer {
     // Format, write, drop, read or park did its work.
     Accepted(Cost),

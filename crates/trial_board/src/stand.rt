@@ -6,7 +6,7 @@ use reference_board::board;
 pub const ENOUGH: u32 = 100000;
 
 // A volume and the drive that it is formatted for: n sectors on so many tracks.
-#[derive(Drop)]
+#[derive(Clone, Copy)]
 pub struct Volume {
     pub l: u32,
     pub n: u32,

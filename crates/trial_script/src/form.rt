@@ -4,7 +4,7 @@ use paper::tokens;
 use reference_board::board;
 
 // A line by its first word.
-#[derive(Drop)]
+#[derive(Clone, Copy)]
 pub enum Kind {
     Volume,
     Drive,
@@ -36,7 +36,7 @@ pub enum Kind {
 }
 
 // What follows: so many numbers; a name and so many numbers; words of any kind.
-#[derive(Drop)]
+#[derive(Clone, Copy)]
 enum Form {
     Numbers { least: u32, most: u32 },
     Named { least: u32, most: u32 },
@@ -45,7 +45,7 @@ enum Form {
 }
 
 // The first word that is not as its form asks, counted from 0; one past the last where a word is missing.
-#[derive(Drop)]
+#[derive(Clone, Copy)]
 pub enum Wrong {
     Nothing,
     FirstWord,
