@@ -40,7 +40,10 @@ fn say_what(rt: &impl Print, what: u32) {
         15 => say::say(rt, b"a recovery was not accepted"),
         17 => say::say(rt, b"the counts of commits answered differ"),
         18 => say::say(rt, b"the answers to the commits of a batch differ"),
-        _ => say::say(rt, b"a fact of the script does not hold, or a line is not of a known form"),
+        _ => say::say(
+            rt,
+            b"a fact of the script does not hold, or a line is not of a known form",
+        ),
     }
 }
 
@@ -107,7 +110,8 @@ fn say_some(rt: &impl Print, b: &[u32; board::SIZE], cell: u32, what: &[u8]) {
 
 pub fn say_script(rt: &impl Print, b: &[u32; board::SIZE]) {
     say::say_count(
-        rt, b"script of the samples and refusals: ",
+        rt,
+        b"script of the samples and refusals: ",
         cells::get(b, cells::CALLS),
     );
     say_answers(rt, b);
@@ -173,9 +177,13 @@ fn say_found(rt: &impl Print, word: &[u8], i: u32) {
 
 fn say_first_words(rt: &impl Print) {
     say::say(
-        rt, b"volume, drive, block, blocks, stores, bytes-more, commit, commits, format, write, drop, read, park, recover, batch",
+        rt,
+        b"volume, drive, block, blocks, stores, bytes-more, commit, commits, format, write, drop, read, park, recover, batch",
     );
-    say::say(rt, b", is, answers, untouched, sector, blank, shows, rejects, set, put, balance or copy");
+    say::say(
+        rt,
+        b", is, answers, untouched, sector, blank, shows, rejects, set, put, balance or copy",
+    );
 }
 
 fn say_wrong(rt: &impl Print, word: &[u8], kind: Kind, wrong: Wrong) {
@@ -218,7 +226,10 @@ pub fn say_bad_line(rt: &impl Print, number: u32, word: &[u8], kind: Kind, wrong
 // A script that is not read whole.
 pub fn say_too_long(rt: &impl Print, most: u32) {
     say::say_count(rt, b"expected a script of at most ", most);
-    say::say(rt, b" bytes, found a longer one: none of its lines is carried out\n");
+    say::say(
+        rt,
+        b" bytes, found a longer one: none of its lines is carried out\n",
+    );
 }
 
 // The drive, where it has more than one track.

@@ -182,8 +182,14 @@ pub fn say_answer(rt: &impl Print, call: Call, answer: Answer, state: State) {
 
 fn say_data_trouble(rt: &impl Print, trouble: Trouble) {
     match trouble {
-        Trouble::Block => say(rt, b"expected BLOCK=DATA, the block a number up to 4294967295"),
-        Trouble::Data => say(rt, b"expected data: text in quotes, or x and hexadecimal digits"),
+        Trouble::Block => say(
+            rt,
+            b"expected BLOCK=DATA, the block a number up to 4294967295",
+        ),
+        Trouble::Data => say(
+            rt,
+            b"expected data: text in quotes, or x and hexadecimal digits",
+        ),
         Trouble::Quote => say(rt, b"expected a quote that closes the text"),
         Trouble::Text => say(rt, b"expected bytes 32 to 126 in the text"),
         Trouble::Hex => say(rt, b"expected an even number of hexadecimal digits after x"),
@@ -239,7 +245,8 @@ fn say_backlog_trouble(rt: &impl Print, trouble: Trouble) {
         Trouble::End => say(rt, b"expected a line backlog before end"),
         Trouble::BacklogLine => say(rt, b"expected write, drop or end in a backlog"),
         Trouble::BacklogStores => say(
-            rt, b"expected no stores=, which stands after backlog for all its commits",
+            rt,
+            b"expected no stores=, which stands after backlog for all its commits",
         ),
         Trouble::Commits => say(rt, b"expected at most 40 commits in a backlog"),
         _ => say_keyword_trouble(rt, trouble),
@@ -249,10 +256,17 @@ fn say_backlog_trouble(rt: &impl Print, trouble: Trouble) {
 fn say_call_trouble(rt: &impl Print, trouble: Trouble) {
     match trouble {
         Trouble::Call => say(
-            rt, b"expected format, write, drop, read, park, recover, show, sectors or backlog",
+            rt,
+            b"expected format, write, drop, read, park, recover, show, sectors or backlog",
         ),
-        Trouble::Volume => say(rt, b"expected a format that is accepted first: there is no volume"),
-        Trouble::Sectors => say(rt, b"expected a volume of at most 4096 sectors: no more are held"),
+        Trouble::Volume => say(
+            rt,
+            b"expected a format that is accepted first: there is no volume",
+        ),
+        Trouble::Sectors => say(
+            rt,
+            b"expected a volume of at most 4096 sectors: no more are held",
+        ),
         Trouble::Number => say(rt, b"expected a number up to 4294967295"),
         Trouble::FewNumbers => say(rt, b"expected another number"),
         Trouble::More => say(rt, b"expected the end of the line"),
@@ -263,7 +277,10 @@ fn say_call_trouble(rt: &impl Print, trouble: Trouble) {
 // The form of a call's line.
 fn say_form(rt: &impl Print, call: Call) {
     match call {
-        Call::Format => say(rt, b" (format L N [track=T] [tracks=C] [switch=S] [stores=K])"),
+        Call::Format => say(
+            rt,
+            b" (format L N [track=T] [tracks=C] [switch=S] [stores=K])",
+        ),
         Call::Write => say(rt, b" (write HEAD B=DATA [B=DATA ..] [stores=K])"),
         Call::Drop => say(rt, b" (drop HEAD B [B ..] [stores=K])"),
         Call::Read => say(rt, b" (read B)"),
@@ -299,7 +316,14 @@ fn say_place(rt: &impl Print, line: &[u8], at: usize) {
 }
 
 // A line that is not understood: what was expected, and what stands there.
-pub fn say_trouble(rt: &impl Print, number: u32, line: &[u8], call: Call, at: usize, trouble: Trouble) {
+pub fn say_trouble(
+    rt: &impl Print,
+    number: u32,
+    line: &[u8],
+    call: Call,
+    at: usize,
+    trouble: Trouble,
+) {
     say_count(rt, b"line ", number);
     say(rt, b": ");
     say_call_trouble(rt, trouble);
@@ -329,11 +353,17 @@ pub fn say_long_line(rt: &impl Print, number: u32, most: u64) {
 // A line whose end cannot be read.
 pub fn say_unreadable(rt: &impl Print, number: u32) {
     say_count(rt, b"line ", number);
-    say(rt, b": expected the rest of the paper, which cannot be read\n");
+    say(
+        rt,
+        b": expected the rest of the paper, which cannot be read\n",
+    );
 }
 
 // A backlog that the paper does not end. The number is that of its first line.
 pub fn say_open_backlog(rt: &impl Print, number: u32) {
     say_count(rt, b"line ", number);
-    say(rt, b": expected end after the commits of this backlog, found the end of the paper\n");
+    say(
+        rt,
+        b": expected end after the commits of this backlog, found the end of the paper\n",
+    );
 }
