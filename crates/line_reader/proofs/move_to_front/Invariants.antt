@@ -1,6 +1,5 @@
 -- What is moved stands at or after where it goes.
 use Prim.Native.Nat.{◌≤◌, ◌-◌}
-use native.Mathlib.Omega.{arith}
 use Rattle.line_reader.specs.Reader.{window_bytes}
 use Rattle.line_reader.proofs.move_to_front.Given as goal
 

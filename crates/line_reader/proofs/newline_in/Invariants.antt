@@ -2,8 +2,6 @@
 use Prim.Native.Nat.{ℕ, ◌≤◌, ◌<◌, ◌-◌}
 use mathlib.Core.Path.{◌≡◌}
 use lib.ListN.{get_or}
-use borrow.Author.Count.{below_more}
-use borrow.Author.Rules.{rules}
 use Rattle.line_reader.proofs.newline_in.Given as goal
 
 abbrev pub invariant-loop-i : goal.invariant-loop-i

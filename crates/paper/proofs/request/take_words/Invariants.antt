@@ -1,7 +1,6 @@
 use Prim.Native.Nat.{◌-◌}
 use mathlib.Core.Path.{◌≡◌}
 use lib.ListN.{length}
-use borrow.Author.Rules.{rules}
 use Rattle.paper.proofs.request.take_words.Given as goal
 
 abbrev pub invariant-loop-turn : goal.invariant-loop-turn

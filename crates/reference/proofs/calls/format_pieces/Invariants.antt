@@ -1,4 +1,4 @@
-use Rattle.std.proofs.Common.{◌-◌, rules}
+use Rattle.std.proofs.Common.{◌-◌}
 use Rattle.reference.proofs.calls.format_pieces.Given as goal
 
 abbrev pub invariant-loop-q : goal.invariant-loop-q

@@ -1,4 +1,4 @@
-use Rattle.std.proofs.Common.{◌-◌, rules}
+use Rattle.std.proofs.Common.{◌-◌}
 use Rattle.reference.proofs.calls.list_sectors.Given as goal
 
 abbrev pub invariant-loop-k : goal.invariant-loop-k

@@ -1,4 +1,4 @@
-use Rattle.std.proofs.Common.{◌-◌, rules}
+use Rattle.std.proofs.Common.{◌-◌}
 use Rattle.reference_board.proofs.consistent.all_live.Given as goal
 
 abbrev pub invariant-loop-q : goal.invariant-loop-q

@@ -1,4 +1,4 @@
-use Rattle.std.proofs.Common.{◌-◌, rules}
+use Rattle.std.proofs.Common.{◌-◌}
 use Rattle.reference_board.proofs.consistent.entries_agree.Given as goal
 
 abbrev pub invariant-loop-i : goal.invariant-loop-i

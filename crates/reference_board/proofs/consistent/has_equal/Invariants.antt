@@ -1,4 +1,4 @@
-use Rattle.std.proofs.Common.{◌-◌, rules}
+use Rattle.std.proofs.Common.{◌-◌}
 use Rattle.reference_board.proofs.consistent.has_equal.Given as goal
 
 abbrev pub invariant-loop-r : goal.invariant-loop-r

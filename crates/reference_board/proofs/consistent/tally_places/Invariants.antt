@@ -1,4 +1,4 @@
-use Rattle.std.proofs.Common.{◌-◌, rules}
+use Rattle.std.proofs.Common.{◌-◌}
 use Rattle.reference_board.proofs.consistent.tally_places.Given as goal
 
 abbrev pub invariant-loop-q : goal.invariant-loop-q

@@ -1,4 +1,4 @@
-use Rattle.std.proofs.Common.{◌-◌, rules}
+use Rattle.std.proofs.Common.{◌-◌}
 use Rattle.reference_board.proofs.places.met.Given as goal
 
 abbrev pub invariant-loop-revolution : goal.invariant-loop-revolution

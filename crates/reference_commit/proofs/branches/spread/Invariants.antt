@@ -1,5 +1,4 @@
 use Prim.Native.Nat.{◌-◌}
-use borrow.Author.Rules.{rules}
 use Rattle.reference_commit.proofs.branches.spread.Given as goal
 
 abbrev pub invariant-loop-round : goal.invariant-loop-round

@@ -1,5 +1,4 @@
 use Prim.Native.Nat.{◌-◌}
-use borrow.Author.Rules.{rules}
 use Rattle.reference_commit.proofs.changes.list_all_chosen.Given as goal
 
 abbrev pub invariant-loop-i : goal.invariant-loop-i

@@ -1,5 +1,4 @@
 use Prim.Native.Nat.{◌-◌}
-use borrow.Author.Rules.{rules}
 use Rattle.reference_commit.proofs.changes.place_all_data.Given as goal
 
 abbrev pub invariant-loop-i : goal.invariant-loop-i

@@ -1,5 +1,4 @@
 use Prim.Native.Nat.{◌-◌}
-use borrow.Author.Rules.{rules}
 use Rattle.reference_commit.proofs.changes.place_members.Given as goal
 
 abbrev pub invariant-loop-q : goal.invariant-loop-q

@@ -1,5 +1,4 @@
 use Prim.Native.Nat.{◌-◌}
-use borrow.Author.Rules.{rules}
 use Rattle.reference_recovery.proofs.scanned.has_equal_numbers.Given as goal
 
 abbrev pub invariant-loop-k : goal.invariant-loop-k

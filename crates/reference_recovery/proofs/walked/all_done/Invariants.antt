@@ -1,5 +1,4 @@
 use Prim.Native.Nat.{◌-◌}
-use borrow.Author.Rules.{rules}
 use Rattle.reference_recovery.proofs.walked.all_done.Given as goal
 
 abbrev pub invariant-loop-q : goal.invariant-loop-q

@@ -1,4 +1,4 @@
-use Rattle.std.proofs.Common.{◌-◌, rules}
+use Rattle.std.proofs.Common.{◌-◌}
 use Rattle.trial_board.proofs.stand.raise_numbers.Given as goal
 
 abbrev pub invariant-loop-q : goal.invariant-loop-q

@@ -1,4 +1,4 @@
-use Rattle.std.proofs.Common.{◌-◌, rules}
+use Rattle.std.proofs.Common.{◌-◌}
 use Rattle.trial_choice.proofs.commits.choose_more.Given as goal
 
 abbrev pub invariant-loop-i : goal.invariant-loop-i

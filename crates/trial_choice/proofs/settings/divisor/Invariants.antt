@@ -1,4 +1,4 @@
-use Rattle.std.proofs.Common.{◌-◌, rules}
+use Rattle.std.proofs.Common.{◌-◌}
 use Rattle.trial_choice.proofs.settings.divisor.Given as goal
 
 abbrev pub invariant-loop-d : goal.invariant-loop-d

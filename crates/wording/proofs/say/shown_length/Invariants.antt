@@ -1,6 +1,5 @@
 use Prim.Native.Nat.{◌≤◌}
 use lib.ListN.{length}
-use borrow.Author.Rules.{rules}
 use Rattle.wording.proofs.say.shown_length.Given as goal
 
 abbrev pub invariant-loop-end : goal.invariant-loop-end
