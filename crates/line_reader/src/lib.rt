@@ -1,11 +1,11 @@
-// The lines of standard input, one after the other, by way of a window that the caller lends.
+// The lines of an input, one after the other, by way of a window that the caller lends.
 #![tactic(auto)]
 
 ghost use Rattle.std.specs.Prelude.{◌≡◌, ℕ, ◌+◌, ◌≤◌, ◌<◌, length, get_or};
 ghost use Rattle.line_reader.specs.Reader.{line_bytes, window_bytes, Placed};
 
-use libc::STDIN_FILENO;
 use paper::tokens;
+use std::io::Read;
 
 // The bytes of the longest line, without its newline.
 pub const LINE: usize = 262_144;
@@ -163,38 +163,45 @@ fn make_room(window: &mut [u8; WINDOW], r: Reader) -> Reader
 }
 
 // One read into what is free, which is not nothing: a read of no bytes would look like the end of the input.
-fn read_once(window: &mut [u8], r: Reader) -> Reader
+fn read_once(input: &mut impl Read, window: &mut [u8], r: Reader) -> Reader
     requires window_len { length window.old ≡ window_bytes }
     requires placed { Placed r }
     requires filled_lt_window_bytes { r.filled < window_bytes }
     ensures { Placed result }
 {
     let filled = r.filled;
-    let got = libc::read(STDIN_FILENO, &mut window[filled..]);
-    let count = io::count(got, &window[filled..]);
-    Reader {
-        from: r.from,
-        sought: r.sought,
-        filled: filled + count,
-        ended: got == 0,
-        failed: got < 0,
+    match input.read(&mut window[filled..]) {
+        Ok(count) => Reader {
+            from: r.from,
+            sought: r.sought,
+            filled: filled + count,
+            ended: count == 0,
+            failed: false,
+        },
+        Err(_) => Reader {
+            from: r.from,
+            sought: r.sought,
+            filled,
+            ended: false,
+            failed: true,
+        },
     }
 }
 
 // Makes room, reads once, and seeks in what came.
-fn seek_further(window: &mut [u8; WINDOW], r: Reader) -> Reader
+fn seek_further(input: &mut impl Read, window: &mut [u8; WINDOW], r: Reader) -> Reader
     requires placed { Placed r }
     requires filled_bound { r.filled ≤ r.from + line_bytes }
     ensures { Placed result }
 {
     let roomy = make_room(window, r);
-    let longer = read_once(window, roomy);
+    let longer = read_once(input, window, roomy);
     seek(window, longer)
 }
 
 // Reads until the line that is next stands in the window, or cannot. One read at a time, so that a paper typed by hand is answered
 // line by line. Nothing says that the input ends, so the turns are counted down from a number that no run uses up.
-pub fn next_line(window: &mut [u8; WINDOW], from: Reader) -> Reader
+pub fn next_line(input: &mut impl Read, window: &mut [u8; WINDOW], from: Reader) -> Reader
     requires { Placed from }
     ensures { Placed result }
 {
@@ -204,7 +211,7 @@ pub fn next_line(window: &mut [u8; WINDOW], from: Reader) -> Reader
         let standing = r.standing();
         match standing {
             Standing::Open => {
-                r = seek_further(window, r);
+                r = seek_further(input, window, r);
             }
             _ => return r,
         }

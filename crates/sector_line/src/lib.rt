@@ -5,84 +5,85 @@ ghost use Rattle.std.specs.Prelude.{◌≡◌, ◌≤◌, ◌<◌, ◌+◌, leng
 ghost use Rattle.geometry.specs.Geometry.{sector_bytes};
 
 use geometry::Geometry;
+use std::io::Print;
 use wording::say;
 
-fn say_branch(s: &[u8], i: usize)
+fn say_branch(rt: &impl Print, s: &[u8], i: usize)
     requires { length s.now ≡ sector_bytes }
 {
     if i < Geometry::BRANCH_ROOM {
-        say::say_count(b" ", map_sector::branch_at(s, i));
+        say::say_count(rt, b" ", map_sector::branch_at(s, i));
     }
 }
 
-fn say_branches(s: &[u8])
+fn say_branches(rt: &impl Print, s: &[u8])
     requires { length s.now ≡ sector_bytes }
 {
     let count = map_sector::branch_count(s) as usize;
     if count == 0 {
-        say::say(b" none");
+        say::say(rt, b" none");
         return;
     }
     let mut i = 0;
     while i < count {
-        say_branch(s, i);
+        say_branch(rt, s, i);
         i += 1;
     }
 }
 
-fn say_map(s: &[u8])
+fn say_map(rt: &impl Print, s: &[u8])
     requires { length s.now ≡ sector_bytes }
 {
-    say::say_count(b" map; piece ", map_sector::piece_of(s));
-    say::say_count(b"; number ", map_sector::number_of(s));
+    say::say_count(rt, b" map; piece ", map_sector::piece_of(s));
+    say::say_count(rt, b"; number ", map_sector::number_of(s));
     if map_sector::is_closing(s) {
-        say::say(b"; closing");
+        say::say(rt, b"; closing");
     } else {
-        say::say(b"; member");
+        say::say(rt, b"; member");
     }
-    say::say(b"; branches");
-    say_branches(s);
+    say::say(rt, b"; branches");
+    say_branches(rt, s);
 }
 
-fn say_park(s: &[u8])
+fn say_park(rt: &impl Print, s: &[u8])
     requires { length s.now ≡ sector_bytes }
 {
-    say::say_count(b" park; tail ", park_record::parked_tail(s));
-    say::say_count(b"; number ", park_record::parked_number(s));
+    say::say_count(rt, b" park; tail ", park_record::parked_tail(s));
+    say::say_count(rt, b"; number ", park_record::parked_number(s));
 }
 
 // What a sector is: the park record counts in sector 0 alone.
-fn say_kind(s: &[u8], k: u32, g: Geometry)
+fn say_kind(rt: &impl Print, s: &[u8], k: u32, g: Geometry)
     requires s_len { length s.now ≡ sector_bytes }
     requires le_n { 1 ≤ g.n }
 {
     if blocks::is_blank(s) {
-        say::say(b" blank");
+        say::say(rt, b" blank");
         return;
     }
     if k == 0 {
         if park_record::is_park(s) {
-            say_park(s);
+            say_park(rt, s);
             return;
         }
     }
     if map_sector::is_valid(s, g) {
-        say_map(s);
+        say_map(rt, s);
         return;
     }
-    say::say(b" data");
+    say::say(rt, b" data");
 }
 
 // The line of sector k of a volume, and whether it is live.
-pub fn say_sector(s: &[u8], k: u32, g: Geometry, live: bool) {
-    say::say_count(b"sector ", k);
+pub fn say_sector(rt: &impl Print, s: &[u8], k: u32, g: Geometry, live: bool) {
+    say::say_count(rt, b"sector ", k);
     if s.len() == Geometry::SECTOR {
         if 1 <= g.n {
-            say_kind(s, k, g);
+            say_kind(rt, s, k, g);
         }
     }
     if live {
-        say::say(b"; live");
+        say::say(rt, b"; live");
     }
-    say::say(b"\n");
+    say::say(rt, b"\n");
 }

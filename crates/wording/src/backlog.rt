@@ -3,6 +3,7 @@ use crate::say;
 use answer::{Answer, Cost, Refusal, Verdict};
 use paper::request::Call;
 use state::State;
+use std::io::Print;
 
 // The refusal that has this number, by what the caller lends.
 fn lent_refusal(number: u32) -> Refusal {
@@ -50,19 +51,19 @@ fn answer_of(number: u32, cost: Cost) -> Answer {
 }
 
 // A commit of a backlog, with the state that it left.
-pub fn say_commit(call: Call, number: u32, cost: Cost, state: State) {
-    say::say_answer(call, answer_of(number, cost), state);
+pub fn say_commit(rt: &impl Print, call: Call, number: u32, cost: Cost, state: State) {
+    say::say_answer(rt, call, answer_of(number, cost), state);
 }
 
 // The line of the backlog itself: turned back as a whole, or how many of its commits were answered.
-pub fn say_backlog(verdict: Verdict, answered: u32, commits: u32) {
-    say::say_name(Call::Backlog);
+pub fn say_backlog(rt: &impl Print, verdict: Verdict, answered: u32, commits: u32) {
+    say::say_name(rt, Call::Backlog);
     match verdict {
-        Verdict::Refuse(refusal) => say::say_refusal(Call::Backlog, Answer::Refused(refusal)),
+        Verdict::Refuse(refusal) => say::say_refusal(rt, Call::Backlog, Answer::Refused(refusal)),
         Verdict::Pass => {
-            say::say_count(b": ", answered);
-            say::say_count(b" of ", commits);
-            say::say(b" answered\n");
+            say::say_count(rt, b": ", answered);
+            say::say_count(rt, b" of ", commits);
+            say::say(rt, b" answered\n");
         }
     }
 }
