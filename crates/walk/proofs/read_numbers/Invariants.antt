@@ -1,0 +1,18 @@
+-- The numbers below i are filled in.
+use Prim.Native.Nat.{ℕ, ◌+◌, ◌-◌}
+use mathlib.Core.Path.{sym, ◌∙◌, ap, subst}
+use mathlib.Core.List.{List}
+use native.Mathlib.Omega.{arith}
+use lib.ListN.{length, set}
+use Rattle.layout.specs.Bounded.{at}
+use Rattle.volume.specs.Tables.{sector_at}
+use Rattle.layout.specs.Word.{words_of}
+use Rattle.laws.proofs.Filling.{Filled, filled_none, filled_length, filled_more, filled_all}
+use Rattle.laws.proofs.Sectors.{sector_length}
+use Rattle.walk.proofs.read_numbers.Given as goal
+
+abbrev pub invariant-loop-i : goal.invariant-loop-i
+invariant-loop-i l = Filled (λ q. at (words_of (sector_at l.image (at l.places q))) 2) l.initial.numbers l.i l.numbers
+
+abbrev pub decreases-loop-i : goal.decreases-loop-i
+decreases-loop-i l = length l.initial.numbers - l.i
