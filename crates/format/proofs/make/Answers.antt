@@ -1,0 +1,51 @@
+-- The stores end in a cut or are whole; the tables follow.
+use mathlib.Core.Path.{sym, ◌∙◌}
+use native.Mathlib.Omega.{arith}
+use Rattle.power.proofs.Runs.{left_enough}
+use Rattle.checks.proofs.SizeLaws.{size_passed, volume_passed}
+use Rattle.fresh.proofs.FormatLaws.{format_cut_lem, format_whole}
+use borrow.Author.Rules.{rules}
+use Rattle.format.proofs.make.Goals as goal
+
+pub overflow_cast-image : goal.overflow_cast-image
+overflow_cast-image c =
+    let s = size_passed _ _ _ _ _ _ c.requires in
+    omega arith
+
+pub store_all-power-requires : goal.store_all-power-requires
+store_all-power-requires c =
+    let s = volume_passed _ _ _ _ _ _ c.volume-g.result c.volume-g.ensures c.requires in record {
+      pieces_value = c.pieces_for-pieces.ensures;
+      pieces_le_most_pieces = omega arith;
+      pieces_lt_n = omega arith;
+      image_len = s.image;
+    }
+
+pub fresh_tables-requires : goal.fresh_tables-requires
+fresh_tables-requires c =
+    let s = volume_passed _ _ _ _ _ _ c.volume-g.result c.volume-g.ensures c.requires in record {
+      pieces_value = c.pieces_for-pieces.ensures;
+      pieces_le_most_pieces = omega arith;
+      places_len = s.places ∙ sym c.pieces_for-pieces.ensures;
+      numbers_len = s.numbers ∙ sym c.pieces_for-pieces.ensures;
+      pieces_bound = omega arith;
+    }
+
+pub overflow_sub-stores : goal.overflow_sub-stores
+overflow_sub-stores c =
+    let h = left_enough _ _ _ (sym c.in-Left.is ∙ c.store_all-power.ensures.0) in
+    omega arith
+
+pub returns-in-Failed : goal.returns-in-Failed
+returns-in-Failed c =
+    format_cut_lem _ c.volume-g.result _ _ _ _ _ _ _ _ _
+    _ _ c.store_all-power.auto.image c.zero_tables.auto.map c.zero_tables.auto.places c.zero_tables.auto.numbers c.zero_tables.auto.used c.store_all-power.ensures.1
+    c.volume-g.ensures c.power_failed.result c.lost.result c.power_failed.ensures c.lost.ensures
+    (sym c.in-Failed.is ∙ c.store_all-power.ensures.0) c.zero_tables.ensures
+
+pub returns-in-Left : goal.returns-in-Left
+returns-in-Left c =
+    format_whole _ c.volume-g.result _ _ _ _ _ _ _ _
+    _ _ _ c.store_all-power.auto.image c.fresh_tables.auto.map c.fresh_tables.auto.places c.fresh_tables.auto.numbers c.fresh_tables.auto.used c.store_all-power.ensures.1
+    c.volume-g.ensures c.accepted.result c.running.result c.pieces_for-pieces.result _ c.pieces_for-pieces.ensures c.accepted.ensures
+    c.running.ensures (sym c.in-Left.is ∙ c.store_all-power.ensures.0) c.fresh_tables.ensures
