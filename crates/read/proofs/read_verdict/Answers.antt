@@ -3,6 +3,7 @@ use mathlib.Core.Path.{ap}
 use Rattle.state.specs.State.{is_readable}
 use Rattle.read.proofs.ReadLaws.{readable_arm, lengths_refused, block_refused, phase_refused, readable_judged, in_map, some_sectors}
 use borrow.Author.Rules.{rules}
+use borrow.Enum.Refused.{opened}
 use Rattle.read.proofs.read_verdict.Goals as goal
 
 pub returns-then-g-block : goal.returns-then-g-block
@@ -24,7 +25,7 @@ returns-in-Refuse c =
 pub returns-in-Running : goal.returns-in-Running
 returns-in-Running c =
     readable_judged _ _ _ _ _ _ _ _ c.state_verdict-lengths.result c.state_verdict-lengths.ensures c.in-Pass.is c.if-g-block.false
-    c.entry_verdict.result (readable_arm c.args.s.phase c.in-Running.in-Running-own.keys1) c.entry_verdict.ensures
+    c.entry_verdict.result (readable_arm c.args.s.phase (opened c.in-Running.in-Running-own.keys1)) c.entry_verdict.ensures
 
 pub returns-in-Cut : goal.returns-in-Cut
 returns-in-Cut c =

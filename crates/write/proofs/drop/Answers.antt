@@ -1,0 +1,13 @@
+-- Nothing is known of the tables.
+use mathlib.Core.Path.{sym}
+use mathlib.Core.Bool.{true≢false}
+use Rattle.write.proofs.WriteLaws.{drop_single}
+use borrow.Author.Rules.{rules}
+use Rattle.write.proofs.drop.Goals as goal
+
+pub drop_commit-requires : goal.drop_commit-requires
+drop_commit-requires c z = absurd (true≢false (sym z))
+
+pub returns : goal.returns
+returns c =
+    drop_single _ _ _ _ _ _ c.drop_commit.ensures

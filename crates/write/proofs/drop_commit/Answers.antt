@@ -1,0 +1,22 @@
+-- Refused it hands everything back; otherwise it is the commit of the definition.
+use mathlib.Core.Path.{refl, sym, ◌∙◌}
+use mathlib.Core.Logic.{inl}
+use mathlib.Core.List.{[]}
+use Rattle.write.proofs.WriteLaws.{drop_refused, drop_passed, drop_done}
+use borrow.Author.Rules.{rules}
+use Rattle.write.proofs.drop_commit.Goals as goal
+
+pub commit-requires : goal.commit-requires
+commit-requires c = record {
+  value = drop_passed _ _ _ _ _ _ _ _ 0 _ (sym c.in-Pass.is ∙ c.commit_verdict-verdict.ensures);
+  fact = inl refl;
+  bytes_len = refl;
+}
+
+pub returns-in-Refuse : goal.returns-in-Refuse
+returns-in-Refuse c =
+    drop_refused _ _ _ _ _ _ _ _ _ _ _ (sym c.in-Refuse.is ∙ c.commit_verdict-verdict.ensures)
+
+pub returns-in-Pass : goal.returns-in-Pass
+returns-in-Pass c =
+    drop_done _ _ _ _ _ _ _ _ _ _ [] _ (sym c.in-Pass.is ∙ c.commit_verdict-verdict.ensures) c.commit.ensures
