@@ -1,0 +1,190 @@
+-- The commits below i are made and answered, each with what those before it left.
+use Prim.Native.Nat.{ℕ, ◌+◌, ◌*◌, ◌-◌, ◌^◌, ◌<◌}
+use mathlib.Core.Path.{◌≡◌, refl, sym, ◌∙◌, ap}
+use native.Mathlib.Omega.{arith}
+use lib.ListN.{length}
+use Rattle.layout.specs.Bounded.{at}
+use Rattle.volume.specs.Tables.{memory}
+use Rattle.batches.specs.Batch.{blocks_of, bytes_of}
+use Rattle.batch.specs.Batch.{batch_left}
+use Rattle.batch.proofs.Commits.{part_inside, sum_fits, lent_keeps}
+use Rattle.batch.proofs.Making.{Making, making_starts, within_left, skipped_fits, making_more, making_stops, making_ends}
+use borrow.Author.Rules.{rules}
+use Rattle.batch.proofs.make_commits.Goals as goal
+
+pub loop-i-init : goal.loop-i-init
+loop-i-init c =
+    (refl, refl, refl, refl, refl, refl, (λ b. (c.type_inv.map b).fits), making_starts _ _ _ _ _ _ _)
+
+pub answer_commit-o-requires : goal.answer_commit-o-requires
+answer_commit-o-requires c =
+    let named = part_inside (blocks_of c.args.words.now) c.loop-i.i _ c.loop-i.block _ c.loop-i.invariant.7.block_is c.requires.named c.loop-i-test.true in
+    let brought = part_inside (bytes_of c.args.words.now) c.loop-i.i _ c.loop-i.byte _ c.loop-i.invariant.7.byte_is c.requires.brought c.loop-i-test.true in record {
+      commit_words_in_bounds = omega arith;
+      block_value = c.loop-i.invariant.7.block_is;
+      byte_value = c.loop-i.invariant.7.byte_is;
+      i_in_bounds = named;
+      i_in_bounds_2 = brought;
+      answer_words_in_bounds = omega arith;
+      known_agreed = c.loop-i.invariant.7.agree;
+    }
+
+pub overflow_sub-left : goal.overflow_sub-left
+overflow_sub-left c =
+    let h = within_left _ _ _ _ _ _ _ c.loop-i.i _ _ _ _ _ _ _ c.loop-i.invariant.7 c.loop-i-test.true _ _ c.answer_commit-o.ensures.0 _ c.answer_commit-o.ensures.1 in
+    omega arith
+
+pub overflow_add-skipped : goal.overflow_add-skipped
+overflow_add-skipped c =
+    let h = skipped_fits _ _ _ _ _ _ _ c.loop-i.i _ _ _ _ _ _ _ c.loop-i.invariant.7 c.loop-i-test.true _ _ c.answer_commit-o.ensures.0 _ c.answer_commit-o.ensures.1 in
+    omega arith
+
+pub overflow_mul-block : goal.overflow_mul-block
+overflow_mul-block c =
+    omega arith
+
+pub overflow_add-block : goal.overflow_add-block
+overflow_add-block c =
+    omega arith
+
+pub offset_bounds-words-i : goal.offset_bounds-words-i
+offset_bounds-words-i c =
+    omega arith
+
+pub bounds-words-i : goal.bounds-words-i
+bounds-words-i c =
+    omega arith
+
+pub overflow_cast-block : goal.overflow_cast-block
+overflow_cast-block c =
+    let h = (c.type_inv.words (4 * c.loop-i.i + 2)).fits in
+    omega arith
+
+pub overflow_add-block-in-loop-i : goal.overflow_add-block-in-loop-i
+overflow_add-block-in-loop-i c =
+    let before = sum_fits (blocks_of c.args.words.now) (λ j. (c.type_inv.words (4 * j + 2)).fits) c.loop-i.i in
+    let own = (c.type_inv.words (4 * c.loop-i.i + 2)).fits in
+    omega arith
+
+pub overflow_mul-byte : goal.overflow_mul-byte
+overflow_mul-byte c =
+    omega arith
+
+pub overflow_add-byte : goal.overflow_add-byte
+overflow_add-byte c =
+    omega arith
+
+pub offset_bounds-words-i-in-loop-i : goal.offset_bounds-words-i-in-loop-i
+offset_bounds-words-i-in-loop-i c =
+    omega arith
+
+pub bounds-words-i-in-loop-i : goal.bounds-words-i-in-loop-i
+bounds-words-i-in-loop-i c =
+    omega arith
+
+pub overflow_cast-byte : goal.overflow_cast-byte
+overflow_cast-byte c =
+    let h = (c.type_inv.words (4 * c.loop-i.i + 3)).fits in
+    omega arith
+
+pub overflow_add-byte-in-loop-i : goal.overflow_add-byte-in-loop-i
+overflow_add-byte-in-loop-i c =
+    let before = sum_fits (bytes_of c.args.words.now) (λ j. (c.type_inv.words (4 * j + 3)).fits) c.loop-i.i in
+    let own = (c.type_inv.words (4 * c.loop-i.i + 3)).fits in
+    omega arith
+
+pub overflow_add-i : goal.overflow_add-i
+overflow_add-i c =
+    omega arith
+
+pub overflow_sub-allowance : goal.overflow_sub-allowance
+overflow_sub-allowance c =
+    omega arith
+
+pub answered-requires : goal.answered-requires
+answered-requires c =
+    omega arith
+
+pub shape_of-image-then-number-ne0 : goal.shape_of-image-then-number-ne0
+shape_of-image-then-number-ne0 c =
+    c.answer_commit-o.auto.image ∙ c.loop-i.invariant.0
+
+pub shape_of-map-then-number-ne0 : goal.shape_of-map-then-number-ne0
+shape_of-map-then-number-ne0 c =
+    c.answer_commit-o.auto.map ∙ c.loop-i.invariant.1
+
+pub shape_of-places-then-number-ne0 : goal.shape_of-places-then-number-ne0
+shape_of-places-then-number-ne0 c =
+    c.answer_commit-o.auto.places ∙ c.loop-i.invariant.2
+
+pub shape_of-numbers-then-number-ne0 : goal.shape_of-numbers-then-number-ne0
+shape_of-numbers-then-number-ne0 c =
+    c.answer_commit-o.auto.numbers ∙ c.loop-i.invariant.3
+
+pub shape_of-used-then-number-ne0 : goal.shape_of-used-then-number-ne0
+shape_of-used-then-number-ne0 c =
+    c.answer_commit-o.auto.used ∙ c.loop-i.invariant.4
+
+pub shape_of-answers-then-number-ne0 : goal.shape_of-answers-then-number-ne0
+shape_of-answers-then-number-ne0 c =
+    c.answer_commit-o.auto.answers ∙ c.loop-i.invariant.5
+
+pub returns-then-number-ne0 : goal.returns-then-number-ne0
+returns-then-number-ne0 c =
+    let left = within_left _ _ _ _ _ _ _ c.loop-i.i _ _ _ _ _ _ _ c.loop-i.invariant.7 c.loop-i-test.true _ _ c.answer_commit-o.ensures.0 _ c.answer_commit-o.ensures.1 in
+    ap (λ x. batch_left x (memory c.answer_commit-o.new.image c.answer_commit-o.new.map c.answer_commit-o.new.places c.answer_commit-o.new.numbers c.answer_commit-o.new.used) c.answer_commit-o.new.answers) c.answered.ensures
+    ∙ making_stops _ _ _ _ _ _ _ c.loop-i.i _ _ c.loop-i.left c.loop-i.skipped _ _ _ c.loop-i.invariant.7 c.loop-i-test.true _ _ c.answer_commit-o.ensures.0 _ c.answer_commit-o.ensures.1 (c.loop-i.left - c.stores-left.result) _ (omega arith)
+    (ap (λ (x : ℕ). c.loop-i.skipped + x) c.skipped-skipped.ensures) (λ e. c.if-number-ne0.true (c.number.ensures ∙ e)) (c.loop-i.i + 1) _ refl (omega arith)
+
+pub loop-i-preserved : goal.loop-i-preserved
+loop-i-preserved c =
+    let left = within_left _ _ _ _ _ _ _ c.loop-i.i _ _ _ _ _ _ _ c.loop-i.invariant.7 c.loop-i-test.true _ _ c.answer_commit-o.ensures.0 _ c.answer_commit-o.ensures.1 in
+    let ok = sym c.number.ensures ∙ c.if-number-ne0.false in
+    let kept = lent_keeps _ _ _ _ _ _ _ _ c.loop-i.invariant.6 _ c.answer_commit-o.ensures.0 ok in (
+      c.answer_commit-o.auto.image ∙ c.loop-i.invariant.0,
+      c.answer_commit-o.auto.map ∙ c.loop-i.invariant.1,
+      c.answer_commit-o.auto.places ∙ c.loop-i.invariant.2,
+      c.answer_commit-o.auto.numbers ∙ c.loop-i.invariant.3,
+      c.answer_commit-o.auto.used ∙ c.loop-i.invariant.4,
+      c.answer_commit-o.auto.answers ∙ c.loop-i.invariant.5,
+      (λ b. (c.type_inv.map b).fits),
+      making_more _ _ _ _ _ _ _ c.loop-i.i _ _ c.loop-i.left c.loop-i.skipped _ _ _ c.loop-i.invariant.7 c.loop-i-test.true _ _ c.answer_commit-o.ensures.0 _ c.answer_commit-o.ensures.1 (c.loop-i.left - c.stores-left.result) _ (omega arith)
+          (ap (λ (x : ℕ). c.loop-i.skipped + x) c.skipped-skipped.ensures) ok (λ e. kept.agree) _ _ refl refl,
+    )
+
+pub overflow_sub-allowance-2 : goal.overflow_sub-allowance-2
+overflow_sub-allowance-2 c =
+    omega arith
+
+pub answered-requires-2 : goal.answered-requires-2
+answered-requires-2 c =
+    omega arith
+
+pub shape_of-image : goal.shape_of-image
+shape_of-image c =
+    c.loop-i.invariant.0
+
+pub shape_of-map : goal.shape_of-map
+shape_of-map c =
+    c.loop-i.invariant.1
+
+pub shape_of-places : goal.shape_of-places
+shape_of-places c =
+    c.loop-i.invariant.2
+
+pub shape_of-numbers : goal.shape_of-numbers
+shape_of-numbers c =
+    c.loop-i.invariant.3
+
+pub shape_of-used : goal.shape_of-used
+shape_of-used c =
+    c.loop-i.invariant.4
+
+pub shape_of-answers : goal.shape_of-answers
+shape_of-answers c =
+    c.loop-i.invariant.5
+
+pub returns : goal.returns
+returns c =
+    ap (λ x. batch_left x (memory c.loop-i.image c.loop-i.map c.loop-i.places c.loop-i.numbers c.loop-i.used) c.loop-i.answers) c.answered-2.ensures
+    ∙ making_ends _ _ _ _ _ _ _ c.loop-i.i _ _ c.loop-i.left c.loop-i.skipped _ _ _ c.loop-i.invariant.7 c.loop-i-test.false c.loop-i.i _ refl (omega arith)

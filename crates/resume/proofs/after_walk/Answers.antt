@@ -1,0 +1,24 @@
+-- The store to sector 0 is made or cut.
+use mathlib.Core.Path.{sym, ◌∙◌}
+use native.Mathlib.Omega.{arith}
+use Rattle.answer.specs.declared.Answer.TheVariants.{Walked}
+use Rattle.power.proofs.Runs.{left_enough}
+use Rattle.resume.proofs.ResumeLaws.{recovery_cut_lem, recovery_whole}
+use borrow.Author.Rules.{rules}
+use Rattle.resume.proofs.after_walk.Goals as goal
+
+pub overflow_sub-stores : goal.overflow_sub-stores
+overflow_sub-stores c =
+    let h = left_enough _ _ _ (sym c.in-Left.is ∙ c.clear_first-power.ensures.0) in
+    omega arith
+
+pub returns-in-Failed : goal.returns-in-Failed
+returns-in-Failed c =
+    recovery_cut_lem _ _ _ _ _ (Walked _) _ _ c.args.map.now c.args.places.now c.args.numbers.now c.args.used.now _ c.clear_first-power.auto.image c.clear_first-power.ensures.1
+    _ _ _ _ c.give_up.result c.give_up.auto.map c.give_up.auto.places c.give_up.auto.numbers c.give_up.auto.used
+    (sym c.in-Failed.is ∙ c.clear_first-power.ensures.0) c.give_up.ensures
+
+pub returns-in-Left : goal.returns-in-Left
+returns-in-Left c =
+    recovery_whole _ _ _ _ _ (Walked _) _ _ _ _ _ _ _ c.clear_first-power.auto.image c.clear_first-power.ensures.1
+    c.walked.result c.running.result _ c.walked.ensures c.running.ensures (sym c.in-Left.is ∙ c.clear_first-power.ensures.0)
