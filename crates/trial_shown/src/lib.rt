@@ -103,6 +103,24 @@ fn shows_lent(
     )
 }
 
+// Fills what is lent from the board, and compares. The arrays come from the caller: of one that is made where it is lent the check would count the elements.
+fn shows_loaded(
+    b: &[u32; board::SIZE],
+    image: &mut [u8; trial_lent::IMAGE_BYTES],
+    map: &mut [u32; trial_lent::MAP_WORDS],
+    places: &mut [u32; trial_lent::PIECES],
+    numbers: &mut [u32; trial_lent::PIECES],
+    used: &mut [u8; trial_lent::USED_BYTES],
+    spread: u32,
+) -> bool {
+    trial_lent::load_bytes(image, b, board::IMAGE, cells::image_words(b));
+    trial_lent::load_words(map, b, board::LENT, cells::get(b, board::MAP_LENGTH));
+    trial_lent::load_words(places, b, board::LENT + board::PLACES, board::P_MOST);
+    trial_lent::load_words(numbers, b, board::LENT + board::NUMBERS, board::P_MOST);
+    trial_lent::load_used(used, b, board::USED_WORDS / 8);
+    shows_lent(b, image, map, places, numbers, used, spread)
+}
+
 // Whether the code's reads give the plain disk's blocks: every `spread`-th, or all for 0.
 pub fn shows(b: &[u32; board::SIZE], spread: u32) -> bool {
     let mut image = [0u8; trial_lent::IMAGE_BYTES];
@@ -110,12 +128,15 @@ pub fn shows(b: &[u32; board::SIZE], spread: u32) -> bool {
     let mut places = [0u32; trial_lent::PIECES];
     let mut numbers = [0u32; trial_lent::PIECES];
     let mut used = [0u8; trial_lent::USED_BYTES];
-    trial_lent::load_bytes(&mut image, b, board::IMAGE, cells::image_words(b));
-    trial_lent::load_words(&mut map, b, board::LENT, cells::get(b, board::MAP_LENGTH));
-    trial_lent::load_words(&mut places, b, board::LENT + board::PLACES, board::P_MOST);
-    trial_lent::load_words(&mut numbers, b, board::LENT + board::NUMBERS, board::P_MOST);
-    trial_lent::load_used(&mut used, b, board::USED_WORDS / 8);
-    shows_lent(b, &image, &map, &places, &numbers, &used, spread)
+    shows_loaded(
+        b,
+        &mut image,
+        &mut map,
+        &mut places,
+        &mut numbers,
+        &mut used,
+        spread,
+    )
 }
 
 // How many blocks are read for a spread.
