@@ -1,0 +1,13 @@
+-- The definition of drop, its outcome in numbers.
+use Rattle.capi.proofs.Numbers.{call_in_numbers}
+use Rattle.state.specs.declared.State.{State}
+use Rattle.volume.specs.Tables.{memory}
+use Rattle.volume.specs.Calls.{drop_of}
+use borrow.Author.Rules.{rules}
+use Rattle.capi.proofs.calls.vlog_drop.Goals as goal
+
+pub returns : goal.returns
+returns c =
+    call_in_numbers c.args.c _ c.drop-o.result _ c.result_of.result c.state_of-s.ensures c.result_of.ensures
+    (λ (s : State). drop_of s (memory c.args.image.now c.args.map.now c.args.places.now c.args.numbers.now c.args.used.now) c.args.head c.args.blocks.now c.args.allowance)
+    c.drop-o.ensures
