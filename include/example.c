@@ -2,8 +2,9 @@
  * Formats a volume in a file, writes a message, cuts a second write off after one store, as a power failure would, then
  * recovers from the file alone and reads the message back.
  *
- *     rt staticlib capi
- *     cc -O2 -Wall -Iinclude include/example.c target/staticlib/libcapi.a -o target/example && target/example
+ *     (cd crates/capi && rt lib)
+ *     cc -O2 -Wall -Iinclude include/example.c crates/capi/out/libcapi.a -o crates/capi/out/example
+ *     crates/capi/out/example
  *
  * The volume's file is chat.vlog in the current folder, or the one named as the argument.
  */

@@ -2,7 +2,7 @@
  * one at a time, at random, each from a random head.  Prints, for each drive and share: sectors a track, tracks,
  * head switch, share of free sectors, mean delay of a store in sector times.
  *
- *   cc -O2 -I../../include delays.c ../../target/staticlib/libcapi.a -lpthread -ldl -lm -o ../../target/delays */
+ *   cc -O2 -I../../include delays.c ../../crates/capi/out/libcapi.a -lpthread -ldl -lm -o ../../crates/capi/out/delays */
 #include <stdint.h>
 #include <stdio.h>
 #include <stdlib.h>
