@@ -11,6 +11,7 @@ use line_reader::{Reader, WINDOW};
 use paper::request::Call;
 use paper::tokens;
 use state::{BatchOutcome, State};
+use std::io::{Print, Read};
 use wording::backlog;
 
 const ANSWERS: usize = gather::COMMITS as usize * ANSWER_WORDS;
@@ -76,7 +77,7 @@ fn call_of(kind: u32) -> Call {
 }
 
 // The line of a commit that was answered: its number, its cost, and the tail and number that it left.
-fn say_commit(s: State, words: &[u32], answers: &[u32], commit: u32) {
+fn say_commit(rt: &impl Print, s: State, words: &[u32], answers: &[u32], commit: u32) {
     let kind = word_at(words, COMMIT_WORDS * commit as usize);
     let at = ANSWER_WORDS * commit as usize;
     let cost = Cost {
@@ -84,19 +85,20 @@ fn say_commit(s: State, words: &[u32], answers: &[u32], commit: u32) {
         skipped: word_at(answers, at + 2),
     };
     let left = s.committed(word_at(answers, at + 3), word_at(answers, at + 4));
-    backlog::say_commit(call_of(kind), word_at(answers, at), cost, left);
+    backlog::say_commit(rt, call_of(kind), word_at(answers, at), cost, left);
 }
 
-fn say_commits(s: State, words: &[u32], answers: &[u32], answered: u32) {
+fn say_commits(rt: &impl Print, s: State, words: &[u32], answers: &[u32], answered: u32) {
     let mut i = 0u32;
     while i < answered {
-        say_commit(s, words, answers, i);
+        say_commit(rt, s, words, answers, i);
         i += 1;
     }
 }
 
 // Makes what was gathered, and says it.
 fn make(
+    rt: &impl Print,
     desk: Desk,
     g: Gathered,
     image: &mut [u8; desk::IMAGE],
@@ -127,13 +129,15 @@ fn make(
     );
     let after = done.state;
     let verdict = done.verdict;
-    backlog::say_backlog(verdict, done.answered, g.commits);
-    say_commits(after, words, &answers, done.answered);
+    backlog::say_backlog(rt, verdict, done.answered, g.commits);
+    say_commits(rt, after, words, &answers, done.answered);
     desk.after_backlog(after, g.line)
 }
 
 // The lines of a backlog, and the call that they ask for. Where a line is not understood, nothing is made.
 fn answer_commits(
+    rt: &impl Print,
+    input: &mut impl Read,
     desk: Desk,
     stores: u32,
     window: &mut [u8; WINDOW],
@@ -151,6 +155,8 @@ fn answer_commits(
     let mut blocks = [0u32; gather::BLOCKS];
     let mut bytes = [0u8; gather::BYTES];
     let found = gather::gather(
+        rt,
+        input,
         window,
         reader,
         desk.line,
@@ -164,7 +170,8 @@ fn answer_commits(
     match stage {
         Stage::Closed => {
             let made = make(
-                desk, gathered, image, map, places, numbers, used, &words, &blocks, &bytes, stores,
+                rt, desk, gathered, image, map, places, numbers, used, &words, &blocks, &bytes,
+                stores,
             );
             Turn {
                 desk: made,
@@ -180,6 +187,8 @@ fn answer_commits(
 
 // The backlog that the last line began, where it began one.
 fn answer_backlog(
+    rt: &impl Print,
+    input: &mut impl Read,
     desk: Desk,
     window: &mut [u8; WINDOW],
     reader: Reader,
@@ -196,13 +205,15 @@ fn answer_backlog(
     match lines {
         Lines::Calls => Turn { desk, reader },
         Lines::Backlog(stores) => answer_commits(
-            desk, stores, window, reader, image, map, places, numbers, used,
+            rt, input, desk, stores, window, reader, image, map, places, numbers, used,
         ),
     }
 }
 
 // What the reader found: the next line, and the backlog where it begins one.
 pub fn answer_turn(
+    rt: &impl Print,
+    input: &mut impl Read,
     desk: Desk,
     window: &mut [u8; WINDOW],
     reader: Reader,
@@ -215,8 +226,10 @@ pub fn answer_turn(
     requires { Placed reader }
     ensures { Placed result.reader }
 {
-    let here = desk::answer_next(desk, window, reader, image, map, places, numbers, used);
+    let here = desk::answer_next(rt, desk, window, reader, image, map, places, numbers, used);
     answer_backlog(
+        rt,
+        input,
         here,
         window,
         reader.passed(),

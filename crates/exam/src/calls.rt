@@ -7,6 +7,7 @@ use geometry::{Drive, Geometry};
 use paper::request::{Call, Request};
 use paper::{request, tokens};
 use state::{Outcome, State};
+use std::io::Print;
 use storing_calls::Storing;
 use wording::say;
 
@@ -28,6 +29,7 @@ fn storing(call: Call) -> Storing {
 
 // Reads a block, and says it.
 fn say_read(
+    rt: &impl Print,
     s: State,
     image: &[u8],
     map: &[u32],
@@ -39,19 +41,20 @@ fn say_read(
     let mut out = [0u8; Geometry::SECTOR];
     let done = read::read(s, image, map, places, numbers, used, block, &mut out);
     let answer = done.answer;
-    say::say_count(b"read ", block);
+    say::say_count(rt, b"read ", block);
     if answer.number() != 0 {
-        say::say_refusal(Call::Read, answer);
+        say::say_refusal(rt, Call::Read, answer);
         return done;
     }
-    say::say(b": accepted; ");
-    say::say_block(&out);
-    say::say(b"\n");
+    say::say(rt, b": accepted; ");
+    say::say_block(rt, &out);
+    say::say(rt, b"\n");
     done
 }
 
 // Whether a block is not all zeros. Its line is said where that is asked for.
 fn is_shown(
+    rt: &impl Print,
     s: State,
     image: &[u8],
     map: &[u32],
@@ -67,10 +70,10 @@ fn is_shown(
         return false;
     }
     if aloud {
-        say::say_count(b"block ", block);
-        say::say(b" ");
-        say::say_block(&out);
-        say::say(b"\n");
+        say::say_count(rt, b"block ", block);
+        say::say(rt, b" ");
+        say::say_block(rt, &out);
+        say::say(rt, b"\n");
     }
     true
 }
@@ -87,6 +90,7 @@ fn counted(count: u32, shown: bool) -> u32 {
 
 // How many blocks are not all zeros.
 fn show_blocks(
+    rt: &impl Print,
     s: State,
     image: &[u8],
     map: &[u32],
@@ -99,7 +103,7 @@ fn show_blocks(
     let mut count = 0u32;
     let mut b = 0u32;
     while b < l {
-        let shown = is_shown(s, image, map, places, numbers, used, b, aloud);
+        let shown = is_shown(rt, s, image, map, places, numbers, used, b, aloud);
         count = counted(count, shown);
         b += 1;
     }
@@ -108,6 +112,7 @@ fn show_blocks(
 
 // The blocks that are not all zeros, where reading block 0 is not refused.
 fn show(
+    rt: &impl Print,
     s: State,
     image: &[u8],
     map: &[u32],
@@ -118,17 +123,18 @@ fn show(
     let mut out = [0u8; Geometry::SECTOR];
     let done = read::read(s, image, map, places, numbers, used, 0, &mut out);
     let answer = done.answer;
-    say::say(b"show");
+    say::say(rt, b"show");
     if answer.number() != 0 {
-        say::say_refusal(Call::Show, answer);
+        say::say_refusal(rt, Call::Show, answer);
         return done;
     }
     say::say_count(
+        rt,
         b": ",
-        show_blocks(s, image, map, places, numbers, used, false),
+        show_blocks(rt, s, image, map, places, numbers, used, false),
     );
-    say::say(b" blocks\n");
-    show_blocks(s, image, map, places, numbers, used, true);
+    say::say(rt, b" blocks\n");
+    show_blocks(rt, s, image, map, places, numbers, used, true);
     done
 }
 
@@ -146,12 +152,12 @@ fn sector_part(image: &[u8], k: u32) -> &[u8] {
 }
 
 // The sectors of the image, a line each, with the marks that a scan made where it found a log.
-fn say_sectors(image: &[u8], g: Geometry, found: bool, used: &[u8]) {
+fn say_sectors(rt: &impl Print, image: &[u8], g: Geometry, found: bool, used: &[u8]) {
     let n = g.n;
     let mut k = 0u32;
     while k < n {
         let live = found && live_marks::is_live(used, k as usize);
-        sector_line::say_sector(sector_part(image, k), k, g, live);
+        sector_line::say_sector(rt, sector_part(image, k), k, g, live);
         k += 1;
     }
 }
@@ -163,20 +169,21 @@ fn mark_live(image: &[u8], g: Geometry, used: &mut [u8]) -> bool {
 }
 
 // The sectors by the image alone, whatever the volume's own tables say.
-fn show_sectors(image: &[u8], g: Geometry) {
+fn show_sectors(rt: &impl Print, image: &[u8], g: Geometry) {
     let mut used = [0u8; USED];
     let found = mark_live(image, g, &mut used);
-    say_sectors(image, g, found, &used);
+    say_sectors(rt, image, g, found, &used);
 }
 
-fn say_done(call: Call, done: Outcome) {
+fn say_done(rt: &impl Print, call: Call, done: Outcome) {
     let answer = done.answer;
     let state = done.state;
-    say::say_answer(call, answer, state);
+    say::say_answer(rt, call, answer, state);
 }
 
 // A call on the parts that belong to the volume.
 fn perform(
+    rt: &impl Print,
     call: Call,
     r: Request,
     s: State,
@@ -191,10 +198,10 @@ fn perform(
     bytes: &[u8],
 ) -> Outcome {
     match call {
-        Call::Read => say_read(s, image, map, places, numbers, used, r.first),
-        Call::Show => show(s, image, map, places, numbers, used),
+        Call::Read => say_read(rt, s, image, map, places, numbers, used, r.first),
+        Call::Show => show(rt, s, image, map, places, numbers, used),
         Call::Sectors => {
-            show_sectors(image, size);
+            show_sectors(rt, image, size);
             Outcome {
                 answer: Answer::accepted(0),
                 state: s,
@@ -215,7 +222,7 @@ fn perform(
                 bytes,
                 r.stores(),
             );
-            say_done(call, done);
+            say_done(rt, call, done);
             done
         }
     }
@@ -251,6 +258,7 @@ pub fn blocks_part(blocks: &[u32], from: usize, to: usize) -> &[u32] {
 
 // Lends the parts that belong to a volume of this size: of an image or a map that is out of range, nothing.
 pub fn lend(
+    rt: &impl Print,
     call: Call,
     r: Request,
     s: State,
@@ -270,6 +278,7 @@ pub fn lend(
     let q = within(p, numbers.len());
     let u = within(size.used_bytes() as usize, used.len());
     perform(
+        rt,
         call,
         r,
         s,

@@ -9,6 +9,7 @@ use paper::data::Trouble;
 use paper::request;
 use paper::request::{Call, Request};
 use state::State;
+use std::io::Print;
 use wording::say;
 
 // Whose lines come next.
@@ -41,6 +42,9 @@ pub const MAP: usize = Geometry::MOST_BLOCKS as usize;
 pub const PIECES: usize = Geometry::MOST_PIECES;
 
 pub const USED: usize = calls::USED;
+
+// The bytes of the most blocks of a line.
+pub const LINE_BYTES: usize = request::MOST * Geometry::SECTOR;
 
 // The number after a line's.
 pub fn counted(line: u32) -> u32 {
@@ -179,18 +183,25 @@ fn obstacle(desk: Desk, call: Call, given: Given) -> Trouble {
 }
 
 // Whether a line is turned back, with the words for it.
-fn is_refused(desk: Desk, call: Call, r: Request, given: Given, line: &[u8]) -> bool {
+fn is_refused(
+    rt: &impl Print,
+    desk: Desk,
+    call: Call,
+    r: Request,
+    given: Given,
+    line: &[u8],
+) -> bool {
     let number = desk.line;
     if !r.is_fine() {
         let found = r.trouble;
-        say::say_trouble(number, line, call, r.at, found);
+        say::say_trouble(rt, number, line, call, r.at, found);
         return true;
     }
     let trouble = obstacle(desk, call, given);
     match trouble {
         Trouble::Fine => false,
         _ => {
-            say::say_obstacle(number, line, trouble);
+            say::say_obstacle(rt, number, line, trouble);
             true
         }
     }
@@ -206,6 +217,7 @@ fn has_volume(answer: u32) -> bool {
 
 // The volume's parts for a call, and the call.
 fn answer_request(
+    rt: &impl Print,
     desk: Desk,
     call: Call,
     r: Request,
@@ -221,7 +233,7 @@ fn answer_request(
     let state = desk.state;
     let drive = given.drive;
     let left = calls::lend(
-        call, r, state, given.size, drive, image, map, places, numbers, used, blocks, bytes,
+        rt, call, r, state, given.size, drive, image, map, places, numbers, used, blocks, bytes,
     );
     let answer = left.answer;
     let after = left.state;
@@ -231,8 +243,45 @@ fn answer_request(
     }
 }
 
+// Reads the line into the arrays for its blocks and their bytes, and makes the call. They come from the caller: of an array that is made
+// where it is lent the check would count the elements.
+fn answer_read(
+    rt: &impl Print,
+    desk: Desk,
+    call: Call,
+    line: &[u8],
+    image: &mut [u8; IMAGE],
+    map: &mut [u32; MAP],
+    places: &mut [u32; PIECES],
+    numbers: &mut [u32; PIECES],
+    used: &mut [u8; USED],
+    blocks: &mut [u32; request::MOST],
+    bytes: &mut [u8; LINE_BYTES],
+) -> Desk {
+    let r = request::request_of(line, call, blocks, bytes);
+    let given = asked(desk, call, r);
+    if is_refused(rt, desk, call, r, given, line) {
+        return desk.stop();
+    }
+    answer_request(
+        rt,
+        desk,
+        call,
+        r,
+        given::handed(given),
+        image,
+        map,
+        places,
+        numbers,
+        used,
+        blocks,
+        bytes,
+    )
+}
+
 // A line that asks for a call.
 fn answer_call(
+    rt: &impl Print,
     desk: Desk,
     call: Call,
     line: &[u8],
@@ -243,32 +292,27 @@ fn answer_call(
     used: &mut [u8; USED],
 ) -> Desk {
     let mut blocks = [0u32; request::MOST];
-    let mut bytes = [0u8; request::MOST * Geometry::SECTOR];
-    let r = request::request_of(line, call, &mut blocks, &mut bytes);
-    let given = asked(desk, call, r);
-    if is_refused(desk, call, r, given, line) {
-        return desk.stop();
-    }
-    answer_request(
+    let mut bytes = [0u8; LINE_BYTES];
+    answer_read(
+        rt,
         desk,
         call,
-        r,
-        given::handed(given),
+        line,
         image,
         map,
         places,
         numbers,
         used,
-        &blocks,
-        &bytes,
+        &mut blocks,
+        &mut bytes,
     )
 }
 
 // The line that a backlog begins with.
-fn begin_backlog(desk: Desk, line: &[u8]) -> Desk {
+fn begin_backlog(rt: &impl Print, desk: Desk, line: &[u8]) -> Desk {
     let r = request::request_without_blocks(line, Call::Backlog);
     let given = asked(desk, Call::Backlog, r);
-    if is_refused(desk, Call::Backlog, r, given, line) {
+    if is_refused(rt, desk, Call::Backlog, r, given, line) {
         return desk.stop();
     }
     desk.before_backlog(r.stores())
@@ -276,6 +320,7 @@ fn begin_backlog(desk: Desk, line: &[u8]) -> Desk {
 
 // A line of the paper.
 fn answer_line(
+    rt: &impl Print,
     desk: Desk,
     line: &[u8],
     image: &mut [u8; IMAGE],
@@ -287,13 +332,14 @@ fn answer_line(
     let call = request::call_of(line);
     match call {
         Call::Nothing => desk,
-        Call::Backlog => begin_backlog(desk, line),
-        _ => answer_call(desk, call, line, image, map, places, numbers, used),
+        Call::Backlog => begin_backlog(rt, desk, line),
+        _ => answer_call(rt, desk, call, line, image, map, places, numbers, used),
     }
 }
 
 // What the reader found: the next line, or why there is none.
 pub fn answer_next(
+    rt: &impl Print,
     desk: Desk,
     window: &[u8; WINDOW],
     reader: Reader,
@@ -309,6 +355,7 @@ pub fn answer_next(
     let standing = reader.standing();
     match standing {
         Standing::Whole => answer_line(
+            rt,
             here,
             line_reader::line(window, reader),
             image,
@@ -319,12 +366,12 @@ pub fn answer_next(
         ),
         Standing::Nothing => desk.stop(),
         Standing::Long => {
-            say::say_long_line(here.line, LINE as u64);
+            say::say_long_line(rt, here.line, LINE as u64);
             here.stop()
         }
         // A read failed; the reader leaves no line open otherwise.
         _ => {
-            say::say_unreadable(here.line);
+            say::say_unreadable(rt, here.line);
             here.stop()
         }
     }

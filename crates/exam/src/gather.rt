@@ -9,6 +9,7 @@ use line_reader::{LINE, Reader, Standing, WINDOW};
 use paper::data::Trouble;
 use paper::request;
 use paper::request::{Call, Request};
+use std::io::{Print, Read};
 use wording::say;
 
 // The most commits that are written down, and the words, block numbers and bytes of so many, each of the most blocks of a line.
@@ -19,9 +20,6 @@ pub const WORDS: usize = COMMITS as usize * COMMIT_WORDS;
 pub const BLOCKS: usize = COMMITS as usize * request::MOST;
 
 pub const BYTES: usize = BLOCKS * Geometry::SECTOR;
-
-// The bytes of the most blocks of a line.
-const LINE_BYTES: usize = request::MOST * Geometry::SECTOR;
 
 #[derive(Clone, Copy)]
 pub enum Stage {
@@ -116,17 +114,17 @@ impl Gathered {
 }
 
 // A line that is not understood.
-fn broken(g: Gathered, call: Call, r: Request, line: &[u8]) -> Gathered {
+fn broken(rt: &impl Print, g: Gathered, call: Call, r: Request, line: &[u8]) -> Gathered {
     let trouble = r.trouble;
-    say::say_trouble(g.line, line, call, r.at, trouble);
+    say::say_trouble(rt, g.line, line, call, r.at, trouble);
     g.at_stage(Stage::Broken)
 }
 
 // The end of a backlog has no other words.
-fn take_end(g: Gathered, line: &[u8]) -> Gathered {
+fn take_end(rt: &impl Print, g: Gathered, line: &[u8]) -> Gathered {
     let r = request::request_without_blocks(line, Call::BacklogEnd);
     if !r.is_fine() {
-        return broken(g, Call::BacklogEnd, r, line);
+        return broken(rt, g, Call::BacklogEnd, r, line);
     }
     g.at_stage(Stage::Closed)
 }
@@ -151,11 +149,11 @@ fn read_commit(
         return request::turned_back(line, Trouble::Commits);
     }
     let byte = g.bytes;
-    if byte > BYTES - LINE_BYTES {
+    if byte > BYTES - desk::LINE_BYTES {
         return request::turned_back(line, Trouble::Commits);
     }
     let blocks_end = block + request::MOST;
-    let bytes_end = byte + LINE_BYTES;
+    let bytes_end = byte + desk::LINE_BYTES;
     request::request_of(
         line,
         call,
@@ -206,6 +204,7 @@ fn put_commit(
 
 // A write or a drop is written down.
 fn take_commit(
+    rt: &impl Print,
     g: Gathered,
     call: Call,
     line: &[u8],
@@ -215,7 +214,7 @@ fn take_commit(
 ) -> Gathered {
     let r = read_commit(line, call, g, blocks, bytes);
     if !r.is_fine() {
-        return broken(g, call, r, line);
+        return broken(rt, g, call, r, line);
     }
     let count = calls::within(r.count, request::MOST);
     let own = bytes_of(call, count);
@@ -225,6 +224,7 @@ fn take_commit(
 
 // A line of the backlog.
 fn take_line(
+    rt: &impl Print,
     g: Gathered,
     line: &[u8],
     words: &mut [u32; WORDS],
@@ -234,13 +234,14 @@ fn take_line(
     let call = request::call_in_backlog(line);
     match call {
         Call::Nothing => g,
-        Call::BacklogEnd => take_end(g, line),
-        _ => take_commit(g, call, line, words, blocks, bytes),
+        Call::BacklogEnd => take_end(rt, g, line),
+        _ => take_commit(rt, g, call, line, words, blocks, bytes),
     }
 }
 
 // What the reader found: the next line, or why there is none. `first` is the number of the backlog's first line.
 fn take_next(
+    rt: &impl Print,
     g: Gathered,
     first: u32,
     window: &[u8; WINDOW],
@@ -255,6 +256,7 @@ fn take_next(
     let standing = reader.standing();
     match standing {
         Standing::Whole => take_line(
+            rt,
             here,
             line_reader::line(window, reader),
             words,
@@ -262,15 +264,15 @@ fn take_next(
             bytes,
         ),
         Standing::Nothing => {
-            say::say_open_backlog(first);
+            say::say_open_backlog(rt, first);
             here.at_stage(Stage::Broken)
         }
         Standing::Long => {
-            say::say_long_line(here.line, LINE as u64);
+            say::say_long_line(rt, here.line, LINE as u64);
             here.at_stage(Stage::Broken)
         }
         _ => {
-            say::say_unreadable(here.line);
+            say::say_unreadable(rt, here.line);
             here.at_stage(Stage::Broken)
         }
     }
@@ -278,6 +280,8 @@ fn take_next(
 
 // The lines after the first one, up to the end. They are counted down like those of a paper.
 pub fn gather(
+    rt: &impl Print,
+    input: &mut impl Read,
     window: &mut [u8; WINDOW],
     from: Reader,
     first: u32,
@@ -292,8 +296,8 @@ pub fn gather(
     let mut gathered = Gathered::begun(first);
     let mut left = u64::MAX;
     while left > 0 {
-        reader = line_reader::next_line(window, reader);
-        gathered = take_next(gathered, first, window, reader, words, blocks, bytes);
+        reader = line_reader::next_line(input, window, reader);
+        gathered = take_next(rt, gathered, first, window, reader, words, blocks, bytes);
         reader = reader.passed();
         if !gathered.is_open() {
             return Gathering { gathered, reader };

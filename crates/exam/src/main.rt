@@ -9,9 +9,12 @@ mod given;
 
 use desk::Desk;
 use line_reader::Reader;
+use std::io::{Print, Read};
 
 // The lines of a paper, one after the other. Nothing says that a paper ends, so they are counted down from a number that no run uses up.
 fn answer_lines(
+    rt: &impl Print,
+    input: &mut impl Read,
     image: &mut [u8; desk::IMAGE],
     map: &mut [u32; desk::MAP],
     places: &mut [u32; desk::PIECES],
@@ -23,8 +26,10 @@ fn answer_lines(
     let mut desk = Desk::opened();
     let mut left = u64::MAX;
     while left > 0 {
-        reader = line_reader::next_line(&mut window, reader);
+        reader = line_reader::next_line(input, &mut window, reader);
         let turn = backlog::answer_turn(
+            rt,
+            input,
             desk,
             &mut window,
             reader,
@@ -43,11 +48,20 @@ fn answer_lines(
     }
 }
 
-fn main() {
+fn main(rt: HostRuntime) {
+    let mut input = rt.stdin();
     let mut image = [0u8; desk::IMAGE];
     let mut map = [0u32; desk::MAP];
     let mut places = [0u32; desk::PIECES];
     let mut numbers = [0u32; desk::PIECES];
     let mut used = [0u8; desk::USED];
-    answer_lines(&mut image, &mut map, &mut places, &mut numbers, &mut used);
+    answer_lines(
+        &rt,
+        &mut input,
+        &mut image,
+        &mut map,
+        &mut places,
+        &mut numbers,
+        &mut used,
+    );
 }

@@ -1,6 +1,7 @@
 // Plug-pulls of a backlog in words: three commits on the volume of the other plug-pulls, after its first write.
 use crate::{cuts, plugs};
 use reference_board::board;
+use std::io::Print;
 use trial_board::{backlog, cells, stand};
 use wording::say;
 
@@ -63,51 +64,52 @@ fn shown(b: &[u32; board::SIZE]) -> u32 {
     4
 }
 
-fn say_shown(b: &[u32; board::SIZE]) {
+fn say_shown(rt: &impl Print, b: &[u32; board::SIZE]) {
     match shown(b) {
-        0 => say::say(b"; it shows none of the three.\n"),
-        1 => say::say(b"; it shows the first.\n"),
-        2 => say::say(b"; it shows the first two.\n"),
-        3 => say::say(b"; it shows all three.\n"),
-        _ => say::say(b"; it shows something else.\n"),
+        0 => say::say(rt, b"; it shows none of the three.\n"),
+        1 => say::say(rt, b"; it shows the first.\n"),
+        2 => say::say(rt, b"; it shows the first two.\n"),
+        3 => say::say(rt, b"; it shows all three.\n"),
+        _ => say::say(rt, b"; it shows something else.\n"),
     }
 }
 
-fn say_answer(b: &[u32; board::SIZE], i: u32) {
-    say::say_count(b" ", board::answer_word(b, i, 0));
+fn say_answer(rt: &impl Print, b: &[u32; board::SIZE], i: u32) {
+    say::say_count(rt, b" ", board::answer_word(b, i, 0));
 }
 
-fn say_answers(b: &[u32; board::SIZE]) {
+fn say_answers(rt: &impl Print, b: &[u32; board::SIZE]) {
     let answered = cells::get(b, board::COMMITS_ANSWERED);
     for i in 0..answered {
-        say_answer(b, i);
+        say_answer(rt, b, i);
     }
 }
 
 // The backlog with so many stores, and what a recovery then shows.
-fn pull(b: &[u32; board::SIZE], stores: u32) {
+fn pull(rt: &impl Print, b: &[u32; board::SIZE], stores: u32) {
     let mut c = [0u32; board::SIZE];
     cells::keep(&mut c, b);
     cells::set(&mut c, board::ALLOWED, stores);
     cuts::perform(&mut c);
     say::say_count(
+        rt,
         b"A backlog of three commits, the plug pulled after ",
         stores,
     );
-    say::say(b" of 5 stores: answers");
-    say_answers(&c);
+    say::say(rt, b" of 5 stores: answers");
+    say_answers(rt, &c);
     cuts::recover(&mut c, stand::ENOUGH);
-    plugs::say_recovery(&c);
-    say_shown(&c);
+    plugs::say_recovery(rt, &c);
+    say_shown(rt, &c);
 }
 
-fn pull_each(b: &[u32; board::SIZE], count: u32) {
+fn pull_each(rt: &impl Print, b: &[u32; board::SIZE], count: u32) {
     for stores in 0..count {
-        pull(b, stores);
+        pull(rt, b, stores);
     }
 }
 
-pub fn run(b: &mut [u32; board::SIZE]) {
+pub fn run(rt: &impl Print, b: &mut [u32; board::SIZE]) {
     stand_backlog(b);
-    pull_each(b, 6);
+    pull_each(rt, b, 6);
 }

@@ -85,6 +85,33 @@ fn lend(
     )
 }
 
+// Fills what is lent from the board, performs the call that stands there by both implementations, and says what differs afterwards. The
+// arrays come from the caller: of one that is made where it is lent the check would count the elements.
+fn single_loaded(
+    b: &mut [u32; board::SIZE],
+    image: &mut [u8; trial_lent::IMAGE_BYTES],
+    map: &mut [u32; trial_lent::MAP_WORDS],
+    places: &mut [u32; trial_lent::PIECES],
+    numbers: &mut [u32; trial_lent::PIECES],
+    used: &mut [u8; trial_lent::USED_BYTES],
+    blocks: &mut [u32; trial_lent::BLOCKS],
+    bytes: &mut [u8; trial_lent::DATA_BYTES],
+) -> u32 {
+    trial_lent::load_bytes(image, b, board::IMAGE, cells::image_words(b));
+    trial_lent::load_words(map, b, board::LENT, board::get(b, board::MAP_LENGTH, 0));
+    trial_lent::load_words(places, b, board::LENT + board::PLACES, board::P_MOST);
+    trial_lent::load_words(numbers, b, board::LENT + board::NUMBERS, board::P_MOST);
+    trial_lent::load_used(used, b, board::USED_WORDS / 8);
+    trial_lent::load_words(blocks, b, board::BLOCKS, board::COUNT_MOST);
+    trial_lent::load_data(bytes, b);
+    let done = lend(b, image, map, places, numbers, used, blocks, bytes);
+    reference::calls::perform(b);
+    trial_lent::first_of(
+        trial_lent::answer_differs(done, b),
+        trial_lent::memory_differs(b, image, map, places, numbers, used, bytes),
+    )
+}
+
 fn single(b: &mut [u32; board::SIZE]) -> u32 {
     let mut image = [0u8; trial_lent::IMAGE_BYTES];
     let mut map = [0u32; trial_lent::MAP_WORDS];
@@ -93,32 +120,15 @@ fn single(b: &mut [u32; board::SIZE]) -> u32 {
     let mut used = [0u8; trial_lent::USED_BYTES];
     let mut blocks = [0u32; trial_lent::BLOCKS];
     let mut bytes = [0u8; trial_lent::DATA_BYTES];
-    trial_lent::load_bytes(&mut image, b, board::IMAGE, cells::image_words(b));
-    trial_lent::load_words(
-        &mut map,
-        b,
-        board::LENT,
-        board::get(b, board::MAP_LENGTH, 0),
-    );
-    trial_lent::load_words(&mut places, b, board::LENT + board::PLACES, board::P_MOST);
-    trial_lent::load_words(&mut numbers, b, board::LENT + board::NUMBERS, board::P_MOST);
-    trial_lent::load_used(&mut used, b, board::USED_WORDS / 8);
-    trial_lent::load_words(&mut blocks, b, board::BLOCKS, board::COUNT_MOST);
-    trial_lent::load_data(&mut bytes, b);
-    let done = lend(
+    single_loaded(
         b,
         &mut image,
         &mut map,
         &mut places,
         &mut numbers,
         &mut used,
-        &blocks,
+        &mut blocks,
         &mut bytes,
-    );
-    reference::calls::perform(b);
-    trial_lent::first_of(
-        trial_lent::answer_differs(done, b),
-        trial_lent::memory_differs(b, &image, &map, &places, &numbers, &used, &bytes),
     )
 }
 

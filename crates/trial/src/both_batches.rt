@@ -40,6 +40,31 @@ fn lend(
     )
 }
 
+// Fills the commits, their blocks and their bytes from the board, performs the batch by both implementations, the code on this memory, and
+// says what differs between their answers.
+fn answer_loaded(
+    b: &mut [u32; board::SIZE],
+    image: &mut [u8],
+    map: &mut [u32],
+    places: &mut [u32],
+    numbers: &mut [u32],
+    used: &mut [u8],
+    commits: &mut [u32; trial_lent::COMMIT_WORDS],
+    blocks: &mut [u32; trial_lent::BLOCKS],
+    bytes: &mut [u8; trial_lent::DATA_BYTES],
+    answers: &mut [u32; trial_lent::ANSWER_WORDS],
+) -> u32 {
+    trial_lent::load_words(commits, b, board::COMMITS, board::COMMITS_MOST * 4);
+    trial_lent::load_words(blocks, b, board::BACKLOG_BLOCKS, board::COUNT_MOST);
+    trial_lent::load_backlog(bytes, b);
+    trial_lent::load_words(answers, b, board::ANSWERS, board::COMMITS_MOST * 5);
+    let done = lend(
+        b, image, map, places, numbers, used, commits, blocks, bytes, answers,
+    );
+    reference::backlog::perform(b);
+    trial_lent::batch_differs(done, b, answers)
+}
+
 // Performs the batch by both implementations, the code on this memory, and says what differs between their answers.
 fn answer(
     b: &mut [u32; board::SIZE],
@@ -53,24 +78,40 @@ fn answer(
     let mut blocks = [0u32; trial_lent::BLOCKS];
     let mut bytes = [0u8; trial_lent::DATA_BYTES];
     let mut answers = [0u32; trial_lent::ANSWER_WORDS];
-    trial_lent::load_words(&mut commits, b, board::COMMITS, board::COMMITS_MOST * 4);
-    trial_lent::load_words(&mut blocks, b, board::BACKLOG_BLOCKS, board::COUNT_MOST);
-    trial_lent::load_backlog(&mut bytes, b);
-    trial_lent::load_words(&mut answers, b, board::ANSWERS, board::COMMITS_MOST * 5);
-    let done = lend(
+    answer_loaded(
         b,
         image,
         map,
         places,
         numbers,
         used,
-        &commits,
-        &blocks,
-        &bytes,
+        &mut commits,
+        &mut blocks,
+        &mut bytes,
         &mut answers,
-    );
-    reference::backlog::perform(b);
-    trial_lent::batch_differs(done, b, &answers)
+    )
+}
+
+// Fills what is lent from the board, performs the batch by both implementations, and says what differs afterwards. The arrays come from the
+// caller: of one that is made where it is lent the check would count the elements.
+fn both_loaded(
+    b: &mut [u32; board::SIZE],
+    image: &mut [u8; trial_lent::IMAGE_BYTES],
+    map: &mut [u32; trial_lent::MAP_WORDS],
+    places: &mut [u32; trial_lent::PIECES],
+    numbers: &mut [u32; trial_lent::PIECES],
+    used: &mut [u8; trial_lent::USED_BYTES],
+) -> u32 {
+    trial_lent::load_bytes(image, b, board::IMAGE, cells::image_words(b));
+    trial_lent::load_words(map, b, board::LENT, cells::get(b, board::MAP_LENGTH));
+    trial_lent::load_words(places, b, board::LENT + board::PLACES, board::P_MOST);
+    trial_lent::load_words(numbers, b, board::LENT + board::NUMBERS, board::P_MOST);
+    trial_lent::load_used(used, b, board::USED_WORDS / 8);
+    let differs = answer(b, image, map, places, numbers, used);
+    trial_lent::first_of(
+        differs,
+        trial_lent::volume_differs(b, image, map, places, numbers, used),
+    )
 }
 
 // Performs the batch that stands on the board by both implementations, and says what differs afterwards.
@@ -80,21 +121,12 @@ pub fn both(b: &mut [u32; board::SIZE]) -> u32 {
     let mut places = [0u32; trial_lent::PIECES];
     let mut numbers = [0u32; trial_lent::PIECES];
     let mut used = [0u8; trial_lent::USED_BYTES];
-    trial_lent::load_bytes(&mut image, b, board::IMAGE, cells::image_words(b));
-    trial_lent::load_words(&mut map, b, board::LENT, cells::get(b, board::MAP_LENGTH));
-    trial_lent::load_words(&mut places, b, board::LENT + board::PLACES, board::P_MOST);
-    trial_lent::load_words(&mut numbers, b, board::LENT + board::NUMBERS, board::P_MOST);
-    trial_lent::load_used(&mut used, b, board::USED_WORDS / 8);
-    let differs = answer(
+    both_loaded(
         b,
         &mut image,
         &mut map,
         &mut places,
         &mut numbers,
         &mut used,
-    );
-    trial_lent::first_of(
-        differs,
-        trial_lent::volume_differs(b, &image, &map, &places, &numbers, &used),
     )
 }

@@ -1,6 +1,7 @@
 // Some plug-pulls in words: a volume of 200 blocks in 12 sectors, whose blocks 5 and 100 are written twice.
 use crate::cuts;
 use reference_board::board;
+use std::io::Print;
 use trial_board::stand::Volume;
 use trial_board::{cells, stand};
 use wording::say;
@@ -30,20 +31,20 @@ fn begin(b: &mut [u32; board::SIZE]) {
     stand_blocks(b, 0, 2000);
 }
 
-fn say_answer(b: &[u32; board::SIZE], stores: u32, needed: u32) {
-    say::say_count(b", the plug pulled after ", stores);
-    say::say_count(b" of ", needed);
-    say::say_count(b" stores: answer ", cells::get(b, board::ANSWER));
+fn say_answer(rt: &impl Print, b: &[u32; board::SIZE], stores: u32, needed: u32) {
+    say::say_count(rt, b", the plug pulled after ", stores);
+    say::say_count(rt, b" of ", needed);
+    say::say_count(rt, b" stores: answer ", cells::get(b, board::ANSWER));
 }
 
-pub fn say_recovery(b: &[u32; board::SIZE]) {
+pub fn say_recovery(rt: &impl Print, b: &[u32; board::SIZE]) {
     if cells::get(b, board::WAY) == 1 {
-        say::say(b". A recovery walks, ");
+        say::say(rt, b". A recovery walks, ");
     } else {
-        say::say(b". A recovery scans, ");
+        say::say(rt, b". A recovery scans, ");
     }
-    say::say_count(b"reads ", cells::get(b, board::READS));
-    say::say_count(b" sectors and stores ", cells::get(b, board::STORES));
+    say::say_count(rt, b"reads ", cells::get(b, board::READS));
+    say::say_count(rt, b" sectors and stores ", cells::get(b, board::STORES));
 }
 
 // The plain disk as it would be with the second write.
@@ -53,56 +54,56 @@ fn settle_second(b: &mut [u32; board::SIZE]) {
     trial_disk::settle_call(b);
 }
 
-fn say_blocks(b: &mut [u32; board::SIZE]) {
+fn say_blocks(rt: &impl Print, b: &mut [u32; board::SIZE]) {
     if trial_shown::shows(b, 0) {
-        say::say(b"; blocks 5 and 100 show the first write.\n");
+        say::say(rt, b"; blocks 5 and 100 show the first write.\n");
     } else {
         settle_second(b);
-        say_second(b);
+        say_second(rt, b);
     }
 }
 
-fn say_second(b: &[u32; board::SIZE]) {
+fn say_second(rt: &impl Print, b: &[u32; board::SIZE]) {
     if trial_shown::shows(b, 0) {
-        say::say(b"; blocks 5 and 100 show the second write.\n");
+        say::say(rt, b"; blocks 5 and 100 show the second write.\n");
     } else {
-        say::say(b"; blocks 5 and 100 show something else.\n");
+        say::say(rt, b"; blocks 5 and 100 show something else.\n");
     }
 }
 
-fn say_end(b: &mut [u32; board::SIZE]) {
+fn say_end(rt: &impl Print, b: &mut [u32; board::SIZE]) {
     cuts::recover(b, stand::ENOUGH);
-    say_recovery(b);
-    say_blocks(b);
+    say_recovery(rt, b);
+    say_blocks(rt, b);
 }
 
 // The second write with so many stores, and what a recovery then shows.
-fn pull(b: &[u32; board::SIZE], stores: u32) {
+fn pull(rt: &impl Print, b: &[u32; board::SIZE], stores: u32) {
     let mut c = [0u32; board::SIZE];
     cells::keep(&mut c, b);
     cells::set(&mut c, board::ALLOWED, stores);
     cuts::perform(&mut c);
-    say::say(b"A second write of blocks 5 and 100");
-    say_answer(&c, stores, 4);
-    say_end(&mut c);
+    say::say(rt, b"A second write of blocks 5 and 100");
+    say_answer(rt, &c, stores, 4);
+    say_end(rt, &mut c);
 }
 
-fn pull_each(b: &[u32; board::SIZE], count: u32) {
+fn pull_each(rt: &impl Print, b: &[u32; board::SIZE], count: u32) {
     for stores in 0..count {
-        pull(b, stores);
+        pull(rt, b, stores);
     }
 }
 
 // The second write cut before its closing sector, and the plug pulled in the recovery too.
-fn pull_twice(b: &[u32; board::SIZE]) {
+fn pull_twice(rt: &impl Print, b: &[u32; board::SIZE]) {
     let mut c = [0u32; board::SIZE];
     cells::keep(&mut c, b);
     cells::set(&mut c, board::ALLOWED, 3);
     cuts::perform(&mut c);
     cuts::recover(&mut c, 0);
-    say::say(b"The recovery after 3 of them");
-    say_answer(&c, 0, 1);
-    say_end(&mut c);
+    say::say(rt, b"The recovery after 3 of them");
+    say_answer(rt, &c, 0, 1);
+    say_end(rt, &mut c);
 }
 
 fn stand_park(b: &mut [u32; board::SIZE], stores: u32) {
@@ -112,20 +113,20 @@ fn stand_park(b: &mut [u32; board::SIZE], stores: u32) {
 }
 
 // A park in place of the second write.
-fn pull_park(b: &[u32; board::SIZE], stores: u32) {
+fn pull_park(rt: &impl Print, b: &[u32; board::SIZE], stores: u32) {
     let mut c = [0u32; board::SIZE];
     cells::keep(&mut c, b);
     stand_park(&mut c, stores);
     cuts::perform(&mut c);
-    say::say(b"A park instead");
-    say_answer(&c, stores, 1);
-    say_end(&mut c);
+    say::say(rt, b"A park instead");
+    say_answer(rt, &c, stores, 1);
+    say_end(rt, &mut c);
 }
 
-pub fn run(b: &mut [u32; board::SIZE]) {
+pub fn run(rt: &impl Print, b: &mut [u32; board::SIZE]) {
     begin(b);
-    pull_each(b, 5);
-    pull_twice(b);
-    pull_park(b, 0);
-    pull_park(b, 1);
+    pull_each(rt, b, 5);
+    pull_twice(rt, b);
+    pull_park(rt, b, 0);
+    pull_park(rt, b, 1);
 }

@@ -2,6 +2,7 @@
 use crate::cuts;
 use paper::tokens;
 use reference_board::board;
+use std::io::Print;
 use trial_board::cells;
 use trial_script::form::{Kind, Wrong};
 use trial_script::{form, parts};
@@ -24,7 +25,7 @@ fn carry_out_other(b: &mut [u32; board::SIZE], line: &[u8], kind: Kind) {
     }
 }
 
-fn carry_out(b: &mut [u32; board::SIZE], line: &[u8], kind: Kind) {
+fn carry_out(rt: &impl Print, b: &mut [u32; board::SIZE], line: &[u8], kind: Kind) {
     let call = trial_script::call_of(kind);
     if call > board::BATCH {
         carry_out_other(b, line, kind);
@@ -34,13 +35,13 @@ fn carry_out(b: &mut [u32; board::SIZE], line: &[u8], kind: Kind) {
 }
 
 // A line that is not of its form is reported and not carried out.
-fn refuse(b: &mut [u32; board::SIZE], line: &[u8], kind: Kind, wrong: Wrong) {
+fn refuse(rt: &impl Print, b: &mut [u32; board::SIZE], line: &[u8], kind: Kind, wrong: Wrong) {
     let word = form::found(line, wrong);
-    trial_report::say_bad_line(cells::get(b, cells::LINE), word, kind, wrong);
+    trial_report::say_bad_line(rt, cells::get(b, cells::LINE), word, kind, wrong);
     cells::hold(b, false, cells::SAMPLE);
 }
 
-fn carry_out_line(b: &mut [u32; board::SIZE], line: &[u8]) {
+fn carry_out_line(rt: &impl Print, b: &mut [u32; board::SIZE], line: &[u8]) {
     cells::add(b, cells::LINE, 1);
     if parts::is_passed(line) {
         return;
@@ -48,32 +49,32 @@ fn carry_out_line(b: &mut [u32; board::SIZE], line: &[u8]) {
     let kind = form::kind_of(line);
     let wrong = form::wrong_in(line);
     match wrong {
-        Wrong::Nothing => carry_out(b, line, kind),
-        _ => refuse(b, line, kind, wrong),
+        Wrong::Nothing => carry_out(rt, b, line, kind),
+        _ => refuse(rt, b, line, kind, wrong),
     }
 }
 
 // The line that begins at `at`, if one does, and where the next one begins.
-fn carry_out_at(b: &mut [u32; board::SIZE], text: &[u8], at: usize) -> usize {
+fn carry_out_at(rt: &impl Print, b: &mut [u32; board::SIZE], text: &[u8], at: usize) -> usize {
     if at >= text.len() {
         return at;
     }
     let end = tokens::line_end(text, at);
-    carry_out_line(b, tokens::trimmed(tokens::part(text, at, end)));
+    carry_out_line(rt, b, tokens::trimmed(tokens::part(text, at, end)));
     tokens::after(text, end)
 }
 
 // The lines of a script. Each takes a byte at least.
-pub fn run(b: &mut [u32; board::SIZE], text: &[u8]) {
+pub fn run(rt: &impl Print, b: &mut [u32; board::SIZE], text: &[u8]) {
     let most = text.len();
     let mut at = 0usize;
     for i in 0..most {
-        at = carry_out_at(b, text, at);
+        at = carry_out_at(rt, b, text, at);
     }
 }
 
 // A script that is longer than what is read: a line may be cut, so none is carried out.
-pub fn refuse_all(b: &mut [u32; board::SIZE]) {
-    trial_report::say_too_long(MOST as u32);
+pub fn refuse_all(rt: &impl Print, b: &mut [u32; board::SIZE]) {
+    trial_report::say_too_long(rt, MOST as u32);
     cells::hold(b, false, cells::SAMPLE);
 }
