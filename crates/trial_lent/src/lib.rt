@@ -92,12 +92,20 @@ fn put_byte(bytes: &mut [u8], at: usize, x: u8) {
     }
 }
 
+// A whole word has one test for its four bytes, as most of what a trial does is to fill an image.
 fn put_bytes(bytes: &mut [u8], i: u32, x: u32) {
     let at = i as usize * 4;
-    put_byte(bytes, at, byte_of(x, 0));
-    put_byte(bytes, at + 1, byte_of(x, 1));
-    put_byte(bytes, at + 2, byte_of(x, 2));
-    put_byte(bytes, at + 3, byte_of(x, 3));
+    if at + 3 < bytes.len() {
+        bytes[at] = (x % 256) as u8;
+        bytes[at + 1] = (x / 256 % 256) as u8;
+        bytes[at + 2] = (x / 65536 % 256) as u8;
+        bytes[at + 3] = (x / 16777216) as u8;
+    } else {
+        put_byte(bytes, at, byte_of(x, 0));
+        put_byte(bytes, at + 1, byte_of(x, 1));
+        put_byte(bytes, at + 2, byte_of(x, 2));
+        put_byte(bytes, at + 3, byte_of(x, 3));
+    }
 }
 
 // The bytes of `count` words of the board.
