@@ -15,7 +15,11 @@ returns-then-places-pieces c =
 
 pub returns-then-numbers-pieces : goal.returns-then-numbers-pieces
 returns-then-numbers-pieces c =
-    simp (eq-eqb c.args.map c.args.g.l c.if-map-g.false, eq-eqb c.args.places (pieces_for c.args.g.l) (c.if-places-pieces.false ∙ c.pieces_for-pieces.ensures), ne_eqb c.args.numbers (pieces_for c.args.g.l) (λ (z : c.args.numbers ≡ pieces_for c.args.g.l). c.if-numbers-pieces.true (z ∙ sym c.pieces_for-pieces.ensures)))
+    simp (
+      eq-eqb c.args.map c.args.g.l c.if-map-g.false,
+      eq-eqb c.args.places (pieces_for c.args.g.l) (c.if-places-pieces.false ∙ c.pieces_for-pieces.ensures),
+      ne_eqb c.args.numbers (pieces_for c.args.g.l) (λ (z : c.args.numbers ≡ pieces_for c.args.g.l). c.if-numbers-pieces.true (z ∙ sym c.pieces_for-pieces.ensures)),
+    )
 
 pub returns : goal.returns
 returns c =

@@ -39,4 +39,6 @@ take_sectors-skipped-requires c = record {
 
 pub returns : goal.returns
 returns c =
-    planning _ _ _ _ _ _ _ _ _ _ _ _ _ _ _ _ c.requires.by_index c.pieces_for.ensures c.requires.numbers_len c.list_untouched-listed.ensures c.count_members-sizes.ensures.0 c.count_members-sizes.ensures.1 _ _ c.count_members-sizes.ensures.2 c.take_sectors-skipped.ensures.0 c.take_sectors-skipped.ensures.1
+    planning _ _ _ _ _ _ _ _ _ _ _ _ _ _ _ _ c.requires.by_index c.pieces_for.ensures c.requires.numbers_len c.list_untouched-listed.ensures
+    c.count_members-sizes.ensures.0 c.count_members-sizes.ensures.1 _ _ c.count_members-sizes.ensures.2 c.take_sectors-skipped.ensures.0
+    c.take_sectors-skipped.ensures.1

@@ -26,7 +26,9 @@ read_signed-read-requires c =
 pub scan_listed-requires : goal.scan_listed-requires
 scan_listed-requires c =
     let lent = lent_listed (image_view c.args.g (sector_at c.args.image.now)) c.args.g.n (length c.args.sectors.now) c.read_signed-read.result.from
-    c.read_signed-read.new.sectors c.read_signed-read.new.numbers c.read_signed-read.new.pieces c.read_signed-read.auto.sectors (c.read_signed-read.auto.numbers ∙ c.requires.numbered_len) (c.read_signed-read.auto.pieces ∙ c.requires.pieces_len) c.requires.sectors_len_bound c.read_signed-read.ensures.1 in record {
+    c.read_signed-read.new.sectors c.read_signed-read.new.numbers c.read_signed-read.new.pieces c.read_signed-read.auto.sectors
+    (c.read_signed-read.auto.numbers ∙ c.requires.numbered_len) (c.read_signed-read.auto.pieces ∙ c.requires.pieces_len) c.requires.sectors_len_bound
+    c.read_signed-read.ensures.1 in record {
       g_value = c.requires.g_value;
       image_len = c.requires.image_len;
       tail_value = c.read_signed-read.ensures.2;

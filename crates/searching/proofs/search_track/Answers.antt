@@ -56,7 +56,8 @@ pub loop-skipped-preserved : goal.loop-skipped-preserved
 loop-skipped-preserved c = (
   run_turned c.args.first c.args.size c.args.start c.requires.first_le_start c.requires.start_bound c.loop-skipped.skipped c.loop-skipped.k c.used_run-run.result c.around-k.result c.loop-skipped.invariant.0 c.used_run-run.ensures.2 c.around-k.ensures,
   omega arith,
-  run_passed c.args.first c.args.size c.args.start c.requires.first_le_start c.requires.start_bound (bit_at c.args.used.now) c.loop-skipped.skipped c.loop-skipped.k c.used_run-run.result (c.args.steps - c.loop-skipped.skipped) c.loop-skipped.invariant.0 c.used_run-run.ensures c.loop-skipped.invariant.2,
+  run_passed c.args.first c.args.size c.args.start c.requires.first_le_start c.requires.start_bound (bit_at c.args.used.now) c.loop-skipped.skipped c.loop-skipped.k
+      c.used_run-run.result (c.args.steps - c.loop-skipped.skipped) c.loop-skipped.invariant.0 c.used_run-run.ensures c.loop-skipped.invariant.2,
 )
 
 pub returns-then-skipped-steps : goal.returns-then-skipped-steps

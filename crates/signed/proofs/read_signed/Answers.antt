@@ -83,7 +83,12 @@ sectors-preserved c =
       omega arith,
       listing_lists view _ c.sectors.sectors c.sectors.numbers c.sectors.pieces c.sectors.from c.sectors.k c.sectors.invariant.1 _ seen
           (valid_number c.args.g (sector_at c.args.image.now) _ (sym c.marked_valid.ensures ∙ sure)) (omega arith) _ _ _ c.list.ensures.0 c.list.ensures.1 c.list.ensures.2,
-      elim c.if-highest-number.branch [ then-highest-number w ↦ newest_more key c.sectors.k c.sectors.tail c.sectors.highest c.closing_number-number.result _ _ c.sectors.invariant.2 own w.if-highest-number.true w.tail-is w.highest-is | else-highest-number w ↦ newest_same key c.sectors.k c.sectors.tail c.sectors.highest c.closing_number-number.result _ _ c.sectors.invariant.2 own w.if-highest-number.false w.tail-is w.highest-is ],
+      elim c.if-highest-number.branch [
+        | then-highest-number w ↦
+            newest_more key c.sectors.k c.sectors.tail c.sectors.highest c.closing_number-number.result _ _ c.sectors.invariant.2 own w.if-highest-number.true w.tail-is w.highest-is
+        | else-highest-number w ↦
+            newest_same key c.sectors.k c.sectors.tail c.sectors.highest c.closing_number-number.result _ _ c.sectors.invariant.2 own w.if-highest-number.false w.tail-is w.highest-is
+      ],
     )
 
 pub shape_of-sectors : goal.shape_of-sectors

@@ -74,6 +74,8 @@ pieces-preserved c = (
 pub returns : goal.returns
 returns c =
     let e : c.pieces.p ≡ pieces_for c.args.s.geometry.l = (omega arith) in
-    storing_ends (flagged c.args.written.now) (stores c.args.s c.args.map.now c.args.blocks.now c.args.news.now c.args.taken.now c.args.branches.now c.args.written.now c.args.count c.args.members) (sector_at c.args.image.now) c.args.allowance (pieces_for c.args.s.geometry.l) c.pieces.left (sector_at c.pieces.image)
+    storing_ends (flagged c.args.written.now) (stores c.args.s c.args.map.now c.args.blocks.now c.args.news.now c.args.taken.now c.args.branches.now c.args.written.now
+    c.args.count c.args.members) (sector_at c.args.image.now) c.args.allowance (pieces_for c.args.s.geometry.l) c.pieces.left (sector_at c.pieces.image)
     (subst
-    (λ (x : ℕ). Storing (flagged c.args.written.now) (stores c.args.s c.args.map.now c.args.blocks.now c.args.news.now c.args.taken.now c.args.branches.now c.args.written.now c.args.count c.args.members) (sector_at c.args.image.now) c.args.allowance x c.pieces.left (sector_at c.pieces.image)) e c.pieces.invariant.4)
+    (λ (x : ℕ). Storing (flagged c.args.written.now) (stores c.args.s c.args.map.now c.args.blocks.now c.args.news.now c.args.taken.now c.args.branches.now
+    c.args.written.now c.args.count c.args.members) (sector_at c.args.image.now) c.args.allowance x c.pieces.left (sector_at c.pieces.image)) e c.pieces.invariant.4)
