@@ -1,8 +1,7 @@
 -- What is counted at k is the number of free sectors below k, from the last whole word on.
 use mathlib.Core.Bool.{not}
-use Prim.Native.Nat.{ℕ, ◌+◌, ◌-◌, ◌/◌, ◌≤◌}
+use Prim.Native.Nat.{ℕ, ◌+◌, ◌/◌}
 use mathlib.Core.Path.{◌≡◌, ◌∙◌, ap}
-use mathlib.Core.Logic.{⊎_elim}
 use native.Mathlib.Omega.{arith}
 use Rattle.volume.specs.Tables.{bit_at, free_sectors}
 use Rattle.bits.proofs.BitLaws.{free_le, free_hit, free_miss}

@@ -3,7 +3,6 @@ use mathlib.Core.Path.{◌≡◌, sym, ◌∙◌, ap}
 use lib.Dec.{eqb}
 use borrow.Author.Tests.{eq-eqb, ne_eqb}
 use Rattle.geometry.specs.Geometry.{pieces_for}
-use borrow.Author.Rules.{rules}
 use Rattle.checks.proofs.tables_fit.Goals as goal
 
 pub returns-then-map-g : goal.returns-then-map-g

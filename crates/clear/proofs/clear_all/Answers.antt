@@ -1,11 +1,9 @@
 -- The uncommitted sectors and sector 0 are the two parts of the list.
-use mathlib.Core.Path.{sym, ◌∙◌, ap}
-use mathlib.Core.Logic.{⊎_elim}
+use mathlib.Core.Path.{◌∙◌, ap}
 use mathlib.Core.Bool.{◌||◌}
 use Rattle.volume.specs.Tables.{bit_at, sector_at}
 use Rattle.volume.specs.Recover.{is_blank}
 use Rattle.clear.proofs.ClearLaws.{done_blank, done_marked, clear_fails, clear_runs}
-use borrow.Author.Rules.{rules}
 use Rattle.clear.proofs.clear_all.Goals.{then-blank, else-blank}
 use Rattle.clear.proofs.clear_all.Goals as goal
 

@@ -1,5 +1,5 @@
 -- Names that lie inside are counted.
-use Rattle.std.proofs.Common.{length, arith, rules}
+use Rattle.std.proofs.Common.{length, arith}
 use Rattle.layout.specs.Bounded.{at}
 use Rattle.names.proofs.Marking.{told}
 use Rattle.names.proofs.judge_names.Goals as goal

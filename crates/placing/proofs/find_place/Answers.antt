@@ -2,7 +2,6 @@
 use Prim.Native.Nat.{ℕ}
 use mathlib.Core.Path.{◌≡◌, ◌∙◌, subst}
 use native.Mathlib.Omega.{arith}
-use borrow.Author.Rules.{rules}
 use Rattle.volume.specs.Tables.{bit_at}
 use Rattle.laws.proofs.Delays.{drive_fits_lem}
 use Rattle.searching.specs.Searching.{AllPassed}

@@ -1,7 +1,6 @@
 -- The parts give the plan of the definition.
 use native.Mathlib.Omega.{arith}
 use Rattle.plan.proofs.PlanLaws.{planning, pieces_few, pieces_room}
-use borrow.Author.Rules.{rules}
 use Rattle.plan.proofs.plan.Goals as goal
 
 pub list_untouched-listed-requires : goal.list_untouched-listed-requires

@@ -1,12 +1,11 @@
 -- What was read stands at the ends of the arrays.
-use mathlib.Core.Path.{◌∙◌, ap}
+use mathlib.Core.Path.{◌∙◌}
 use native.Mathlib.Omega.{arith}
 use lib.ListN.{length}
 use Rattle.soundness.proofs.Sounding.{blocks_most, sectors_some, sectors_most}
 use Rattle.volume.specs.Tables.{sector_at}
 use Rattle.volume.specs.Recover.{image_view}
 use Rattle.signed.proofs.Listing.{lent_listed}
-use borrow.Author.Rules.{rules}
 use Rattle.scan.proofs.scan_in.Goals as goal
 
 pub read_signed-read-requires : goal.read_signed-read-requires

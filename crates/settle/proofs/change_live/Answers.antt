@@ -1,6 +1,5 @@
 -- The written pieces below p have their new places and numbers.
-use borrow.Author.Rules.{rules}
-use Prim.Native.Nat.{ℕ, suc, ◌+◌, ◌-◌, ◌≤◌}
+use Prim.Native.Nat.{ℕ, suc, ◌+◌}
 use mathlib.Core.Path.{◌≡◌, refl, ◌∙◌, ap}
 use native.Mathlib.Omega.{arith}
 use lib.ListN.{length, length-set}
@@ -9,7 +8,7 @@ use Rattle.pieces.specs.Arrays.{flagged}
 use Rattle.laws.proofs.Bounded.{count_before, at_set}
 use Rattle.pieces.proofs.FlagLaws.{flags_none}
 use Rattle.store.proofs.StoreLaws.{is_flagged, not_flagged, rank_skips, rank_grows}
-use Rattle.settle.proofs.SettleLaws.{live, live_none, live_skip, live_put, live_all}
+use Rattle.settle.proofs.SettleLaws.{live_none, live_skip, live_put, live_all}
 use Rattle.settle.proofs.change_live.Goals as goal
 
 -- The written pieces below p have their new places and numbers.
