@@ -17,7 +17,7 @@ use Rattle.volume.specs.Tables.{memory}
 use Rattle.volume.specs.Refusals.{Check, applies, first_of, judged}
 use Rattle.volume.specs.Format.{tables_fit}
 use Rattle.volume.specs.Calls.{state_fits, state_checks}
-use Rattle.laws.proofs.Bounded.{and_l, and_r}
+use Rattle.laws.proofs.Bounded.{and_l}
 use Rattle.laws.proofs.Judged.{is_in, first_clear, later, lengths_refused, lengths_passed}
 use Rattle.checks.specs.Left.{lent}
 

@@ -2,14 +2,14 @@
 use Prim.Native.Nat.{ℕ, zero, suc, ◌+◌, ◌*◌, ◌-◌, ◌≤◌, ◌<◌}
 use mathlib.Core.Path.{◌≡◌, refl, sym, ◌∙◌, ap, subst, fun_ext}
 use mathlib.Core.Logic.{⊎_elim}
-use mathlib.Core.Bool.{true, false, cond}
+use mathlib.Core.Bool.{cond}
 use mathlib.Core.List.{List, ◌++◌}
 use native.Mathlib.Omega.{arith}
 use lib.ListN.{length, take, drop, replicate, length-take, length-drop, length-replicate}
 use lib.Seq.{ext_get_or, get_or-take, get_or-drop, take-append-le, drop-append-le, drop-append-add, drop-drop}
-use lib.Dec.{eqb, ltb}
+use lib.Dec.{ltb}
 use borrow.Author.Tests.{eq-eqb, ne_eqb, lt-ltb, le-ltb}
-use Rattle.layout.specs.Bounded.{at, always, updated, count_below}
+use Rattle.layout.specs.Bounded.{always, updated, count_below}
 use Rattle.layout.specs.Entry.{blank}
 use Rattle.volume.specs.Tables.{sector_at}
 use Rattle.volume.specs.Store.{applied, stores_below}

@@ -18,7 +18,7 @@ use Rattle.volume.specs.Tables.{Tables, named_by, used_by, piece_entries}
 use Rattle.volume.specs.Recover.{number_in, entry_in, closing_number, piece_number, tables_from, found, newest_closing, closed_up_to, scan_place, signed_numbers, scanned_log, scan_damaged, scan_stores, scan_finding, image_view}
 use Rattle.history.specs.History.{Disk}
 use Rattle.laws.proofs.Bounded.{bool?, lt?, eq?, clash, and_l, and_r, not_of, cond_true, cond_false, best_unique, best_below, tabled_at, tabled_past, list_from_at, gathered_distinct, any_below_none}
-use Rattle.laws.proofs.Names.{piece, sound_consistent}
+use Rattle.laws.proofs.Names.{sound_consistent}
 use Rattle.laws.proofs.Sizes.{Fits, some_pieces, view_below}
 use Rattle.agreement.proofs.Agreed.{number_most}
 use Rattle.history.proofs.Invariant.{Ground, Committed}

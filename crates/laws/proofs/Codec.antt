@@ -26,8 +26,8 @@ use Rattle.laws.proofs.Bounded.{bool?, and_l, and_r, and_i, cond_true, cond_fals
 abbrev pub is_word : ℕ → Bool
 is_word w = ltb w (2 ^ 32)
 
-pub word_bytes : (w : ℕ) → w < 2 ^ 32 → word (w % 256) (w / 256 % 256) (w / 65536 % 256) (w / 16777216 % 256) ≡ w
-word_bytes w h =
+pub word_bytes_lem : (w : ℕ) → w < 2 ^ 32 → word (w % 256) (w / 256 % 256) (w / 65536 % 256) (w / 16777216 % 256) ≡ w
+word_bytes_lem w h =
     let b : w / 256 / 256 ≡ w / 65536 = div-div-eq-div-mul w 256 256 in
     let c : w / 256 / 256 / 256 ≡ w / 16777216 = ap (λ (x : ℕ). x / 256) b ∙ div-div-eq-div-mul w 65536 256 in
     let top : w / 256 / 256 / 256 % 256 ≡ w / 256 / 256 / 256 = mod-eq_of_lt (omega arith) in
@@ -37,7 +37,7 @@ pub words_of_bytes : (ws : List ℕ) → all is_word ws ≡ true → words_of (b
 unfolding all words_of bytes_of
 words_of_bytes [] a = refl
 words_of_bytes (w ∷ ws) a =
-    rw (word_bytes w (ltb-true w (2 ^ 32) (and_l (is_word w) (all is_word ws) a)), words_of_bytes ws (and_r (is_word w) (all is_word ws) a))
+    rw (word_bytes_lem w (ltb-true w (2 ^ 32) (and_l (is_word w) (all is_word ws) a)), words_of_bytes ws (and_r (is_word w) (all is_word ws) a))
 
 pub sum_below_lem : (ws : List ℕ) → word_sum ws < 2 ^ 32
 unfolding word_sum

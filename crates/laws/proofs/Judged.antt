@@ -15,7 +15,6 @@ use Rattle.answer.specs.declared.Loss.TheVariants.{NoLog, DamagedLog}
 use Rattle.answer.specs.declared.Answer.TheVariants.{PowerFailed}
 use Rattle.answer.specs.declared.Verdict.{Verdict}
 use Rattle.answer.specs.declared.Verdict.TheVariants.{Pass, Refuse}
-use Rattle.state.specs.State.{cut_state}
 use Rattle.answer.specs.Answer.{lengths, named, standing, order, refusal_number, loss_number}
 use Rattle.layout.specs.Bounded.{is_zero}
 use Rattle.volume.specs.Tables.{Memory}

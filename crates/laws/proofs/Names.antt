@@ -79,20 +79,20 @@ module _ (l : ℕ) (entry place : ℕ → ℕ) where
       (gathered_same (λ b. not (is_empty (entry b))) (λ b. sector_of (entry b)) (gathered always place [] (pieces_for l)) l d b c h.0 g.0
       (not_is (is_empty (entry b)) h.1) (not_is (is_empty (entry c)) g.1) e)
 
-  piece_of : Name → ℕ
-  piece_of (piece p) = p
-  piece_of (block b) = b
+  piece_of_name : Name → ℕ
+  piece_of_name (piece p) = p
+  piece_of_name (block b) = b
 
   is_piece : Name → ℕ
   is_piece (piece p) = 1
   is_piece (block b) = 0
 
   pub named_distinct : ((x y : Name) → Named x → Named y → sector_named x ≡ sector_named y → x ≡ y) → distinct (named_by l entry place) ≡ true
-  unfolding named_by distinct elem piece_of is_piece
+  unfolding named_by distinct elem piece_of_name is_piece
   named_distinct f =
       gathered_distinct (λ b. not (is_empty (entry b))) (λ b. sector_of (entry b)) (gathered always place [] (pieces_for l)) l
       (gathered_distinct always place [] (pieces_for l) refl (λ i h e. refl)
-      (λ i j h g e e' q. ap piece_of (f (piece i) (piece j) h g q)))
+      (λ i j h g e e' q. ap piece_of_name (f (piece i) (piece j) h g q)))
       (λ b h e.
       not_elem (sector_of (entry b)) (gathered always place [] (pieces_for l))
       (λ (o : elem (sector_of (entry b)) (gathered always place [] (pieces_for l)) ≡ true).
@@ -102,7 +102,7 @@ module _ (l : ℕ) (entry place : ℕ → ℕ) where
       omega arith)
       (gathered_has always place [] (pieces_for l) (sector_of (entry b)) o)))
       (λ b c h g e e' q.
-      ap piece_of (f (block b) (block c) (h, not_of (is_empty (entry b)) e) (g, not_of (is_empty (entry c)) e') q))
+      ap piece_of_name (f (block b) (block c) (h, not_of (is_empty (entry b)) e) (g, not_of (is_empty (entry c)) e') q))
 
   pub named_all : (check : ℕ → Bool) → ((x : Name) → Named x → check (sector_named x) ≡ true) → all check (named_by l entry place) ≡ true
   unfolding named_by all

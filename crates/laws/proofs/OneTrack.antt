@@ -2,8 +2,8 @@
 use Prim.Native.Nat.{ℕ, zero, suc, ◌+◌, ◌*◌, ◌-◌, ◌/◌, ◌%◌, ◌≤◌, ◌<◌}
 use mathlib.Core.Path.{◌≡◌, refl, sym, ◌∙◌, ap, ap₂, fun_ext}
 use mathlib.Core.Logic.{◌⊎◌, inl, inr, ⊎_elim}
-use mathlib.Core.Bool.{Bool, true, false, cond, not, ◌||◌}
-use native.Mathlib.Nat.{mod-lt, mod-eq_of_lt, mod_self, add-mod_right, div-eq_of_lt, zero-mul}
+use mathlib.Core.Bool.{Bool, true, false, cond, ◌||◌}
+use native.Mathlib.Nat.{mod-eq_of_lt, mod_self, add-mod_right, div-eq_of_lt, zero-mul}
 use native.Mathlib.Omega.{arith}
 use lib.Dec.{eqb, ltb}
 use borrow.Author.Tests.{lt-ltb, le-ltb, eq-eqb}
@@ -11,8 +11,8 @@ use Rattle.geometry.specs.declared.Drive.{Drive}
 use Rattle.volume.specs.Tables.{free_sectors}
 use Rattle.tracks.specs.Placing.{delay, nearest, least_delay, position_after, placed_up_to, place_of}
 use Rattle.tracks.specs.Upwards.{sector_after, first_free, upwards}
-use Rattle.laws.proofs.Bounded.{bool?, lt?, eq?, clash, cond_true, cond_false}
-use Rattle.laws.proofs.Delays.{DriveFits, Nearest, nearest_alone}
+use Rattle.laws.proofs.Bounded.{bool?, lt?, clash, cond_true, cond_false}
+use Rattle.laws.proofs.Delays.{DriveFits, nearest_alone}
 use Rattle.laws.proofs.Placing.{least_delay_chooses, place_below, start_below, zero_kept, free_left}
 
 -- How far a sector lies ahead: upwards, and around from the last sector to 0.

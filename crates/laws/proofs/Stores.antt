@@ -1,5 +1,5 @@
 -- What stands in a sector after a run of stores, whole or cut.
-use Prim.Native.Nat.{ℕ, zero, suc, ◌<◌, ◌+◌}
+use Prim.Native.Nat.{ℕ, zero, suc, ◌<◌}
 use mathlib.Core.Path.{◌≡◌, refl, sym, ◌∙◌, ap, subst}
 use mathlib.Core.Logic.{◌⊎◌, inl, inr, ⊎_elim}
 use mathlib.Core.Bool.{Bool, true, false}

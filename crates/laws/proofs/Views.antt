@@ -7,12 +7,11 @@ use mathlib.Core.Bool.{Bool}
 use mathlib.Core.List.{List}
 use native.Mathlib.Numerals.{add-one, one-add}
 use native.Mathlib.Omega.{arith}
-use lib.ListN.{length, take, drop}
+use lib.ListN.{length, drop}
 use lib.Seq.{sets, length-sets, ext_get_or, get_or-take, get_or-drop}
 use lib.Pow.{shr-shr, shr_lt}
 use lib.Dec.{eqb}
 use borrow.Author.Tests.{eqb-true, eqb-false, eq-eqb, ne_eqb}
-use Rattle.geometry.specs.Geometry.{sector_bytes}
 use Rattle.layout.specs.Bounded.{at, updated}
 use Rattle.volume.specs.Tables.{Memory, sector_at, bit_at, memory}
 use Rattle.laws.proofs.Bounded.{eq?, updated_here}

@@ -7,7 +7,7 @@ use mathlib.Core.List.{List, [], ◌∷◌, ◌++◌, append_assoc, append-nil}
 use native.Mathlib.Nat.{not-suc-le-zero}
 use native.Mathlib.Numerals.{add-one}
 use native.Mathlib.Omega.{arith}
-use lib.ListN.{length, set, take, drop, replicate, length-drop, get_or-eq_default}
+use lib.ListN.{length, set, take, drop, replicate, get_or-eq_default}
 use lib.Seq.{set_split, take-append-add, take_at, take_all, take-suc, get_or-take, length-take-le}
 use lib.Dec.{eqb, ltb, leb}
 use borrow.Author.Tests.{eq-eqb, ne_eqb, lt-ltb, le-ltb, leb-true}
@@ -24,7 +24,6 @@ use Rattle.pieces.specs.Arrays.{flagged, unflagged, Live}
 use Rattle.pieces.proofs.FlagLaws.{flag_set, none_flagged}
 use Rattle.tournament.specs.Tournament.{key_at, below, Keyed}
 use Rattle.tournament.proofs.TournamentLaws.{keyed_first, keyed_below}
-use Rattle.laws.proofs.Words.{length_words_of}
 use Rattle.laws.proofs.Sectors.{sector_length}
 use Rattle.map_sector.proofs.Branches.{branch_room_lem}
 use Rattle.listing.specs.Listing.{Taken}

@@ -5,14 +5,13 @@ use mathlib.Core.Logic.{⊎_elim}
 use mathlib.Core.Bool.{Bool, true, false, cond, not, ◌&&◌}
 use mathlib.Core.List.{List}
 use native.Mathlib.Numerals.{add-one}
-use native.Mathlib.Omega.{arith}
 use lib.ListN.{length, set, replicate, length-set, length-replicate}
 use lib.Dec.{eqb, leb, ltb}
-use borrow.Author.Tests.{eqb-true, ne_eqb, le-leb, lt-leb, ltb-true, not-false, not-true}
-use Rattle.layout.specs.Bounded.{at, best, all, is_zero, list_from}
+use borrow.Author.Tests.{eqb-true, le-leb, lt-leb, not-false, not-true}
+use Rattle.layout.specs.Bounded.{at, is_zero}
 use Rattle.layout.specs.MapSector.{View}
 use Rattle.volume.specs.Recover.{number_in, piece_in, piece_number, scan_place, signed_numbers}
-use Rattle.laws.proofs.Bounded.{bool?, lt?, clash, cond_true, cond_false, all_at, gathered_all}
+use Rattle.laws.proofs.Bounded.{lt?, clash}
 use Rattle.signed.specs.Signed.{signed_sectors, signed_pieces, Listed, stepped}
 use Rattle.signed.proofs.Listing.{stepped_all}
 use Rattle.signed.proofs.Newest.{Live, live_none, live_skip, live_raise, live_all, keys_zero, keys_above, key_own, keys_other}

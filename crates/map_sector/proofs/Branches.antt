@@ -9,13 +9,13 @@ use native.Mathlib.Omega.{arith}
 use lib.ListN.{length, take, drop, length-drop}
 use lib.Seq.{length-take-le}
 use lib.Dec.{eqb, leb, ltb}
-use borrow.Author.Tests.{eqb-true, eq-eqb, ne_eqb, le-leb, lt-leb, lt-ltb, le-ltb, ltb-true}
+use borrow.Author.Tests.{eqb-true, eq-eqb, ne_eqb, le-leb, lt-leb, lt-ltb, le-ltb}
 use Rattle.geometry.specs.Geometry.{within}
 use Rattle.layout.specs.Bounded.{at, all_below, all, is_zero}
 use Rattle.layout.specs.Word.{words_of}
 use Rattle.layout.specs.MapSector.{branch_words, branches_fit}
 use Rattle.laws.proofs.Words.{length_words_of}
-use Rattle.laws.proofs.Bounded.{bool?, lt?, eq?, cond_true, cond_false}
+use Rattle.laws.proofs.Bounded.{bool?, lt?, cond_true, cond_false}
 use Rattle.map_sector.specs.Header.{branch_fits}
 
 -- One branch.

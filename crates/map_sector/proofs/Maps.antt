@@ -6,11 +6,11 @@ use mathlib.Core.List.{List, [], ◌∷◌}
 use native.Mathlib.Omega.{arith}
 use native.Mathlib.Nat.{zero-add, suc-add}
 use lib.ListN.{length, take, drop, drop_of_length-le, length-drop}
-use lib.Seq.{slice, take_all, take-take, take-nil, drop-drop, get_or-take, get_or-drop}
+use lib.Seq.{slice, take_all, take-nil, drop-drop, get_or-take, get_or-drop}
 use lib.Dec.{eqb, leb, ltb}
 use borrow.Author.Tests.{ltb-true, leb-true, not-true, not-false}
 use Rattle.geometry.specs.declared.Geometry.{Geometry}
-use Rattle.geometry.specs.Geometry.{within, pieces_for, entries_per_piece, branch_room}
+use Rattle.geometry.specs.Geometry.{pieces_for, entries_per_piece, branch_room}
 use Rattle.layout.specs.Bounded.{at, all, is_zero}
 use Rattle.layout.specs.Word.{word_sum, starts_with}
 use Rattle.layout.specs.MapSector.{map_mark, branch_words, entry_words, branches_fit, valid}

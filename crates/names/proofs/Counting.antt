@@ -1,5 +1,5 @@
 -- That no sector is named twice, by counting: the names and sector 0 then take as many sectors as they are.
-use Rattle.std.proofs.Common.{◌≡◌, ℕ, zero, suc, ◌+◌, ◌-◌, ◌<◌, ◌≤◌, Bool, true, false, not, ◌&&◌, ◌||◌, eqb, leb, List, [], ◌∷◌, length, sym, refl, ap, ◌∙◌, ⊎_elim, arith, eq-eqb, ne_eqb, eqb-true, leb-true}
+use Rattle.std.proofs.Common.{◌≡◌, ℕ, zero, suc, ◌+◌, ◌-◌, ◌<◌, ◌≤◌, Bool, true, false, not, ◌||◌, eqb, leb, List, [], ◌∷◌, length, sym, refl, ap, ◌∙◌, ⊎_elim, arith, eq-eqb, ne_eqb, leb-true}
 use Rattle.geometry.specs.Geometry.{within}
 use Rattle.layout.specs.Bounded.{all, elem, distinct, count_below}
 use Rattle.volume.specs.Tables.{used_by, free_sectors}

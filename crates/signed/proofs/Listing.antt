@@ -5,16 +5,15 @@ use mathlib.Core.Logic.{⊎_elim}
 use mathlib.Core.Bool.{Bool, true, false, not}
 use mathlib.Core.List.{List, [], ◌∷◌}
 use mathlib.Core.Option.{none, some}
-use native.Mathlib.Nat.{not-suc-le-zero}
 use native.Mathlib.Numerals.{add-one}
 use native.Mathlib.Omega.{arith}
 use lib.ListN.{length, take, drop, set, length-set, length-drop}
 use lib.Seq.{take_all, drop-length, drop-cons, drop-set-lt, get_or-set_same}
-use borrow.Author.Tests.{eq-eqb, ne_eqb}
-use Rattle.layout.specs.Bounded.{at, all, elem, gathered, is_zero}
+use borrow.Author.Tests.{ne_eqb}
+use Rattle.layout.specs.Bounded.{at, gathered, is_zero}
 use Rattle.layout.specs.MapSector.{MapSector, View}
 use Rattle.volume.specs.Recover.{number_in, piece_in, signed_numbers}
-use Rattle.laws.proofs.Bounded.{bool?, eq?, gathered_hit, gathered_miss}
+use Rattle.laws.proofs.Bounded.{bool?, gathered_hit, gathered_miss}
 use Rattle.signed.specs.Signed.{signed_sectors, signed_pieces, Listed, stepped}
 
 -- From `from` on stand the values of those below k that pass a test, the last first.

@@ -7,7 +7,7 @@ use mathlib.Core.List.{List}
 use mathlib.Core.Option.{some}
 use native.Mathlib.Numerals.{add-one}
 use native.Mathlib.Omega.{arith}
-use lib.ListN.{length, set, take, drop, length-set, length-take, length-drop, drop_of_length-le}
+use lib.ListN.{length, set, take, drop, length-set, drop_of_length-le}
 use lib.Seq.{get_or-take, drop-cons, length-take-le}
 use lib.Dec.{leb, ltb}
 use borrow.Author.Tests.{eq-eqb, ne_eqb, lt-ltb, le-ltb, leb-true}
@@ -20,7 +20,6 @@ use Rattle.volume.specs.Tables.{sector_at}
 use Rattle.volume.specs.Commit.{branches_in}
 use Rattle.volume.specs.Recover.{number_in, image_view, Walk, waiting_number, target_waits, targets_read}
 use Rattle.laws.proofs.Bounded.{bool?, eq?, and_l, and_r, cond_true, cond_false, at_set, all_at}
-use Rattle.laws.proofs.Words.{length_words_of}
 use Rattle.laws.proofs.Sectors.{sector_length}
 use Rattle.signed.specs.Signed.{is_signed, signed_at, below}
 use Rattle.signed.proofs.ViewLaws.{inside, view_signed, valid_view, invalid_view, valid_piece, signed_count, signed_branches}

@@ -1,5 +1,5 @@
 -- Which refusal a commit meets, by the tests that led there; and what one that meets none may rely on.
-use Prim.Native.Nat.{ℕ, ◌+◌, ◌*◌, ◌-◌, ◌≤◌, ◌<◌}
+use Prim.Native.Nat.{ℕ, ◌+◌, ◌*◌, ◌≤◌, ◌<◌}
 use mathlib.Core.Path.{◌≡◌, refl, sym, ◌∙◌}
 use mathlib.Core.Logic.{⊎_elim}
 use mathlib.Core.Bool.{Bool, true, false, not}
@@ -17,7 +17,7 @@ use Rattle.answer.specs.declared.Verdict.TheVariants.{Pass, Refuse}
 use Rattle.geometry.specs.Geometry.{pieces_for, used_bytes, geometry_fits, drive_fits}
 use Rattle.answer.specs.Answer.{lengths, named, standing}
 use Rattle.state.specs.State.{is_running}
-use Rattle.layout.specs.Bounded.{at, all, same}
+use Rattle.layout.specs.Bounded.{at, same}
 use Rattle.layout.specs.Word.{words_of}
 use Rattle.layout.specs.MapSector.{valid, decoded}
 use Rattle.volume.specs.Tables.{bit_at, memory, sector_at, tables_of, free_sectors, consistent, piece_entries, says_piece, live_valid}

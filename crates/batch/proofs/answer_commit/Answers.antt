@@ -1,7 +1,6 @@
 -- The commit that is lent there, and the words of its answer.
 use mathlib.Core.Path.{refl}
 use Rattle.batch.proofs.Commits.{made_at}
-use borrow.Author.Rules.{rules}
 use Rattle.batch.proofs.answer_commit.Goals as goal
 
 pub put_answer-requires : goal.put_answer-requires

@@ -1,6 +1,5 @@
 -- Refused as a whole it hands everything back; otherwise its commits are made.
 use Rattle.batch.proofs.Whole.{whole_refused, whole_lent, whole_done}
-use borrow.Author.Rules.{rules}
 use Rattle.batch.proofs.batch.Goals as goal
 
 pub make_commits-requires : goal.make_commits-requires

@@ -1,6 +1,5 @@
 -- By the kind it is one call or the other, or neither.
 use Rattle.batch.proofs.Commits.{made_write, made_drop, made_neither}
-use borrow.Author.Rules.{rules}
 use Rattle.batch.proofs.make_commit.Goals as goal
 
 pub returns-then-kind-eq0 : goal.returns-then-kind-eq0

@@ -1,15 +1,10 @@
 -- The commits below i are made and answered, each with what those before it left.
-use Prim.Native.Nat.{ℕ, ◌+◌, ◌*◌, ◌-◌, ◌^◌, ◌<◌}
-use mathlib.Core.Path.{◌≡◌, refl, sym, ◌∙◌, ap}
-use native.Mathlib.Omega.{arith}
+use Prim.Native.Nat.{ℕ, ◌-◌, ◌^◌, ◌<◌}
+use mathlib.Core.Path.{◌≡◌}
 use lib.ListN.{length}
 use Rattle.layout.specs.Bounded.{at}
 use Rattle.volume.specs.Tables.{memory}
-use Rattle.batches.specs.Batch.{blocks_of, bytes_of}
-use Rattle.batch.specs.Batch.{batch_left}
-use Rattle.batch.proofs.Commits.{part_inside, sum_fits, lent_keeps}
-use Rattle.batch.proofs.Making.{Making, making_starts, within_left, skipped_fits, making_more, making_stops, making_ends}
-use borrow.Author.Rules.{rules}
+use Rattle.batch.proofs.Making.{Making}
 use Rattle.batch.proofs.make_commits.Given as goal
 
 abbrev pub invariant-loop-i : goal.invariant-loop-i

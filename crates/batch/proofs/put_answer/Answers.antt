@@ -3,7 +3,6 @@ use mathlib.Core.Path.{refl, ◌∙◌}
 use native.Mathlib.Omega.{arith}
 use lib.ListN.{length-set}
 use Rattle.batch.proofs.Commits.{put_five}
-use borrow.Author.Rules.{rules}
 use Rattle.batch.proofs.put_answer.Goals as goal
 
 pub bounds-answers-at-2 : goal.bounds-answers-at-2

@@ -1,10 +1,7 @@
 -- What is left is the total less the counts that were passed.
-use borrow.Author.Rules.{rules}
 use Prim.Native.Nat.{◌+◌, ◌*◌, ◌-◌, ◌≤◌}
 use mathlib.Core.Path.{◌≡◌}
-use native.Mathlib.Omega.{arith}
 use Rattle.layout.specs.Bounded.{at, sum_below}
-use Rattle.batch_checks.proofs.BatchLaws.{sum_none, sum_more, sum_short, sum_all}
 use Rattle.batch_checks.proofs.adds_up.Given as goal
 
 abbrev pub invariant-loop-i : goal.invariant-loop-i

@@ -1,5 +1,4 @@
 -- The lengths refuse it, or the count of the commits decides.
-use borrow.Author.Rules.{rules}
 use Rattle.batch_checks.proofs.BatchLaws.{whole_refused, whole_passed}
 use Rattle.batch_checks.proofs.batch_verdict.Goals as goal
 

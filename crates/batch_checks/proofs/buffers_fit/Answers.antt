@@ -1,5 +1,4 @@
 -- The tests in their order.
-use borrow.Author.Rules.{rules}
 use Rattle.batch_checks.proofs.BatchLaws.{words_odd, blocks_odd, bytes_odd, answers_decide}
 use mathlib.Core.Path.{ap}
 use mathlib.Core.Bool.{not}

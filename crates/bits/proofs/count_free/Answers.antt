@@ -1,8 +1,7 @@
-use mathlib.Core.Bool.{not}
 -- What is counted at k is the number of free sectors below k, from the last whole word on.
-use Prim.Native.Nat.{ℕ, ◌+◌, ◌-◌, ◌/◌, ◌≤◌}
+use mathlib.Core.Bool.{not}
+use Prim.Native.Nat.{ℕ, ◌+◌, ◌/◌}
 use mathlib.Core.Path.{◌≡◌, ◌∙◌, ap}
-use mathlib.Core.Logic.{⊎_elim}
 use native.Mathlib.Omega.{arith}
 use Rattle.volume.specs.Tables.{bit_at, free_sectors}
 use Rattle.bits.proofs.BitLaws.{free_le, free_hit, free_miss}
@@ -32,7 +31,14 @@ overflow_add-free c =
 pub loop-k-preserved : goal.loop-k-preserved
 loop-k-preserved c = (
   omega arith,
-  elim c.if-not-is_set.branch [ then-not-is_set w ↦ w.free-is ∙ ap (λ (x : ℕ). x + 1) c.loop-k.invariant.1 ∙ free_hit c.loop-k.k c.args.used.now c.is_set.result c.is_set.ensures (ap not w.if-not-is_set.true) | else-not-is_set w ↦ w.free-is ∙ c.loop-k.invariant.1 ∙ free_miss c.loop-k.k c.args.used.now c.is_set.result c.is_set.ensures (ap not w.if-not-is_set.false) ],
+  elim c.if-not-is_set.branch [
+    | then-not-is_set w ↦
+        w.free-is ∙ ap (λ (x : ℕ). x + 1) c.loop-k.invariant.1
+        ∙ free_hit c.loop-k.k c.args.used.now c.is_set.result c.is_set.ensures (ap not w.if-not-is_set.true)
+    | else-not-is_set w ↦
+        w.free-is ∙ c.loop-k.invariant.1
+        ∙ free_miss c.loop-k.k c.args.used.now c.is_set.result c.is_set.ensures (ap not w.if-not-is_set.false)
+  ],
 )
 
 pub returns : goal.returns

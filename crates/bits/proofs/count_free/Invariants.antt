@@ -1,11 +1,7 @@
 -- What is counted at k is the number of free sectors below k, from the last whole word on.
-use Prim.Native.Nat.{ℕ, ◌+◌, ◌-◌, ◌/◌, ◌≤◌}
-use mathlib.Core.Path.{◌≡◌, ◌∙◌, ap}
-use mathlib.Core.Logic.{⊎_elim}
-use native.Mathlib.Omega.{arith}
+use Prim.Native.Nat.{◌-◌, ◌≤◌}
+use mathlib.Core.Path.{◌≡◌}
 use Rattle.volume.specs.Tables.{bit_at, free_sectors}
-use Rattle.bits.proofs.BitLaws.{free_le, free_hit, free_miss}
-use Rattle.bits.proofs.WordLaws.{free_words}
 use Rattle.bits.proofs.count_free.Given as goal
 
 abbrev pub invariant-loop-k : goal.invariant-loop-k

@@ -1,12 +1,8 @@
 -- What is counted at word w is the number of marked sectors below 64w.
-use Prim.Native.Nat.{ℕ, ◌+◌, ◌*◌, ◌-◌, ◌^◌, ◌≤◌, ◌<◌}
-use mathlib.Core.Path.{◌≡◌, ◌∙◌, ap}
-use native.Mathlib.Omega.{arith}
-use lib.Count.{ones}
+use Prim.Native.Nat.{◌*◌, ◌-◌, ◌≤◌}
+use mathlib.Core.Path.{◌≡◌}
 use Rattle.layout.specs.Bounded.{count_below}
 use Rattle.volume.specs.Tables.{bit_at}
-use Rattle.laws.proofs.Bounded.{count_le}
-use Rattle.bits.proofs.WordLaws.{set_none, set_more}
 use Rattle.bits.proofs.count_words.Given as goal
 
 abbrev pub invariant-loop-w : goal.invariant-loop-w

@@ -1,7 +1,6 @@
 -- The byte and the bit are those of the definition.
 use mathlib.Core.Path.{refl}
 use Rattle.volume.specs.Tables.{bit_at}
-use borrow.Author.Rules.{rules}
 use Rattle.bits.proofs.is_set.Goals as goal
 
 pub returns : goal.returns

@@ -1,11 +1,9 @@
 -- The bytes below i are stored.
-use Prim.Native.Nat.{◌+◌, ◌*◌, ◌-◌, ◌≤◌}
-use mathlib.Core.Path.{◌≡◌, refl, ◌∙◌}
+use mathlib.Core.Path.{refl, ◌∙◌}
 use native.Mathlib.Omega.{arith}
-use lib.ListN.{length, length-set}
-use borrow.Author.Rules.{rules}
+use lib.ListN.{length-set}
 use Rattle.volume.specs.Tables.{bit_at}
-use Rattle.bits.proofs.WordLaws.{Part, part_none, part_more, part_all}
+use Rattle.bits.proofs.WordLaws.{part_none, part_more, part_all}
 use Rattle.bits.proofs.put_word.Goals as goal
 
 pub loop-i-init : goal.loop-i-init

@@ -1,11 +1,9 @@
 -- The bytes below i are stored.
-use Prim.Native.Nat.{◌+◌, ◌*◌, ◌-◌, ◌≤◌}
-use mathlib.Core.Path.{◌≡◌, refl, ◌∙◌}
-use native.Mathlib.Omega.{arith}
-use lib.ListN.{length, length-set}
-use borrow.Author.Rules.{rules}
+use Prim.Native.Nat.{◌-◌, ◌≤◌}
+use mathlib.Core.Path.{◌≡◌}
+use lib.ListN.{length}
 use Rattle.volume.specs.Tables.{bit_at}
-use Rattle.bits.proofs.WordLaws.{Part, part_none, part_more, part_all}
+use Rattle.bits.proofs.WordLaws.{Part}
 use Rattle.bits.proofs.put_word.Given as goal
 
 abbrev pub invariant-loop-i : goal.invariant-loop-i

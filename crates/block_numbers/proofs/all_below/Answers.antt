@@ -1,12 +1,9 @@
 -- What is left to look at decides.
-use borrow.Author.Rules.{rules}
-use Prim.Native.Nat.{◌-◌, ◌≤◌}
-use mathlib.Core.Path.{◌≡◌, refl, sym, ◌∙◌}
+use mathlib.Core.Path.{refl, sym, ◌∙◌}
 use native.Mathlib.Omega.{arith}
-use lib.ListN.{length, drop}
 use lib.Dec.{ltb}
 use borrow.Author.Tests.{lt-ltb, le-ltb}
-use Rattle.layout.specs.Bounded.{at, all}
+use Rattle.layout.specs.Bounded.{at}
 use Rattle.laws.proofs.Lists.{all_pass, all_fail, all_end}
 use Rattle.block_numbers.proofs.all_below.Goals as goal
 

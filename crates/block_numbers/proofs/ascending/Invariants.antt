@@ -1,11 +1,9 @@
 -- The numbers up to i rise.
 use Prim.Native.Nat.{◌-◌, ◌≤◌}
-use mathlib.Core.Path.{◌≡◌, sym, ◌∙◌, ap}
+use mathlib.Core.Path.{◌≡◌}
 use mathlib.Core.Bool.{true}
-use native.Mathlib.Omega.{arith}
-use lib.ListN.{length}
 use Rattle.layout.specs.Bounded.{all_below}
-use Rattle.block_numbers.proofs.BlockLaws.{rises, rises_none, rises_more, rises_not}
+use Rattle.block_numbers.proofs.BlockLaws.{rises}
 use Rattle.block_numbers.proofs.ascending.Given as goal
 
 abbrev pub invariant-loop-i : goal.invariant-loop-i

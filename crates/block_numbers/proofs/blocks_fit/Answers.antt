@@ -1,6 +1,5 @@
 -- Each answer is the test that decided it.
 use Rattle.block_numbers.proofs.BlockLaws.{too_few, too_many, not_rising, past_l, by_head}
-use borrow.Author.Rules.{rules}
 use mathlib.Core.Path.{ap}
 use mathlib.Core.Bool.{not}
 use Rattle.block_numbers.proofs.blocks_fit.Goals as goal

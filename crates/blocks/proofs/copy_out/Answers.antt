@@ -1,7 +1,6 @@
 -- What is held are the bytes, and what is stored is what is held.
 use mathlib.Core.Path.{refl, ◌∙◌, ap}
 use lib.ListN.{length}
-use borrow.Author.Rules.{rules}
 use Rattle.blocks.proofs.copy_out.Goals as goal
 
 pub copy_over-requires : goal.copy_over-requires

@@ -1,6 +1,5 @@
 -- Bit 31 is set where the block is stored flipped.
 use mathlib.Core.Path.{sym, ◌∙◌}
-use borrow.Author.Rules.{rules}
 use Rattle.blocks.proofs.Blocks.{entry_flipped, entry_plain}
 use Rattle.blocks.proofs.entry_for.Goals as goal
 

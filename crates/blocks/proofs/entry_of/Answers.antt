@@ -1,6 +1,5 @@
 -- Past the end stands 0.
 use Rattle.laws.proofs.Bounded.{past_end}
-use borrow.Author.Rules.{rules}
 use Rattle.blocks.proofs.entry_of.Goals as goal
 
 pub returns-then-map-block : goal.returns-then-map-block

@@ -1,5 +1,4 @@
 -- The mark compared with is the map mark.
-use borrow.Author.Rules.{rules}
 use Rattle.layout.specs.Entry.{needs_flip}
 use Rattle.blocks.proofs.needs_flip.Goals as goal
 

@@ -1,6 +1,5 @@
 -- An empty entry reads as zeros, a flipped one as the bytes with the first complemented, any other as the bytes.
 use mathlib.Core.Path.{sym, ap, ◌∙◌}
-use borrow.Author.Rules.{rules}
 use Rattle.layout.specs.Entry.{complemented}
 use Rattle.blocks.proofs.Blocks.{restored_empty, restored_flipped, restored_plain}
 use Rattle.blocks.proofs.restore_block.Goals as goal

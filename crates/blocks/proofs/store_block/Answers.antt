@@ -1,6 +1,5 @@
 -- The block is copied, and its first byte complemented where it begins with the map mark.
 use mathlib.Core.Path.{sym, ap, ◌∙◌}
-use borrow.Author.Rules.{rules}
 use Rattle.layout.specs.Entry.{complemented}
 use Rattle.blocks.proofs.Blocks.{stored_flipped, stored_plain}
 use Rattle.blocks.proofs.store_block.Goals as goal

@@ -1,7 +1,6 @@
 -- Each answer is the test that decided it.
 use borrow.Author.Tests.{ne_eqb}
 use Rattle.checks.proofs.SizeLaws.{too_many, whole_sectors}
-use borrow.Author.Rules.{rules}
 use Rattle.checks.proofs.image_fits.Goals as goal
 
 pub returns-then-image-ne0 : goal.returns-then-image-ne0

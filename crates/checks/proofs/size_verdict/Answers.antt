@@ -1,7 +1,6 @@
 -- Each refusal is the first that applies, by the laws of SizeLaws.
 use native.Mathlib.Omega.{arith}
 use Rattle.checks.proofs.SizeLaws.{size_refused, settings_refused, lengths_refused, size_passes, fits_number}
-use borrow.Author.Rules.{rules}
 use mathlib.Core.Path.{ap}
 use mathlib.Core.Bool.{not}
 use Rattle.checks.proofs.size_verdict.Goals as goal

@@ -1,6 +1,5 @@
 -- Each answer is the test of refusal 1 that decided it.
 use borrow.Author.Tests.{eq-eqb, ne_eqb}
-use borrow.Author.Rules.{rules}
 use Rattle.checks.proofs.state_fits.Goals as goal
 
 pub returns-then-image-g : goal.returns-then-image-g

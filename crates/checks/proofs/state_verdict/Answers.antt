@@ -1,6 +1,5 @@
 -- Each refusal is the first that applies, by the laws of StateLaws.
 use Rattle.checks.proofs.StateLaws.{state_refused, settings_refused, tables_refused, own_refused, lengths_fit}
-use borrow.Author.Rules.{rules}
 use mathlib.Core.Path.{ap}
 use mathlib.Core.Bool.{not}
 use Rattle.checks.proofs.state_verdict.Goals as goal

@@ -1,6 +1,4 @@
 -- Where no sector is marked, no store is due.
-use native.Mathlib.Omega.{arith}
-use borrow.Author.Rules.{rules}
 use mathlib.Core.Path.{sym, ◌∙◌}
 use Rattle.volume.specs.Tables.{sector_at, bit_at}
 use Rattle.volume.specs.Format.{blank_store}

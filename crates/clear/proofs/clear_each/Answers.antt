@@ -1,9 +1,8 @@
 -- The loop has made the stores below k, and so many are left; it ends when all were made, or when one is due and none is left.
-use Prim.Native.Nat.{ℕ, ◌-◌, ◌≤◌}
+use Prim.Native.Nat.{ℕ}
 use mathlib.Core.Path.{◌≡◌, refl, sym, ◌∙◌, subst}
 use native.Mathlib.Numerals.{add-one}
 use native.Mathlib.Omega.{arith}
-use lib.ListN.{length}
 use borrow.Author.Tests.{not-true, not-false}
 use Rattle.volume.specs.Tables.{sector_at, bit_at}
 use Rattle.volume.specs.Format.{blank_store}

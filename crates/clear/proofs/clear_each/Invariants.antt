@@ -1,15 +1,10 @@
 -- The loop has made the stores below k, and so many are left; it ends when all were made, or when one is due and none is left.
-use Prim.Native.Nat.{ℕ, ◌-◌, ◌≤◌}
-use mathlib.Core.Path.{◌≡◌, refl, sym, ◌∙◌, subst}
-use native.Mathlib.Numerals.{add-one}
-use native.Mathlib.Omega.{arith}
+use Prim.Native.Nat.{◌-◌, ◌≤◌}
+use mathlib.Core.Path.{◌≡◌}
 use lib.ListN.{length}
-use borrow.Author.Tests.{not-true, not-false}
 use Rattle.volume.specs.Tables.{sector_at, bit_at}
 use Rattle.volume.specs.Format.{blank_store}
-use Rattle.power.proofs.Storing.{Storing, storing_starts, storing_skips, storing_stores, storing_fails, storing_ends, positive}
-use mathlib.Core.Path.{ap}
-use mathlib.Core.Bool.{not}
+use Rattle.power.proofs.Storing.{Storing}
 use Rattle.clear.proofs.clear_each.Given as goal
 
 abbrev pub invariant-sectors : goal.invariant-sectors

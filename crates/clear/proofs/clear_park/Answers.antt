@@ -1,7 +1,5 @@
 -- One store at most: it is made where it is due and allowed.
-use Prim.Native.Nat.{◌-◌}
 use Rattle.clear.proofs.ClearLaws.{park_done, park_fails, park_clears}
-use borrow.Author.Rules.{rules}
 use Rattle.clear.proofs.clear_park.Goals as goal
 
 pub returns-then-done : goal.returns-then-done

@@ -4,7 +4,6 @@ use native.Mathlib.Omega.{arith}
 use Rattle.laws.proofs.Sizes.{fits}
 use Rattle.power.proofs.Runs.{left_enough}
 use Rattle.commit.proofs.CommitLaws.{carried_cut, carried_whole}
-use borrow.Author.Rules.{rules}
 use Rattle.commit.proofs.carry_out.Goals as goal
 
 pub store-power-requires : goal.store-power-requires

@@ -5,7 +5,6 @@ use lib.Seq.{length-take-le}
 use Rattle.volume.specs.Tables.{memory}
 use Rattle.verdict.proofs.CommitChecks.{passed}
 use Rattle.commit.proofs.CommitPlan.{few_blocks, some_members, total_few, ts_word, ts_enough, ts_all, settling, members_counted, commit_done}
-use borrow.Author.Rules.{rules}
 use Rattle.commit.proofs.commit.Goals as goal
 
 pub plan-planned-requires : goal.plan-planned-requires

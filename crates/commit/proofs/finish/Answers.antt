@@ -2,7 +2,6 @@
 use mathlib.Core.Path.{refl}
 use native.Mathlib.Omega.{arith}
 use Rattle.commit.proofs.CommitLaws.{some_taken, tail_is}
-use borrow.Author.Rules.{rules}
 use Rattle.commit.proofs.finish.Goals as goal
 
 pub last_of-tail-requires : goal.last_of-tail-requires

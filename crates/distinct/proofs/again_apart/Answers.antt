@@ -2,7 +2,6 @@
 use mathlib.Core.Path.{refl}
 use mathlib.Core.Bool.{false}
 use Rattle.laws.proofs.Bounded.{clash}
-use borrow.Author.Rules.{rules}
 use Rattle.distinct.proofs.again_apart.Goals as goal
 
 pub returns-then-xs-gt-TRIED_AGAIN : goal.returns-then-xs-gt-TRIED_AGAIN

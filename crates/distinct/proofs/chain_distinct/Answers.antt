@@ -2,10 +2,8 @@
 use Prim.Native.Nat.{◌-◌}
 use mathlib.Core.Path.{refl}
 use native.Mathlib.Omega.{arith}
-use lib.ListN.{length}
-use borrow.Author.Rules.{rules}
 use Rattle.laws.proofs.Bounded.{clash}
-use Rattle.distinct.proofs.Chaining.{Walking, walking_none, walking_more, walking_falls, walking_meets, walking_ends}
+use Rattle.distinct.proofs.Chaining.{walking_none, walking_more, walking_falls, walking_meets, walking_ends}
 use Rattle.distinct.proofs.chain_distinct.Goals as goal
 
 pub loop-p-init : goal.loop-p-init

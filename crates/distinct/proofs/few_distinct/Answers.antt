@@ -1,6 +1,5 @@
 -- Residues that are all different decide; otherwise the larger map may.
 use mathlib.Core.Path.{sym}
-use borrow.Author.Rules.{rules}
 use Rattle.distinct.proofs.few_distinct.Goals as goal
 
 pub returns-then-few_apart : goal.returns-then-few_apart

@@ -1,10 +1,6 @@
 -- The groups below g are walked.
 use Prim.Native.Nat.{◌-◌, ◌≤◌}
-use mathlib.Core.Path.{sym, ◌∙◌}
-use native.Mathlib.Omega.{arith}
-use borrow.Author.Rules.{rules}
-use borrow.Author.Tests.{not-true, not-false}
-use Rattle.distinct.proofs.Chaining.{Grouping, grouping_none, grouping_more, grouping_ends}
+use Rattle.distinct.proofs.Chaining.{Grouping}
 use Rattle.distinct.specs.Chains.{groups}
 use Rattle.distinct.proofs.groups_distinct.Given as goal
 

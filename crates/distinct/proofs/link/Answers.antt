@@ -1,10 +1,7 @@
 -- The numbers below i are chained.
-use Prim.Native.Nat.{◌-◌}
 use mathlib.Core.Path.{sym, ◌∙◌}
 use native.Mathlib.Omega.{arith}
-use lib.ListN.{length}
-use borrow.Author.Rules.{rules}
-use Rattle.distinct.proofs.Chaining.{Linking, linking_none, linking_more, linking_low, linking_ends}
+use Rattle.distinct.proofs.Chaining.{linking_none, linking_more, linking_low, linking_ends}
 use Rattle.distinct.proofs.link.Goals as goal
 
 pub loop-i-init : goal.loop-i-init

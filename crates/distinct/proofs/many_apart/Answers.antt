@@ -1,13 +1,12 @@
 -- The residues met so far are marked, and no two agree.
-use Prim.Native.Nat.{ℕ, ◌-◌, ◌%◌}
-use mathlib.Core.Path.{◌≡◌, refl, ◌∙◌}
+use Prim.Native.Nat.{ℕ, ◌%◌}
+use mathlib.Core.Path.{refl, ◌∙◌}
 use mathlib.Core.Bool.{false}
-use lib.ListN.{length, length-replicate, length-set}
+use lib.ListN.{length-replicate, length-set}
 use Rattle.layout.specs.Bounded.{at}
 use Rattle.laws.proofs.Bounded.{clash, at_set}
 use native.Mathlib.Omega.{arith}
-use borrow.Author.Rules.{rules}
-use Rattle.distinct.proofs.Equal.{Residues, residues_none, residues_more, residues_distinct}
+use Rattle.distinct.proofs.Equal.{residues_none, residues_more, residues_distinct}
 use Rattle.distinct.proofs.many_apart.Goals as goal
 
 pub loop-i-init : goal.loop-i-init

@@ -1,13 +1,9 @@
 -- The residues met so far are marked, and no two agree.
-use Prim.Native.Nat.{ℕ, ◌-◌, ◌%◌}
-use mathlib.Core.Path.{◌≡◌, refl, ◌∙◌}
-use mathlib.Core.Bool.{false}
-use lib.ListN.{length, length-replicate, length-set}
+use Prim.Native.Nat.{◌-◌}
+use mathlib.Core.Path.{◌≡◌}
+use lib.ListN.{length}
 use Rattle.layout.specs.Bounded.{at}
-use Rattle.laws.proofs.Bounded.{clash, at_set}
-use native.Mathlib.Omega.{arith}
-use borrow.Author.Rules.{rules}
-use Rattle.distinct.proofs.Equal.{Residues, residues_none, residues_more, residues_distinct}
+use Rattle.distinct.proofs.Equal.{Residues}
 use Rattle.distinct.proofs.many_apart.Given as goal
 
 abbrev pub invariant-loop-i : goal.invariant-loop-i

@@ -1,5 +1,5 @@
 -- The residues met so far are marked, and no two agree.
-use Prim.Native.Nat.{ℕ, ◌*◌, ◌-◌, ◌%◌, ◌≤◌, ◌<◌}
+use Prim.Native.Nat.{ℕ, ◌*◌, ◌%◌, ◌≤◌, ◌<◌}
 use mathlib.Core.Path.{◌≡◌, refl, ◌∙◌}
 use mathlib.Core.Bool.{true, false}
 use native.Mathlib.Nat.{mod-lt}
@@ -7,8 +7,7 @@ use lib.ListN.{length}
 use Rattle.volume.specs.Tables.{bit_at}
 use Rattle.laws.proofs.Bounded.{clash}
 use native.Mathlib.Omega.{arith}
-use borrow.Author.Rules.{rules}
-use Rattle.distinct.proofs.Equal.{Residues, residues_none, residues_more, residues_distinct}
+use Rattle.distinct.proofs.Equal.{residues_none, residues_more, residues_distinct}
 use Rattle.distinct.proofs.residues_apart.Goals as goal
 
 -- A residue has its bit in the map.

@@ -1,14 +1,10 @@
 -- The residues met so far are marked, and no two agree.
-use Prim.Native.Nat.{ℕ, ◌*◌, ◌-◌, ◌%◌, ◌≤◌, ◌<◌}
-use mathlib.Core.Path.{◌≡◌, refl, ◌∙◌}
-use mathlib.Core.Bool.{true, false}
-use native.Mathlib.Nat.{mod-lt}
+use Prim.Native.Nat.{◌-◌}
+use mathlib.Core.Path.{◌≡◌}
+use mathlib.Core.Bool.{true}
 use lib.ListN.{length}
 use Rattle.volume.specs.Tables.{bit_at}
-use Rattle.laws.proofs.Bounded.{clash}
-use native.Mathlib.Omega.{arith}
-use borrow.Author.Rules.{rules}
-use Rattle.distinct.proofs.Equal.{Residues, residues_none, residues_more, residues_distinct}
+use Rattle.distinct.proofs.Equal.{Residues}
 use Rattle.distinct.proofs.residues_apart.Given as goal
 
 abbrev pub invariant-loop-i : goal.invariant-loop-i

@@ -1,6 +1,5 @@
 -- Residues that are all different decide; otherwise the chains do.
 use mathlib.Core.Path.{sym}
-use borrow.Author.Rules.{rules}
 use Rattle.distinct.proofs.some_distinct.Goals as goal
 
 pub returns-then-some_apart : goal.returns-then-some_apart

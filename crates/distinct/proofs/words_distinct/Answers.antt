@@ -4,7 +4,6 @@ use mathlib.Core.Path.{sym, ◌∙◌}
 use native.Mathlib.Omega.{arith}
 use lib.ListN.{length-replicate}
 use Rattle.laws.proofs.Filling.{zeros_get}
-use borrow.Author.Rules.{rules}
 use Rattle.distinct.specs.Chains.{groups, rests}
 use Rattle.distinct.proofs.words_distinct.Goals as goal
 

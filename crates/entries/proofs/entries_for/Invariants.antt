@@ -1,14 +1,9 @@
 -- The entries below i are those of the blocks.
-use borrow.Author.Rules.{rules}
-use Prim.Native.Nat.{ℕ, ◌+◌, ◌-◌, ◌≤◌}
-use mathlib.Core.Path.{◌≡◌, ◌∙◌, sym, ap, subst}
-use mathlib.Core.List.{List, ◌++◌}
-use native.Mathlib.Omega.{arith}
-use lib.ListN.{drop, set}
-use Rattle.layout.specs.Bounded.{at, list_from}
+use Prim.Native.Nat.{◌-◌, ◌≤◌}
+use Rattle.layout.specs.Bounded.{at}
 use Rattle.layout.specs.Entry.{entry_for}
 use Rattle.volume.specs.Tables.{sector_at}
-use Rattle.laws.proofs.Filling.{Filled, filled_none, filled_length, filled_more}
+use Rattle.laws.proofs.Filling.{Filled}
 use Rattle.entries.proofs.entries_for.Given as goal
 
 abbrev pub invariant-loop-i : goal.invariant-loop-i

@@ -1,10 +1,9 @@
 -- So far the first words of the other one are stored.
-use Prim.Native.Nat.{◌-◌, ◌≤◌}
 use mathlib.Core.Path.{◌≡◌, refl, ap, ◌∙◌}
-use mathlib.Core.List.{List, ◌++◌}
+use mathlib.Core.List.{◌++◌}
 use native.Mathlib.Omega.{arith}
 use native.Mathlib.Nat.{zero-add}
-use lib.ListN.{length, take, drop, length-set}
+use lib.ListN.{take, drop, length-set}
 use lib.Seq.{sets, sets-eq, length-take-le}
 use borrow.Author.Rules.{rules}
 use Rattle.laws.proofs.Runs.{sets_next}

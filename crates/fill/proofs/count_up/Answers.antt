@@ -1,11 +1,11 @@
 -- The places below i are filled, by the laws of Filling.
-use Prim.Native.Nat.{ℕ, ◌+◌, ◌-◌}
+use Prim.Native.Nat.{ℕ, ◌+◌}
 use mathlib.Core.Path.{◌∙◌, ap, fun_ext}
 use native.Mathlib.Numerals.{add-one}
 use Rattle.layout.specs.Bounded.{list_from}
 use native.Mathlib.Omega.{arith}
 use lib.ListN.{length}
-use Rattle.laws.proofs.Filling.{Filled, filled_none, filled_length, filled_more, filled_all}
+use Rattle.laws.proofs.Filling.{filled_none, filled_length, filled_more, filled_all}
 use Rattle.fill.proofs.count_up.Goals as goal
 
 pub loop-i-init : goal.loop-i-init

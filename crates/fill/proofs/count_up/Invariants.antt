@@ -1,11 +1,7 @@
 -- The places below i are filled, by the laws of Filling.
-use Prim.Native.Nat.{ℕ, ◌+◌, ◌-◌}
-use mathlib.Core.Path.{◌∙◌, ap, fun_ext}
-use native.Mathlib.Numerals.{add-one}
-use Rattle.layout.specs.Bounded.{list_from}
-use native.Mathlib.Omega.{arith}
+use Prim.Native.Nat.{◌+◌, ◌-◌}
 use lib.ListN.{length}
-use Rattle.laws.proofs.Filling.{Filled, filled_none, filled_length, filled_more, filled_all}
+use Rattle.laws.proofs.Filling.{Filled}
 use Rattle.fill.proofs.count_up.Given as goal
 
 abbrev pub invariant-loop-i : goal.invariant-loop-i

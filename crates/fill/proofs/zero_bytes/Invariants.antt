@@ -1,9 +1,7 @@
 -- The places below i are filled, by the laws of Filling.
 use Prim.Native.Nat.{◌-◌}
-use mathlib.Core.Path.{◌∙◌}
-use native.Mathlib.Omega.{arith}
 use lib.ListN.{length}
-use Rattle.laws.proofs.Filling.{Filled, filled_none, filled_length, filled_more, filled_all, zeros}
+use Rattle.laws.proofs.Filling.{Filled}
 use Rattle.fill.proofs.zero_bytes.Given as goal
 
 abbrev pub invariant-loop-i : goal.invariant-loop-i

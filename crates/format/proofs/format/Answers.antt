@@ -2,7 +2,6 @@
 use mathlib.Core.Path.{sym, ◌∙◌}
 use Rattle.checks.proofs.SizeLaws.{by_lengths}
 use Rattle.fresh.proofs.FormatLaws.{format_refused, format_passed}
-use borrow.Author.Rules.{rules}
 use Rattle.format.proofs.format.Goals as goal
 
 pub make-requires : goal.make-requires

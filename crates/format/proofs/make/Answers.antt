@@ -4,7 +4,6 @@ use native.Mathlib.Omega.{arith}
 use Rattle.power.proofs.Runs.{left_enough}
 use Rattle.checks.proofs.SizeLaws.{size_passed, volume_passed}
 use Rattle.fresh.proofs.FormatLaws.{format_cut_lem, format_whole}
-use borrow.Author.Rules.{rules}
 use Rattle.format.proofs.make.Goals as goal
 
 pub overflow_cast-image : goal.overflow_cast-image

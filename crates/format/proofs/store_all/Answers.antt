@@ -1,7 +1,6 @@
 -- The blanks and the pieces are the two parts of the definition's list.
 use mathlib.Core.Path.{sym, ◌∙◌}
 use Rattle.fresh.proofs.FormatLaws.{format_fails, format_runs}
-use borrow.Author.Rules.{rules}
 use Rattle.format.proofs.store_all.Goals as goal
 
 pub returns-in-Failed : goal.returns-in-Failed

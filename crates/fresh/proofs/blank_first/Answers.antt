@@ -2,7 +2,6 @@
 use Prim.Native.Nat.{◌*◌, ◌-◌}
 use mathlib.Core.Path.{◌≡◌}
 use native.Mathlib.Omega.{arith}
-use borrow.Author.Rules.{rules}
 use Rattle.fresh.proofs.Blanking.{lent_blanked}
 use Rattle.fresh.proofs.blank_first.Goals as goal
 

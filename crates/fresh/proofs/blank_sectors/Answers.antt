@@ -1,7 +1,5 @@
 -- As many as the allowance has, or all.
 use Rattle.volume.specs.Tables.{sector_at}
-use native.Mathlib.Omega.{arith}
-use borrow.Author.Rules.{rules}
 use Rattle.fresh.proofs.Blanking.{blank_fails, blank_ends}
 use Rattle.fresh.proofs.blank_sectors.Goals as goal
 

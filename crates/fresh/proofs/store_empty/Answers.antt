@@ -5,7 +5,6 @@ use lib.Dec.{eqb}
 use Rattle.layout.specs.Bounded.{updated}
 use Rattle.volume.specs.Tables.{sector_at}
 use Rattle.fresh.proofs.FormatLaws.{empty_made}
-use borrow.Author.Rules.{rules}
 use Rattle.fresh.proofs.store_empty.Goals as goal
 
 pub returns : goal.returns

@@ -5,7 +5,6 @@ use mathlib.Core.List.{[], ◌∷◌}
 use Rattle.layout.specs.Bounded.{updated}
 use Rattle.volume.specs.Tables.{sector_at}
 use Rattle.fresh.proofs.FormatLaws.{piece_made, no_branch, one_branch}
-use borrow.Author.Rules.{rules}
 use Rattle.fresh.proofs.store_piece.Goals as goal
 
 pub returns-then-p-eq0 : goal.returns-then-p-eq0

@@ -1,9 +1,8 @@
 -- The loop has made the stores below p, and so many are left; it ends when all were made, or when none is left.
-use Prim.Native.Nat.{ℕ, ◌-◌, ◌≤◌}
+use Prim.Native.Nat.{ℕ}
 use mathlib.Core.Path.{◌≡◌, refl, ◌∙◌, subst}
 use native.Mathlib.Numerals.{add-one}
 use native.Mathlib.Omega.{arith}
-use lib.ListN.{length}
 use Rattle.layout.specs.Bounded.{always}
 use Rattle.volume.specs.Tables.{sector_at}
 use Rattle.volume.specs.Format.{piece_store}

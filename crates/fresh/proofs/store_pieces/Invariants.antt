@@ -1,13 +1,11 @@
 -- The loop has made the stores below p, and so many are left; it ends when all were made, or when none is left.
-use Prim.Native.Nat.{ℕ, ◌-◌, ◌≤◌}
-use mathlib.Core.Path.{◌≡◌, refl, ◌∙◌, subst}
-use native.Mathlib.Numerals.{add-one}
-use native.Mathlib.Omega.{arith}
+use Prim.Native.Nat.{◌-◌, ◌≤◌}
+use mathlib.Core.Path.{◌≡◌}
 use lib.ListN.{length}
 use Rattle.layout.specs.Bounded.{always}
 use Rattle.volume.specs.Tables.{sector_at}
 use Rattle.volume.specs.Format.{piece_store}
-use Rattle.power.proofs.Storing.{Storing, storing_starts, storing_stores, storing_fails, storing_ends, positive}
+use Rattle.power.proofs.Storing.{Storing}
 use Rattle.fresh.proofs.store_pieces.Given as goal
 
 abbrev pub invariant-loop-p : goal.invariant-loop-p

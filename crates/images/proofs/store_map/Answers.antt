@@ -3,7 +3,6 @@ use Prim.Native.Nat.{◌+◌, ◌*◌, ◌-◌}
 use mathlib.Core.Path.{◌≡◌}
 use native.Mathlib.Omega.{arith}
 use lib.ListN.{length, length-take, length-drop}
-use borrow.Author.Rules.{rules}
 use Rattle.layout.specs.Bounded.{at, updates}
 use Rattle.layout.specs.MapSector.{encoded}
 use Rattle.volume.specs.Tables.{piece_entries}

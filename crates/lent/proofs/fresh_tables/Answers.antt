@@ -5,7 +5,6 @@ use native.Mathlib.Omega.{arith}
 use lib.ListN.{length, replicate}
 use Rattle.layout.specs.Bounded.{list_from}
 use Rattle.lent.proofs.LentLaws.{fresh_tables}
-use borrow.Author.Rules.{rules}
 use Rattle.lent.proofs.fresh_tables.Goals as goal
 
 pub mark_first-requires : goal.mark_first-requires

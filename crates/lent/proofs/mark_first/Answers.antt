@@ -1,11 +1,10 @@
 -- The sectors below k are marked.
-use Prim.Native.Nat.{ℕ, ◌-◌, ◌≤◌}
+use Prim.Native.Nat.{ℕ}
 use mathlib.Core.Path.{◌≡◌, refl, ◌∙◌, ap}
 use mathlib.Core.Bool.{Bool}
 use native.Mathlib.Omega.{arith}
 use lib.ListN.{length}
 use lib.Dec.{ltb}
-use Rattle.volume.specs.Tables.{bit_at}
 use Rattle.lent.proofs.LentLaws.{first_none, first_more}
 use Rattle.lent.proofs.mark_first.Goals as goal
 

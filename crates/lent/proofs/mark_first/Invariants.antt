@@ -1,12 +1,9 @@
 -- The sectors below k are marked.
-use Prim.Native.Nat.{ℕ, ◌-◌, ◌≤◌}
-use mathlib.Core.Path.{◌≡◌, refl, ◌∙◌, ap}
-use mathlib.Core.Bool.{Bool}
-use native.Mathlib.Omega.{arith}
+use Prim.Native.Nat.{◌-◌, ◌≤◌}
+use mathlib.Core.Path.{◌≡◌}
 use lib.ListN.{length}
 use lib.Dec.{ltb}
 use Rattle.volume.specs.Tables.{bit_at}
-use Rattle.lent.proofs.LentLaws.{first_none, first_more}
 use Rattle.lent.proofs.mark_first.Given as goal
 
 abbrev pub invariant-loop-k : goal.invariant-loop-k

@@ -1,7 +1,6 @@
 -- Each table is zeros.
 use lib.ListN.{length}
 use Rattle.lent.proofs.LentLaws.{zero_tables_lem}
-use borrow.Author.Rules.{rules}
 use Rattle.lent.proofs.zero_tables.Goals as goal
 
 pub returns : goal.returns

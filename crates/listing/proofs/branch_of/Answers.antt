@@ -1,6 +1,5 @@
 -- A signed sector's branches name sectors.
 use Rattle.listing.proofs.ListLaws.{branch_whole, branch_there}
-use borrow.Author.Rules.{rules}
 use Rattle.listing.proofs.branch_of.Goals as goal
 
 pub branch_at-requires : goal.branch_at-requires

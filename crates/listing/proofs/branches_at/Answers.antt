@@ -1,6 +1,5 @@
 -- A signed sector has at most 24 branches.
 use Rattle.listing.proofs.ListLaws.{whole_sector, branches_there}
-use borrow.Author.Rules.{rules}
 use Rattle.listing.proofs.branches_at.Goals as goal
 
 pub branch_count-requires : goal.branch_count-requires

@@ -1,10 +1,6 @@
 -- The first q pieces are entered.
-use borrow.Author.Rules.{rules}
-use Prim.Native.Nat.{◌-◌, ◌≤◌}
 use native.Mathlib.Omega.{arith}
-use lib.ListN.{length}
-use Rattle.tournament.proofs.TournamentLaws.{Entered, entered_on, entered_all}
-use Rattle.listing.proofs.ListLaws.{key}
+use Rattle.tournament.proofs.TournamentLaws.{entered_on, entered_all}
 use Rattle.listing.proofs.enter_all.Goals as goal
 
 pub loop-q-preserved : goal.loop-q-preserved

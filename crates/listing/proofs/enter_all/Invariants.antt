@@ -1,9 +1,7 @@
 -- The first q pieces are entered.
-use borrow.Author.Rules.{rules}
 use Prim.Native.Nat.{◌-◌, ◌≤◌}
-use native.Mathlib.Omega.{arith}
 use lib.ListN.{length}
-use Rattle.tournament.proofs.TournamentLaws.{Entered, entered_on, entered_all}
+use Rattle.tournament.proofs.TournamentLaws.{Entered}
 use Rattle.listing.proofs.ListLaws.{key}
 use Rattle.listing.proofs.enter_all.Given as goal
 

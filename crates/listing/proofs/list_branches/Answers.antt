@@ -1,5 +1,4 @@
 -- Every candidate is entered, and then the newest are listed.
-use borrow.Author.Rules.{rules}
 use Rattle.listing.proofs.list_branches.Goals as goal
 
 pub list_newest-requires : goal.list_newest-requires

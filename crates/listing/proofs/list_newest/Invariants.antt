@@ -1,15 +1,13 @@
 -- Outside, what is listed so far and from here on is the whole; inside, the first i branches are reached.
-use borrow.Author.Rules.{rules}
 use Prim.Native.Nat.{◌-◌, ◌≤◌}
-use mathlib.Core.Path.{◌≡◌, refl, ◌∙◌}
-use native.Mathlib.Omega.{arith}
+use mathlib.Core.Path.{◌≡◌}
 use lib.ListN.{length, take}
 use Rattle.layout.specs.Word.{words_of}
 use Rattle.layout.specs.MapSector.{branch_words}
 use Rattle.volume.specs.Tables.{sector_at}
 use Rattle.pieces.specs.Arrays.{flagged}
 use Rattle.tournament.specs.Tournament.{Keyed}
-use Rattle.listing.proofs.ListLaws.{key, reached_by, reached_none, reached_more, Listing, listing_starts, listing_next, listing_full, listing_no_more, listing_done}
+use Rattle.listing.proofs.ListLaws.{key, reached_by, Listing}
 use Rattle.listing.proofs.list_newest.Given as goal
 
 abbrev pub invariant-branch : goal.invariant-branch

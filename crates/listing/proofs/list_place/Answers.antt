@@ -4,7 +4,6 @@ use mathlib.Core.List.{append-nil}
 use native.Mathlib.Omega.{arith}
 use lib.ListN.{take}
 use Rattle.listing.proofs.ListLaws.{list_more}
-use borrow.Author.Rules.{rules}
 use Rattle.listing.proofs.list_place.Goals as goal
 
 pub returns-then-known : goal.returns-then-known

@@ -1,6 +1,5 @@
 -- Each answer is the key, by the test that decided it.
 use Rattle.listing.proofs.ListLaws.{key_touched, key_older, key_newer}
-use borrow.Author.Rules.{rules}
 use Rattle.listing.proofs.older_key.Goals as goal
 
 pub returns-then-touched-q-eq1 : goal.returns-then-touched-q-eq1

@@ -1,6 +1,5 @@
 -- A sector's piece is its word 4.
 use Rattle.listing.proofs.ListLaws.{whole_sector, word_there}
-use borrow.Author.Rules.{rules}
 use Rattle.listing.proofs.piece_at.Goals as goal
 
 pub piece_of-requires : goal.piece_of-requires

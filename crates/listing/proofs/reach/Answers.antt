@@ -1,7 +1,6 @@
 -- At most one flag is set, and only where the live sector is the branch's.
 use native.Mathlib.Omega.{arith}
 use Rattle.listing.proofs.ListLaws.{reach_none, reach_newer, reach_one}
-use borrow.Author.Rules.{rules}
 use Rattle.listing.proofs.reach.Goals as goal
 
 pub returns-then-places-q : goal.returns-then-places-q

@@ -1,7 +1,5 @@
 -- Only the piece that the sector at the branch says can be live there.
 use Rattle.listing.proofs.ListLaws.{only_there, reach_there}
-use Rattle.layout.specs.Bounded.{at}
-use borrow.Author.Rules.{rules}
 use Rattle.listing.proofs.reach_branch.Goals as goal
 
 pub reach-requires : goal.reach-requires

@@ -1,7 +1,6 @@
 -- The first of the tournament, and then those below its number.
 use Rattle.listing.proofs.ListLaws.{taken_one, taken_none}
 use native.Mathlib.Omega.{arith}
-use borrow.Author.Rules.{rules}
 use Rattle.listing.proofs.take_newest.Goals as goal
 
 pub keep_below-requires : goal.keep_below-requires

@@ -1,6 +1,5 @@
 -- Past the end of the marks nothing is marked.
 use Rattle.live_marks.proofs.MarkLaws.{zero_dead, other_live, past_dead}
-use borrow.Author.Rules.{rules}
 use Rattle.live_marks.proofs.is_live.Goals as goal
 
 pub returns-then-k-eq0 : goal.returns-then-k-eq0

@@ -4,7 +4,6 @@ use native.Mathlib.Omega.{arith}
 use lib.Seq.{length-take-le}
 use Rattle.laws.proofs.Sizes.{fits}
 use Rattle.live_marks.proofs.MarkLaws.{marks_found, marks_missing}
-use borrow.Author.Rules.{rules}
 use Rattle.live_marks.proofs.mark_in.Goals as goal
 
 pub slice_bounds-scan-end-2 : goal.slice_bounds-scan-end-2

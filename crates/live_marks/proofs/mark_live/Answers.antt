@@ -1,6 +1,5 @@
 -- The sizes are tested, and the rest is the scan's.
 use Rattle.live_marks.proofs.MarkLaws.{turned_false, turned_true, sizes, live_none, live_scanned}
-use borrow.Author.Rules.{rules}
 use mathlib.Core.Path.{ap}
 use mathlib.Core.Bool.{not}
 use Rattle.live_marks.proofs.mark_live.Goals as goal

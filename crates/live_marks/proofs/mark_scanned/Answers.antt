@@ -1,7 +1,6 @@
 -- The tables have room for any volume.
 use native.Mathlib.Omega.{arith}
 use Rattle.laws.proofs.Sizes.{fits}
-use borrow.Author.Rules.{rules}
 use Rattle.live_marks.proofs.mark_scanned.Goals as goal
 
 pub mark_in-requires : goal.mark_in-requires

@@ -3,7 +3,6 @@ use mathlib.Core.Path.{ap}
 use lib.Dec.{eqb}
 use borrow.Author.Tests.{eq-eqb, ne_eqb}
 use Rattle.live_marks.proofs.MarkLaws.{turned_false, turned_true, size_wrong, size_right}
-use borrow.Author.Rules.{rules}
 use mathlib.Core.Bool.{not}
 use Rattle.live_marks.proofs.sizes_fit.Goals as goal
 

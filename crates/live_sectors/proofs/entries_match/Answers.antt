@@ -2,7 +2,6 @@
 use Prim.Native.Nat.{◌*◌}
 use mathlib.Core.Path.{refl}
 use native.Mathlib.Omega.{arith}
-use borrow.Author.Rules.{rules}
 use Rattle.live_sectors.proofs.LiveLaws.{entries_decided}
 use Rattle.live_sectors.proofs.entries_match.Goals as goal
 

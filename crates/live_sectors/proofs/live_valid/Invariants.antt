@@ -1,14 +1,6 @@
 -- The live sectors of the pieces below p are valid; one that is not decides.
 use Prim.Native.Nat.{◌-◌, ◌≤◌}
-use mathlib.Core.Path.{◌≡◌, ◌∙◌, ap}
-use native.Mathlib.Omega.{arith}
-use lib.ListN.{length}
-use borrow.Author.Rules.{rules}
-use Rattle.geometry.specs.Geometry.{pieces_for}
-use Rattle.layout.specs.Bounded.{at}
-use Rattle.laws.proofs.Sectors.{sector_length}
-use Rattle.live_sectors.proofs.LiveLaws.{Lives, live_none, live_more, live_fails, live_all}
-use mathlib.Core.Bool.{not}
+use Rattle.live_sectors.proofs.LiveLaws.{Lives}
 use Rattle.live_sectors.proofs.live_valid.Given as goal
 
 abbrev pub invariant-loop-p : goal.invariant-loop-p

@@ -6,7 +6,6 @@ use Rattle.layout.specs.Word.{words_of}
 use Rattle.layout.specs.MapSector.{entry_words}
 use Rattle.volume.specs.Tables.{piece_entries}
 use Rattle.live_sectors.proofs.LiveLaws.{says_unsigned, says_other_piece, says_other_number, says_entries}
-use borrow.Author.Rules.{rules}
 use mathlib.Core.Bool.{not}
 use Rattle.live_sectors.proofs.says_piece.Goals as goal
 

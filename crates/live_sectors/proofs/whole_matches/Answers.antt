@@ -1,14 +1,9 @@
 -- So far all were the same.
-use Prim.Native.Nat.{ℕ, ◌+◌, ◌-◌, ◌≤◌}
-use mathlib.Core.Path.{◌≡◌, refl, ap₂, ◌∙◌}
-use mathlib.Core.Bool.{Bool}
-use mathlib.Core.List.{List}
+use Prim.Native.Nat.{◌+◌}
+use mathlib.Core.Path.{refl, ap₂}
 use native.Mathlib.Omega.{arith}
 use lib.Dec.{eqb}
-use borrow.Author.Rules.{rules}
-use Rattle.layout.specs.Bounded.{at, all_below}
-use Rattle.layout.specs.Word.{words_of}
-use Rattle.layout.specs.MapSector.{entry_words}
+use Rattle.layout.specs.Bounded.{at}
 use Rattle.live_sectors.proofs.LiveLaws.{gathered_none, gathered_more, gathered_all}
 use Rattle.live_sectors.proofs.whole_matches.Invariants.{equal}
 use Rattle.live_sectors.proofs.whole_matches.Goals as goal

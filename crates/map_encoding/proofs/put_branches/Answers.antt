@@ -6,7 +6,6 @@ use lib.ListN.{length, replicate}
 use lib.Seq.{sets}
 use Rattle.layout.specs.Word.{bytes_of}
 use Rattle.laws.proofs.Words.{put_run}
-use borrow.Author.Rules.{rules}
 use Rattle.map_encoding.proofs.put_branches.Goals as goal
 
 pub returns : goal.returns

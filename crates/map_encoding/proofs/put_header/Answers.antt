@@ -6,7 +6,6 @@ use lib.Seq.{sets}
 use Rattle.layout.specs.Word.{bytes_of}
 use Rattle.layout.specs.MapSector.{map_mark}
 use Rattle.map_encoding.proofs.Encoding.{header_stored}
-use borrow.Author.Rules.{rules}
 use Rattle.map_encoding.proofs.put_header.Goals as goal
 
 pub returns : goal.returns

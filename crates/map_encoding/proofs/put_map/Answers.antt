@@ -5,7 +5,6 @@ use Rattle.layout.specs.Bounded.{at, updates}
 use Rattle.volume.specs.Tables.{piece_entries}
 use Rattle.piece_entries.proofs.EntryLaws.{piece_length, piece_words_lem}
 use Rattle.map_encoding.proofs.Encoding.{map_stored}
-use borrow.Author.Rules.{rules}
 use Rattle.map_encoding.proofs.put_map.Goals as goal
 
 pub put_rest-requires : goal.put_rest-requires

@@ -1,6 +1,5 @@
 -- The branches are the words from word 8 on.
 use mathlib.Core.Path.{sym, ◌∙◌}
-use borrow.Author.Rules.{rules}
 use Rattle.layout.specs.Word.{words_of}
 use Rattle.map_sector.proofs.Maps.{branch_word}
 use Rattle.map_sector.proofs.branch_at.Goals as goal

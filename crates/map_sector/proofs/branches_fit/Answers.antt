@@ -1,10 +1,9 @@
 -- The branches below i fit.
-use Prim.Native.Nat.{ℕ, ◌-◌, ◌≤◌}
-use mathlib.Core.Path.{◌≡◌, sym, ap, ◌∙◌}
-use mathlib.Core.Bool.{Bool, ◌&&◌}
+use Prim.Native.Nat.{ℕ}
+use mathlib.Core.Path.{◌≡◌, ap, ◌∙◌}
+use mathlib.Core.Bool.{◌&&◌}
 use native.Mathlib.Omega.{arith}
-use borrow.Author.Rules.{rules}
-use Rattle.layout.specs.Bounded.{at, all_below}
+use Rattle.layout.specs.Bounded.{at}
 use Rattle.layout.specs.Word.{words_of}
 use Rattle.layout.specs.MapSector.{branch_words, branches_fit}
 use Rattle.map_sector.specs.Header.{branch_fits}

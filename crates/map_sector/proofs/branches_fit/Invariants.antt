@@ -1,14 +1,10 @@
 -- The branches below i fit.
-use Prim.Native.Nat.{ℕ, ◌-◌, ◌≤◌}
-use mathlib.Core.Path.{◌≡◌, sym, ap, ◌∙◌}
-use mathlib.Core.Bool.{Bool, ◌&&◌}
-use native.Mathlib.Omega.{arith}
-use borrow.Author.Rules.{rules}
+use Prim.Native.Nat.{◌-◌, ◌≤◌}
+use mathlib.Core.Path.{◌≡◌}
 use Rattle.layout.specs.Bounded.{at, all_below}
 use Rattle.layout.specs.Word.{words_of}
-use Rattle.layout.specs.MapSector.{branch_words, branches_fit}
+use Rattle.layout.specs.MapSector.{branch_words}
 use Rattle.map_sector.specs.Header.{branch_fits}
-use Rattle.map_sector.proofs.Branches.{branch_room_lem, each_none, each_next, each_branch}
 use Rattle.map_sector.proofs.branches_fit.Given as goal
 
 abbrev pub invariant-loop-i : goal.invariant-loop-i

@@ -3,7 +3,6 @@ use Prim.Native.Nat.{ℕ, ◌*◌, ◌-◌}
 use mathlib.Core.Path.{◌≡◌, sym, ap, ◌∙◌}
 use native.Mathlib.Omega.{arith}
 use lib.ListN.{length, drop}
-use borrow.Author.Rules.{rules}
 use Rattle.geometry.specs.Geometry.{entries_per_piece}
 use Rattle.layout.specs.Bounded.{all, is_zero}
 use Rattle.layout.specs.Word.{words_of}

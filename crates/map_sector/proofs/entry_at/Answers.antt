@@ -1,6 +1,5 @@
 -- The entries are the words from word 32 on.
 use mathlib.Core.Path.{sym, ◌∙◌}
-use borrow.Author.Rules.{rules}
 use Rattle.layout.specs.Word.{words_of}
 use Rattle.map_sector.proofs.Maps.{entry_word}
 use Rattle.map_sector.proofs.entry_at.Goals as goal

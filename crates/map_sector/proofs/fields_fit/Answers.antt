@@ -2,7 +2,6 @@
 use Prim.Native.Nat.{◌≤◌, ◌<◌}
 use native.Mathlib.Omega.{arith}
 use borrow.Author.Tests.{le-leb, lt-leb, lt-ltb, le-ltb, eq-eqb, ne_eqb}
-use borrow.Author.Rules.{rules}
 use Rattle.geometry.specs.Geometry.{pieces_for}
 use Rattle.map_sector.specs.Header.{fields_fit}
 use Rattle.map_sector.proofs.fields_fit.Goals as goal

@@ -1,5 +1,4 @@
 -- The fields are words 2 to 7.
-use borrow.Author.Rules.{rules}
 use Rattle.layout.specs.Word.{words_of}
 use Rattle.map_sector.proofs.Maps.{header_words}
 use Rattle.map_sector.proofs.header_fits.Goals as goal

@@ -1,5 +1,4 @@
 -- The mark, and then the rest.
-use borrow.Author.Rules.{rules}
 use mathlib.Core.Path.{sym, ◌∙◌}
 use borrow.Author.Tests.{not-false}
 use Rattle.map_sector.proofs.Maps.{valid_unmarked}

@@ -1,5 +1,4 @@
 -- The header, the branches, the entries and the sum decide in turn.
-use borrow.Author.Rules.{rules}
 use mathlib.Core.Path.{refl, sym}
 use mathlib.Core.Bool.{true}
 use Rattle.layout.specs.Word.{words_of}

@@ -2,7 +2,6 @@
 use mathlib.Core.Path.{◌∙◌, ap₂}
 use native.Mathlib.Omega.{arith}
 use lib.Dec.{eqb}
-use borrow.Author.Rules.{rules}
 use Rattle.marks.proofs.MarkLaws.{same_word}
 use Rattle.marks.proofs.same_four.Goals as goal
 

@@ -1,7 +1,6 @@
 -- Too short, or the four bytes decide.
 use mathlib.Core.Path.{sym, ◌∙◌}
 use native.Mathlib.Omega.{arith}
-use borrow.Author.Rules.{rules}
 use Rattle.laws.proofs.Lists.{starts_short}
 use Rattle.marks.proofs.MarkLaws.{starts_four}
 use Rattle.marks.proofs.starts_with.Goals as goal

@@ -1,5 +1,5 @@
 -- Places and entries together are the names.
-use Rattle.std.proofs.Common.{length, rules}
+use Rattle.std.proofs.Common.{length}
 use Rattle.layout.specs.Bounded.{at}
 use Rattle.names.proofs.Marking.{places_outside, all_judged}
 use Rattle.names.proofs.all_inside.Goals as goal

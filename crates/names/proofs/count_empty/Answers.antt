@@ -1,8 +1,7 @@
 -- So far those that pass are counted.
-use Rattle.std.proofs.Common.{◌≡◌, ℕ, suc, ◌-◌, ◌≤◌, Bool, cond, List, length, ap, ◌∙◌, arith, rules}
-use Rattle.layout.specs.Bounded.{at, count_below}
+use Rattle.std.proofs.Common.{◌≡◌, length, ap, ◌∙◌, arith}
+use Rattle.layout.specs.Bounded.{count_below}
 use Rattle.laws.proofs.Bounded.{count_le}
-use Rattle.layout.specs.Entry.{is_empty}
 use Rattle.names.proofs.Marking.{counted_none, counted_more}
 use Rattle.names.proofs.count_empty.Invariants.{full}
 use Rattle.names.proofs.count_empty.Goals as goal

@@ -1,10 +1,8 @@
 -- So far those that pass are counted.
-use Rattle.std.proofs.Common.{◌≡◌, ℕ, suc, ◌-◌, ◌≤◌, Bool, cond, List, length, ap, ◌∙◌, arith, rules}
+use Rattle.std.proofs.Common.{◌≡◌, ℕ, ◌-◌, ◌≤◌, Bool, List, length}
 use Rattle.layout.specs.Bounded.{at, count_below}
-use Rattle.laws.proofs.Bounded.{count_le}
 use Rattle.geometry.specs.Geometry.{within}
 use Rattle.layout.specs.Entry.{sector_of}
-use Rattle.names.proofs.Marking.{counted_none, counted_more}
 use Rattle.names.proofs.entries_inside.Given as goal
 
 abbrev pub full : ℕ → List ℕ → ℕ → Bool

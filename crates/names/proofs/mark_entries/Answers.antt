@@ -1,5 +1,5 @@
 -- The quarters, and what is left where four do not divide the number.
-use Rattle.std.proofs.Common.{ℕ, ◌+◌, Bool, length, ap, ◌∙◌, arith, rules}
+use Rattle.std.proofs.Common.{ℕ, Bool, length, ap, ◌∙◌, arith}
 use Rattle.layout.specs.Entry.{sector_of}
 use Rattle.names.specs.Marked.{marked}
 use Rattle.layout.specs.Bounded.{at}

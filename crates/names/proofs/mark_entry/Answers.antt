@@ -1,5 +1,5 @@
 -- One bit more: that of the entry's sector.
-use Rattle.std.proofs.Common.{ℕ, true, ap, ◌∙◌, arith, rules}
+use Rattle.std.proofs.Common.{ℕ, true, ap, ◌∙◌, arith}
 use Rattle.layout.specs.Bounded.{updated}
 use Rattle.volume.specs.Tables.{bit_at}
 use Rattle.names.proofs.mark_entry.Goals as goal

@@ -1,5 +1,5 @@
 -- Sector 0, then the places, then the entries.
-use Rattle.std.proofs.Common.{length, ◌∙◌, arith, rules}
+use Rattle.std.proofs.Common.{length, ◌∙◌, arith}
 use Rattle.names.proofs.Marking.{zeros_marked}
 use Rattle.names.proofs.mark_few.Goals as goal
 

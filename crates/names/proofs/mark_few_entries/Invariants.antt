@@ -1,10 +1,9 @@
 -- Others and the entries below i are marked, with the word at hand put back.
-use Rattle.std.proofs.Common.{◌≡◌, ℕ, ◌-◌, ◌/◌, ◌<◌, ◌≤◌, Bool, true, List, length, sym, refl, ap, ◌∙◌, subst, arith, rules}
-use Rattle.layout.specs.Bounded.{at, updated}
+use Rattle.std.proofs.Common.{◌≡◌, ℕ, ◌-◌, ◌<◌, ◌≤◌, List, length}
+use Rattle.layout.specs.Bounded.{at}
 use Rattle.volume.specs.Tables.{bit_at, used_by}
-use Rattle.bits.proofs.WordLaws.{Back, back_same, back_set}
+use Rattle.bits.proofs.WordLaws.{Back}
 use Rattle.names.specs.Marked.{with_entries}
-use Rattle.names.proofs.Marking.{entries_start, entry_marked}
 use Rattle.names.proofs.mark_few_entries.Given as goal
 
 abbrev pub invariant-entries : goal.invariant-entries

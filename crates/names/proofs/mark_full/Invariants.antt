@@ -1,9 +1,8 @@
 -- Others and the entries below i are marked.
-use Rattle.std.proofs.Common.{◌≡◌, ℕ, ◌-◌, ◌≤◌, List, length, refl, ap, ◌∙◌, arith, rules}
+use Rattle.std.proofs.Common.{◌≡◌, ℕ, ◌-◌, ◌≤◌, List, length}
 use Rattle.layout.specs.Bounded.{at}
 use Rattle.volume.specs.Tables.{bit_at, used_by}
 use Rattle.names.specs.Marked.{with_entries}
-use Rattle.names.proofs.Marking.{entries_start, entry_marked, entry_passed}
 use Rattle.names.proofs.mark_full.Given as goal
 
 abbrev pub invariant-entries : goal.invariant-entries

@@ -1,7 +1,7 @@
 -- The places below i are marked.
-use Rattle.std.proofs.Common.{◌≡◌, ℕ, ◌-◌, ◌≤◌, [], length, refl, ap, ◌∙◌, arith, rules}
+use Rattle.std.proofs.Common.{◌≡◌, ℕ, [], length, refl, ap, ◌∙◌, arith}
 use Rattle.layout.specs.Bounded.{at, always, gathered}
-use Rattle.volume.specs.Tables.{bit_at, used_by}
+use Rattle.volume.specs.Tables.{used_by}
 use Rattle.names.proofs.Marking.{places_start, place_marked}
 use Rattle.names.proofs.mark_places.Goals as goal
 

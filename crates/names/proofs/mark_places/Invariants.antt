@@ -1,8 +1,7 @@
 -- The places below i are marked.
-use Rattle.std.proofs.Common.{◌≡◌, ℕ, ◌-◌, ◌≤◌, [], length, refl, ap, ◌∙◌, arith, rules}
+use Rattle.std.proofs.Common.{◌≡◌, ◌-◌, ◌≤◌, [], length}
 use Rattle.layout.specs.Bounded.{at, always, gathered}
 use Rattle.volume.specs.Tables.{bit_at, used_by}
-use Rattle.names.proofs.Marking.{places_start, place_marked}
 use Rattle.names.proofs.mark_places.Given as goal
 
 abbrev pub invariant-loop-i : goal.invariant-loop-i

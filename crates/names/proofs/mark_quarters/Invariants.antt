@@ -1,9 +1,9 @@
 -- The first i of each quarter are marked.
-use Rattle.std.proofs.Common.{◌≡◌, ℕ, ◌+◌, ◌-◌, ◌*◌, ◌≤◌, length, refl, ◌∙◌, arith}
+use Rattle.std.proofs.Common.{◌≡◌, ◌-◌, ◌≤◌, length}
 use Rattle.layout.specs.Bounded.{at}
 use Rattle.layout.specs.Entry.{sector_of}
 use Rattle.volume.specs.Tables.{bit_at}
-use Rattle.names.proofs.Marking.{Quarters, quarters_start, quarters_next, quarters_end}
+use Rattle.names.proofs.Marking.{Quarters}
 use Rattle.names.proofs.mark_quarters.Given as goal
 
 abbrev pub invariant-loop-i : goal.invariant-loop-i

@@ -1,8 +1,7 @@
 -- The entries below i are marked.
-use Rattle.std.proofs.Common.{◌≡◌, ℕ, ◌-◌, ◌≤◌, Bool, length, refl, ap, ◌∙◌, arith, rules}
+use Rattle.std.proofs.Common.{◌≡◌, ℕ, length, refl, ap, ◌∙◌, arith}
 use Rattle.layout.specs.Bounded.{at}
 use Rattle.layout.specs.Entry.{sector_of}
-use Rattle.volume.specs.Tables.{bit_at}
 use Rattle.names.specs.Marked.{marked}
 use Rattle.names.proofs.Marking.{marked_next}
 use Rattle.names.proofs.mark_rest.Goals as goal

@@ -1,8 +1,7 @@
 -- So far those that pass are counted.
-use Rattle.std.proofs.Common.{◌≡◌, ℕ, suc, ◌-◌, ◌≤◌, Bool, cond, List, length, ap, ◌∙◌, arith, rules}
-use Rattle.layout.specs.Bounded.{at, count_below}
+use Rattle.std.proofs.Common.{◌≡◌, length, ap, ◌∙◌, arith}
+use Rattle.layout.specs.Bounded.{count_below}
 use Rattle.laws.proofs.Bounded.{count_le}
-use Rattle.geometry.specs.Geometry.{within}
 use Rattle.names.proofs.Marking.{counted_none, counted_more}
 use Rattle.names.proofs.places_inside.Invariants.{full}
 use Rattle.names.proofs.places_inside.Goals as goal

@@ -1,5 +1,5 @@
 -- One bit is set, by the law or-bit.
-use Rattle.std.proofs.Common.{ℕ, ◌*◌, ◌/◌, ◌%◌, ◌^◌, eqb, ap, ◌∙◌, one-mul, arith, shl_exact, rules}
+use Rattle.std.proofs.Common.{ℕ, ◌/◌, ◌%◌, ◌^◌, eqb, ap, ◌∙◌, one-mul, arith, shl_exact}
 use lib.Bits.{bit_or}
 use Rattle.bits.proofs.WordLaws.{or_bit}
 use Rattle.names.proofs.with_bit.Goals as goal

@@ -1,5 +1,5 @@
 -- An empty entry is counted.
-use Rattle.std.proofs.Common.{ℕ, suc, Bool, cond, sym, ap, add-one, rules, eq-eqb, ne_eqb}
+use Rattle.std.proofs.Common.{suc, Bool, cond, sym, ap, add-one, eq-eqb, ne_eqb}
 use Rattle.names.proofs.with_empty.Goals as goal
 
 pub returns-then-entry-eq0 : goal.returns-then-entry-eq0

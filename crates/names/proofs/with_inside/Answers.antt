@@ -1,5 +1,5 @@
 -- One test for both ends.
-use Rattle.std.proofs.Common.{arith, rules}
+use Rattle.std.proofs.Common.{arith}
 use Rattle.names.proofs.Marking.{inside_so, inside_not}
 use Rattle.names.proofs.with_inside.Goals as goal
 

@@ -1,6 +1,5 @@
 -- The residues answer, or the pairs do.
 use mathlib.Core.Path.{sym}
-use borrow.Author.Rules.{rules}
 use Rattle.numbers.proofs.all_distinct.Goals as goal
 
 pub returns-then-numbers-lt-FEW : goal.returns-then-numbers-lt-FEW

@@ -1,11 +1,8 @@
 -- What is found at i is the best of those below i.
 use Prim.Native.Nat.{◌-◌, ◌≤◌, ◌<◌}
-use mathlib.Core.Path.{◌≡◌, ◌∙◌, ap}
-use mathlib.Core.Logic.{⊎_elim}
-use native.Mathlib.Omega.{arith}
+use mathlib.Core.Path.{◌≡◌}
 use lib.ListN.{length}
 use Rattle.layout.specs.Bounded.{at, best}
-use Rattle.numbers.proofs.Numbering.{best_zero, best_new, best_stays}
 use Rattle.numbers.proofs.newest.Given as goal
 
 abbrev pub invariant-loop-i : goal.invariant-loop-i

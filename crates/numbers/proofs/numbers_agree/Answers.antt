@@ -4,7 +4,6 @@ use lib.ListN.{length}
 use Rattle.layout.specs.Bounded.{at}
 use Rattle.laws.proofs.Bounded.{best_below}
 use Rattle.numbers.proofs.Numbering.{agree_apart, agree_from1, agree_tail, agree_number}
-use borrow.Author.Rules.{rules}
 use mathlib.Core.Path.{ap}
 use mathlib.Core.Bool.{not}
 use Rattle.numbers.proofs.numbers_agree.Goals as goal

@@ -1,12 +1,10 @@
 -- Those below i are distinct; one that stands below itself decides.
-use Prim.Native.Nat.{ℕ, ◌-◌, ◌≤◌}
-use mathlib.Core.Path.{◌≡◌, sym, ◌∙◌, subst}
+use Prim.Native.Nat.{◌-◌, ◌≤◌}
+use mathlib.Core.Path.{◌≡◌}
 use mathlib.Core.Bool.{true}
 use mathlib.Core.List.{[]}
-use native.Mathlib.Omega.{arith}
 use lib.ListN.{length}
 use Rattle.layout.specs.Bounded.{at, distinct, always, gathered}
-use Rattle.numbers.proofs.Numbering.{distinct_none, distinct_more, distinct_not}
 use Rattle.numbers.proofs.pairs_distinct.Given as goal
 
 abbrev pub invariant-loop-i : goal.invariant-loop-i

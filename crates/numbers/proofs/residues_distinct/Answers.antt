@@ -1,15 +1,13 @@
 -- Those below i are distinct, and their residues are marked.
-use Prim.Native.Nat.{ℕ, ◌-◌, ◌%◌, ◌≤◌, ◌<◌}
+use Prim.Native.Nat.{ℕ}
 use mathlib.Core.Path.{◌≡◌, refl, sym, ◌∙◌, subst}
 use mathlib.Core.Bool.{true, false, true≢false}
 use mathlib.Core.List.{[]}
 use native.Mathlib.Nat.{not-suc-le-zero}
 use native.Mathlib.Omega.{arith}
 use lib.ListN.{length}
-use borrow.Author.Rules.{rules}
 use Rattle.layout.specs.Bounded.{at, distinct, always, gathered}
-use Rattle.volume.specs.Tables.{bit_at}
-use Rattle.numbers.proofs.Numbering.{distinct_none, Residues, residues_more}
+use Rattle.numbers.proofs.Numbering.{distinct_none, residues_more}
 use Rattle.numbers.proofs.residues_distinct.Goals as goal
 
 pub loop-i-init : goal.loop-i-init

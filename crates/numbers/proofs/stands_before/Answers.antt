@@ -1,9 +1,8 @@
 -- So far it was found or not.
-use Prim.Native.Nat.{ℕ, ◌-◌, ◌≤◌}
+use Prim.Native.Nat.{ℕ}
 use mathlib.Core.Path.{◌≡◌, sym, ◌∙◌, ap}
 use mathlib.Core.List.{[]}
 use native.Mathlib.Omega.{arith}
-use borrow.Author.Rules.{rules}
 use Rattle.layout.specs.Bounded.{at, elem, always, gathered}
 use Rattle.numbers.proofs.Numbering.{elem_none, elem_next}
 use Rattle.numbers.proofs.stands_before.Goals as goal

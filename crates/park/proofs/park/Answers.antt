@@ -3,7 +3,6 @@ use mathlib.Core.Path.{sym, ◌∙◌}
 use native.Mathlib.Omega.{arith}
 use Rattle.power.proofs.Runs.{left_enough}
 use Rattle.park.proofs.ParkLaws.{first_sector, park_refused, park_cut, park_whole}
-use borrow.Author.Rules.{rules}
 use Rattle.park.proofs.park.Goals as goal
 
 pub store_record-power-requires : goal.store_record-power-requires

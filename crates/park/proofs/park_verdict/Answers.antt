@@ -2,7 +2,6 @@
 use mathlib.Core.Path.{ap}
 use Rattle.state.specs.State.{is_running}
 use Rattle.park.proofs.ParkLaws.{lengths_refused, phase_refused, running_judged, state_passed, lengths_passed}
-use borrow.Author.Rules.{rules}
 use Rattle.park.proofs.park_verdict.Goals as goal
 
 pub tables_verdict-requires : goal.tables_verdict-requires

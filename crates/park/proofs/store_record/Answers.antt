@@ -1,6 +1,5 @@
 -- One store: it is made where it is allowed.
 use Rattle.park.proofs.ParkLaws.{store_fails, store_made}
-use borrow.Author.Rules.{rules}
 use Rattle.park.proofs.store_record.Goals as goal
 
 pub returns-then-allowance-eq0 : goal.returns-then-allowance-eq0

@@ -1,6 +1,5 @@
 -- By the test of the tables.
 use Rattle.park.proofs.ParkLaws.{tables_bad, tables_good, bits_enough}
-use borrow.Author.Rules.{rules}
 use mathlib.Core.Path.{ap}
 use mathlib.Core.Bool.{not}
 use Rattle.park.proofs.tables_verdict.Goals as goal

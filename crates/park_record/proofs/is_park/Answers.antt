@@ -1,7 +1,6 @@
 -- The mark, the sum and the rest decide in turn.
 use mathlib.Core.Path.{sym, ap, ◌∙◌}
-use borrow.Author.Tests.{eq-eqb, ne_eqb, not-true, not-false}
-use borrow.Author.Rules.{rules}
+use borrow.Author.Tests.{eq-eqb, ne_eqb}
 use Rattle.layout.specs.Bounded.{is_zero}
 use Rattle.park_record.proofs.Parks.{park_unmarked, park_unbalanced_lem, park_rest}
 use Rattle.park_record.proofs.is_park.Goals as goal

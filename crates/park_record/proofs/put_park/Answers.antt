@@ -1,5 +1,4 @@
 -- The words are laid with a zero for the balance, and the balance takes its place.
-use borrow.Author.Rules.{rules}
 use Rattle.park_record.proofs.Parks.{park_stored}
 use Rattle.park_record.proofs.put_park.Goals as goal
 

@@ -1,10 +1,7 @@
 -- The changes of the piece's blocks before i are in.
-use borrow.Author.Rules.{rules}
-use Prim.Native.Nat.{◌-◌}
 use mathlib.Core.Path.{◌∙◌}
 use native.Mathlib.Omega.{arith}
-use lib.ListN.{length}
-use Rattle.piece_entries.proofs.EntryLaws.{Changing, changing_starts, changing_length, changing_goes, changing_ends}
+use Rattle.piece_entries.proofs.EntryLaws.{changing_starts, changing_length, changing_goes, changing_ends}
 use Rattle.piece_entries.proofs.put_entries.Goals as goal
 
 pub put_piece-requires : goal.put_piece-requires

@@ -5,7 +5,6 @@ use mathlib.Core.List.{List}
 use native.Mathlib.Omega.{arith}
 use lib.ListN.{take, drop, replicate}
 use lib.Seq.{sets}
-use borrow.Author.Rules.{rules}
 use Rattle.layout.specs.Word.{bytes_of}
 use Rattle.laws.proofs.Words.{put_run}
 use Rattle.piece_entries.proofs.EntryLaws.{held, held_length, listed}

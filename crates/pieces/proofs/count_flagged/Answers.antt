@@ -1,9 +1,6 @@
 -- What is counted at p is the number of flags below p.
-use Prim.Native.Nat.{◌-◌, ◌≤◌}
 use mathlib.Core.Path.{◌≡◌, ◌∙◌, ap}
-use mathlib.Core.Logic.{⊎_elim}
 use native.Mathlib.Omega.{arith}
-use borrow.Author.Rules.{rules}
 use Rattle.layout.specs.Bounded.{count_below}
 use Rattle.laws.proofs.Bounded.{count_le}
 use Rattle.pieces.specs.Arrays.{flagged}

@@ -1,11 +1,10 @@
 -- The flags below p are set.
-use Prim.Native.Nat.{ℕ, ◌-◌, ◌≤◌}
+use Prim.Native.Nat.{ℕ}
 use mathlib.Core.Path.{◌≡◌, refl, ◌∙◌, ap}
 use mathlib.Core.Bool.{Bool, ◌||◌}
 use native.Mathlib.Omega.{arith}
-use lib.ListN.{length, length-set}
+use lib.ListN.{length-set}
 use lib.Dec.{ltb}
-use borrow.Author.Rules.{rules}
 use Rattle.pieces.specs.Arrays.{flagged}
 use Rattle.pieces.proofs.FlagLaws.{below_none, below_more}
 use Rattle.pieces.proofs.flag_all.Goals as goal

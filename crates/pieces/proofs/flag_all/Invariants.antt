@@ -1,13 +1,10 @@
 -- The flags below p are set.
-use Prim.Native.Nat.{ℕ, ◌-◌, ◌≤◌}
-use mathlib.Core.Path.{◌≡◌, refl, ◌∙◌, ap}
-use mathlib.Core.Bool.{Bool, ◌||◌}
-use native.Mathlib.Omega.{arith}
-use lib.ListN.{length, length-set}
+use Prim.Native.Nat.{◌-◌, ◌≤◌}
+use mathlib.Core.Path.{◌≡◌}
+use mathlib.Core.Bool.{◌||◌}
+use lib.ListN.{length}
 use lib.Dec.{ltb}
-use borrow.Author.Rules.{rules}
 use Rattle.pieces.specs.Arrays.{flagged}
-use Rattle.pieces.proofs.FlagLaws.{below_none, below_more}
 use Rattle.pieces.proofs.flag_all.Given as goal
 
 abbrev pub invariant-loop-p : goal.invariant-loop-p

@@ -1,11 +1,8 @@
 -- The pieces of the first i blocks are flagged.
-use Prim.Native.Nat.{◌-◌, ◌≤◌}
-use mathlib.Core.Path.{◌≡◌, refl, ◌∙◌}
+use mathlib.Core.Path.{refl, ◌∙◌}
 use native.Mathlib.Omega.{arith}
 use lib.ListN.{length, length-set}
-use borrow.Author.Rules.{rules}
-use Rattle.pieces.specs.Arrays.{flagged}
-use Rattle.pieces.proofs.FlagLaws.{touched_by, touched_none, touched_more, touched_all}
+use Rattle.pieces.proofs.FlagLaws.{touched_none, touched_more, touched_all}
 use Rattle.pieces.proofs.touch_pieces.Goals as goal
 
 pub loop-i-init : goal.loop-i-init

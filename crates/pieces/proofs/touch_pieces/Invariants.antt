@@ -1,11 +1,9 @@
 -- The pieces of the first i blocks are flagged.
 use Prim.Native.Nat.{◌-◌, ◌≤◌}
-use mathlib.Core.Path.{◌≡◌, refl, ◌∙◌}
-use native.Mathlib.Omega.{arith}
-use lib.ListN.{length, length-set}
-use borrow.Author.Rules.{rules}
+use mathlib.Core.Path.{◌≡◌}
+use lib.ListN.{length}
 use Rattle.pieces.specs.Arrays.{flagged}
-use Rattle.pieces.proofs.FlagLaws.{touched_by, touched_none, touched_more, touched_all}
+use Rattle.pieces.proofs.FlagLaws.{touched_by}
 use Rattle.pieces.proofs.touch_pieces.Given as goal
 
 abbrev pub invariant-loop-i : goal.invariant-loop-i

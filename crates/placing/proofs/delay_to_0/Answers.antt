@@ -1,8 +1,7 @@
 -- The wait until position 0, on track 0 and from another.
-use Prim.Native.Nat.{◌+◌, ◌-◌, ◌%◌, ◌≤◌, ◌<◌}
+use Prim.Native.Nat.{◌+◌, ◌-◌, ◌%◌}
 use native.Mathlib.Nat.{mod-lt}
 use native.Mathlib.Omega.{arith}
-use borrow.Author.Rules.{rules}
 use Rattle.placing.proofs.PlaceLaws.{zero_own, zero_other}
 use Rattle.placing.proofs.delay_to_0.Goals as goal
 

@@ -2,7 +2,6 @@
 use Prim.Native.Nat.{ℕ}
 use mathlib.Core.Path.{◌≡◌, ◌∙◌, subst}
 use native.Mathlib.Omega.{arith}
-use borrow.Author.Rules.{rules}
 use Rattle.volume.specs.Tables.{bit_at}
 use Rattle.laws.proofs.Delays.{drive_fits_lem}
 use Rattle.searching.specs.Searching.{AllPassed}
@@ -27,7 +26,9 @@ pub returns-then-skipped-steps : goal.returns-then-skipped-steps
 returns-then-skipped-steps c =
     let fit = drive_fits_lem c.args.n c.args.d c.requires.d_value in (
       own_chosen c.args.n c.args.d fit (bit_at c.args.used.now) c.args.first c.args.start c.requires.start_lt_n c.requires.first_value
-          c.own_positions-steps.result (steps_few c.args.n c.args.d fit c.own_positions-steps.result c.own_positions-steps.ensures) c.search_track-own.result.sector c.search_track-own.result.skipped c.search_track-own.ensures.0 c.if-skipped-steps.true c.search_track-own.ensures.2 (c.search_track-own.ensures.3 c.if-skipped-steps.true),
+          c.own_positions-steps.result (steps_few c.args.n c.args.d fit c.own_positions-steps.result c.own_positions-steps.ensures) c.search_track-own.result.sector
+          c.search_track-own.result.skipped c.search_track-own.ensures.0 c.if-skipped-steps.true c.search_track-own.ensures.2
+          (c.search_track-own.ensures.3 c.if-skipped-steps.true),
       c.requires.known,
     )
 

@@ -1,19 +1,13 @@
 -- After j places the copy marks them, and the next search starts after the last.
-use Prim.Native.Nat.{ℕ, ◌+◌, ◌*◌, ◌-◌, ◌≤◌, ◌<◌}
-use mathlib.Core.Path.{◌≡◌, refl, ◌∙◌, sym, ap, subst}
-use mathlib.Core.List.{◌++◌}
-use native.Mathlib.Omega.{arith}
-use lib.ListN.{length, drop, set}
-use borrow.Author.Rules.{rules}
-use Rattle.layout.specs.Bounded.{list_from}
-use Rattle.tracks.specs.Placing.{Found, track_of, position_after, least_delay, place_of, skipped_by}
+use Prim.Native.Nat.{◌*◌, ◌-◌, ◌≤◌, ◌<◌}
+use mathlib.Core.Path.{◌≡◌}
+use lib.ListN.{length}
+use Rattle.tracks.specs.Placing.{track_of, least_delay, place_of, skipped_by}
 use Rattle.volume.specs.Tables.{bit_at}
 use Rattle.power.specs.Power.{made}
-use Rattle.laws.proofs.Filling.{Filled, filled_none, filled_length, filled_more}
-use Rattle.laws.proofs.Delays.{drive_fits_lem, track_inside, after_inside}
+use Rattle.laws.proofs.Filling.{Filled}
 use Rattle.searching.specs.Searching.{Known}
-use Rattle.searching.proofs.TrackLaws.{known_none, known_kept}
-use Rattle.placing.proofs.PlaceLaws.{next_start, next_track, Placed, placed_none, place_here, placed_more, charged_few, billed_none, billed_more}
+use Rattle.placing.proofs.PlaceLaws.{Placed}
 use Rattle.placing.proofs.find_places.Given as goal
 
 abbrev pub invariant-loop-j : goal.invariant-loop-j

@@ -1,8 +1,6 @@
 -- What is left of a sector's number without its position.
-use Prim.Native.Nat.{◌≤◌}
 use native.Mathlib.Nat.{mod-le, div-add-mod'}
 use native.Mathlib.Omega.{arith}
-use borrow.Author.Rules.{rules}
 use Rattle.placing.proofs.first_of.Goals as goal
 
 pub overflow_sub-result : goal.overflow_sub-result

@@ -1,6 +1,5 @@
 -- The number of the verdict, and the phase that is left.
 use Rattle.plain.proofs.PlainLaws.{batch_result_is}
-use borrow.Author.Rules.{rules}
 use Rattle.plain.proofs.batch_result_of.Goals as goal
 
 pub returns : goal.returns

@@ -1,6 +1,5 @@
 -- It was running, or it is as it came.
 use Rattle.plain.proofs.PlainLaws.{phase_changed, phase_kept}
-use borrow.Author.Rules.{rules}
 use Rattle.plain.proofs.phase_left.Goals as goal
 
 pub returns-then-came-eq0 : goal.returns-then-came-eq0

@@ -1,6 +1,5 @@
 -- The number is that of the phase.
 use Rattle.plain.proofs.PlainLaws.{plain_is}
-use borrow.Author.Rules.{rules}
 use Rattle.plain.proofs.plain_of.Goals as goal
 
 pub returns : goal.returns

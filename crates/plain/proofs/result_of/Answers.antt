@@ -1,6 +1,5 @@
 -- The numbers of the answer, and the state that is left.
 use Rattle.plain.proofs.PlainLaws.{result_is}
-use borrow.Author.Rules.{rules}
 use Rattle.plain.proofs.result_of.Goals as goal
 
 pub returns : goal.returns

@@ -1,6 +1,5 @@
 -- A refusal keeps the state that came.
 use Rattle.plain.proofs.PlainLaws.{left_kept, left_other}
-use borrow.Author.Rules.{rules}
 use Rattle.plain.proofs.state_left.Goals as goal
 
 pub returns-then-is_refusal : goal.returns-then-is_refusal

@@ -1,6 +1,5 @@
 -- The phase is that of the number.
 use Rattle.plain.proofs.PlainLaws.{state_is}
-use borrow.Author.Rules.{rules}
 use Rattle.plain.proofs.state_of.Goals as goal
 
 pub returns : goal.returns

@@ -1,12 +1,11 @@
 -- The bytes below i are copied.
-use borrow.Author.Rules.{rules}
-use Prim.Native.Nat.{ℕ, ◌+◌, ◌-◌, ◌≤◌}
+use Prim.Native.Nat.{ℕ}
 use mathlib.Core.Path.{◌≡◌, ◌∙◌, ap}
 use mathlib.Core.List.{◌++◌}
 use native.Mathlib.Omega.{arith}
 use lib.ListN.{length, drop}
 use Rattle.layout.specs.Bounded.{at, list_from}
-use Rattle.laws.proofs.Filling.{Filled, filled_none, filled_length, filled_more}
+use Rattle.laws.proofs.Filling.{filled_none, filled_length, filled_more}
 use Rattle.plan.proofs.PlanLaws.{copied}
 use Rattle.plan.proofs.copy_used.Goals as goal
 

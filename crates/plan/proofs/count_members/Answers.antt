@@ -1,6 +1,5 @@
 -- The fold's flags are the ones counted.
 use Rattle.plan.proofs.PlanLaws.{counted_few}
-use borrow.Author.Rules.{rules}
 use Rattle.plan.proofs.count_members.Goals as goal
 
 pub returns : goal.returns

@@ -1,7 +1,6 @@
 -- More than 24 fold; otherwise nothing changes.
 use mathlib.Core.Path.{refl}
 use borrow.Author.Tests.{lt-ltb, le-ltb}
-use borrow.Author.Rules.{rules}
 use Rattle.plan.proofs.fold.Goals as goal
 
 pub returns-then-listed-le-BRANCH_ROOM : goal.returns-then-listed-le-BRANCH_ROOM

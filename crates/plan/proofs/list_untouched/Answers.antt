@@ -2,7 +2,6 @@
 use mathlib.Core.Path.{◌∙◌, sym}
 use native.Mathlib.Omega.{arith}
 use Rattle.plan.proofs.PlanLaws.{touchable, flags_room, pieces_few, pieces_room, live_for}
-use borrow.Author.Rules.{rules}
 use Rattle.plan.proofs.list_untouched.Goals as goal
 
 pub touch_pieces-requires : goal.touch_pieces-requires

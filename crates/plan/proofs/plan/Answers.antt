@@ -1,7 +1,6 @@
 -- The parts give the plan of the definition.
 use native.Mathlib.Omega.{arith}
 use Rattle.plan.proofs.PlanLaws.{planning, pieces_few, pieces_room}
-use borrow.Author.Rules.{rules}
 use Rattle.plan.proofs.plan.Goals as goal
 
 pub list_untouched-listed-requires : goal.list_untouched-listed-requires
@@ -39,4 +38,6 @@ take_sectors-skipped-requires c = record {
 
 pub returns : goal.returns
 returns c =
-    planning _ _ _ _ _ _ _ _ _ _ _ _ _ _ _ _ c.requires.by_index c.pieces_for.ensures c.requires.numbers_len c.list_untouched-listed.ensures c.count_members-sizes.ensures.0 c.count_members-sizes.ensures.1 _ _ c.count_members-sizes.ensures.2 c.take_sectors-skipped.ensures.0 c.take_sectors-skipped.ensures.1
+    planning _ _ _ _ _ _ _ _ _ _ _ _ _ _ _ _ c.requires.by_index c.pieces_for.ensures c.requires.numbers_len c.list_untouched-listed.ensures
+    c.count_members-sizes.ensures.0 c.count_members-sizes.ensures.1 _ _ c.count_members-sizes.ensures.2 c.take_sectors-skipped.ensures.0
+    c.take_sectors-skipped.ensures.1

@@ -1,5 +1,4 @@
 -- 65,536 bits are enough.
-use borrow.Author.Rules.{rules}
 use mathlib.Core.Path.{refl}
 use Rattle.plan.proofs.PlanLaws.{used_room}
 use Rattle.plan.proofs.take_any.Goals as goal

@@ -1,5 +1,4 @@
 -- 1,024 bits are enough.
-use borrow.Author.Rules.{rules}
 use native.Mathlib.Omega.{arith}
 use mathlib.Core.Path.{refl}
 use Rattle.plan.proofs.take_few.Goals as goal

@@ -1,5 +1,4 @@
 -- The copy has the same bits, so the places are the same.
-use borrow.Author.Rules.{rules}
 use native.Mathlib.Omega.{arith}
 use Rattle.plan.proofs.PlanLaws.{few_sectors, taken_first, skipped_first}
 use Rattle.plan.proofs.take_in.Goals as goal

@@ -1,6 +1,5 @@
 -- So many bytes of zeros.
 use mathlib.Core.Path.{refl}
-use borrow.Author.Rules.{rules}
 use Rattle.plan.proofs.take_on_few.Goals as goal
 
 pub take_in-requires : goal.take_in-requires

@@ -1,6 +1,5 @@
 -- One byte, of which nothing is used.
 use mathlib.Core.Path.{refl}
-use borrow.Author.Rules.{rules}
 use Rattle.plan.proofs.take_on_one.Goals as goal
 
 pub take_in-requires : goal.take_in-requires

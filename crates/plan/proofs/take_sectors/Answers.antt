@@ -1,5 +1,4 @@
 -- A copy that is long enough is taken.
-use borrow.Author.Rules.{rules}
 use Rattle.plan.proofs.take_sectors.Goals as goal
 
 pub take_few-requires : goal.take_few-requires

@@ -1,6 +1,5 @@
 -- Each answer is the test of the entry that decided it.
 use Rattle.read.proofs.ReadLaws.{entry_empty, entry_low, entry_high}
-use borrow.Author.Rules.{rules}
 use Rattle.read.proofs.entry_readable.Goals as goal
 
 pub returns-then-entry-eq0 : goal.returns-then-entry-eq0

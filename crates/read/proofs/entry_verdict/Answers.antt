@@ -1,6 +1,5 @@
 -- By the test of the entry.
 use Rattle.read.proofs.ReadLaws.{entry_bad, entry_good}
-use borrow.Author.Rules.{rules}
 use mathlib.Core.Path.{ap}
 use mathlib.Core.Bool.{not}
 use Rattle.read.proofs.entry_verdict.Goals as goal

@@ -7,7 +7,6 @@ use mathlib.Core.Path.{◌∙◌, ap}
 use native.Mathlib.Omega.{arith}
 use lib.ListN.{length}
 use Rattle.read.proofs.ReadLaws.{readable}
-use borrow.Author.Rules.{rules}
 use Rattle.read.proofs.fill.Goals as goal
 
 pub bounds-map-block : goal.bounds-map-block

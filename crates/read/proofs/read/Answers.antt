@@ -1,7 +1,6 @@
 -- A refused read hands everything back; an accepted one leaves the block of the definition.
 use mathlib.Core.Path.{sym, ◌∙◌}
 use Rattle.read.proofs.ReadLaws.{read_refused, read_done}
-use borrow.Author.Rules.{rules}
 use Rattle.read.proofs.read.Goals as goal
 
 pub fill-requires : goal.fill-requires

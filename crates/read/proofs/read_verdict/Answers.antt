@@ -2,7 +2,6 @@
 use mathlib.Core.Path.{ap}
 use Rattle.state.specs.State.{is_readable}
 use Rattle.read.proofs.ReadLaws.{readable_arm, lengths_refused, block_refused, phase_refused, readable_judged, in_map, some_sectors}
-use borrow.Author.Rules.{rules}
 use borrow.Enum.Refused.{opened}
 use Rattle.read.proofs.read_verdict.Goals as goal
 

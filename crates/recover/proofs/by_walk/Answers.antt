@@ -3,7 +3,6 @@ use mathlib.Core.Path.{◌∙◌}
 use borrow.Author.Tests.{not-false}
 use Rattle.walk.proofs.WalkedLaws.{found_low, found_signed, found_incomplete, found_room, count_ready, found_log}
 use Rattle.recover.proofs.RecoverLaws.{walk_found, scan_found_lem}
-use borrow.Author.Rules.{rules}
 use mathlib.Core.Path.{ap}
 use mathlib.Core.Bool.{not}
 use Rattle.recover.proofs.by_walk.Goals as goal

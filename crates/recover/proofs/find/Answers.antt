@@ -3,7 +3,6 @@ use mathlib.Core.Path.{sym, ◌∙◌}
 use native.Mathlib.Omega.{arith}
 use Rattle.checks.proofs.SizeLaws.{size_passed}
 use Rattle.recover.proofs.RecoverLaws.{asked_for, asked_scan, image_ready, tables_ready, park_ready}
-use borrow.Author.Rules.{rules}
 use Rattle.recover.proofs.find.Goals as goal
 
 pub overflow_cast-image : goal.overflow_cast-image

@@ -2,7 +2,6 @@
 use mathlib.Core.Path.{sym, ◌∙◌}
 use Rattle.checks.proofs.SizeLaws.{by_lengths}
 use Rattle.recover.proofs.RecoverLaws.{recover_refused, recover_passed}
-use borrow.Author.Rules.{rules}
 use Rattle.recover.proofs.recover.Goals as goal
 
 pub find-requires : goal.find-requires

@@ -4,7 +4,6 @@ use native.Mathlib.Omega.{arith}
 use Rattle.volume.specs.Tables.{bit_at}
 use Rattle.laws.proofs.Sizes.{fits}
 use Rattle.recover_by_scan.proofs.ScanLaws.{scan_found_lem, scan_missing}
-use borrow.Author.Rules.{rules}
 use Rattle.recover_by_scan.proofs.by_small_scan.Goals as goal
 
 pub scan_small-found-requires : goal.scan_small-found-requires

@@ -4,7 +4,6 @@ use native.Mathlib.Omega.{arith}
 use Rattle.answer.specs.declared.Answer.TheVariants.{Walked}
 use Rattle.power.proofs.Runs.{left_enough}
 use Rattle.resume.proofs.ResumeLaws.{recovery_cut_lem, recovery_whole}
-use borrow.Author.Rules.{rules}
 use Rattle.resume.proofs.after_walk.Goals as goal
 
 pub overflow_sub-stores : goal.overflow_sub-stores

@@ -1,6 +1,5 @@
 -- Sector 0 is cleared unless it is blank.
 use Rattle.resume.proofs.ResumeLaws.{first_cleared}
-use borrow.Author.Rules.{rules}
 use Rattle.resume.proofs.clear_first.Goals as goal
 
 pub returns : goal.returns

@@ -1,5 +1,4 @@
 -- The class that is chosen holds the volume.
-use borrow.Author.Rules.{rules}
 use Rattle.scan.proofs.scan.Goals as goal
 
 pub scan_medium-requires : goal.scan_medium-requires

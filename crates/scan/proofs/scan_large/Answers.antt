@@ -2,7 +2,6 @@
 use mathlib.Core.Path.{refl}
 use native.Mathlib.Omega.{arith}
 use Rattle.soundness.proofs.Sounding.{sectors_most}
-use borrow.Author.Rules.{rules}
 use Rattle.scan.proofs.scan_large.Goals as goal
 
 pub scan_in-requires : goal.scan_in-requires

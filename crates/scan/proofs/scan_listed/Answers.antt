@@ -5,7 +5,6 @@ use Rattle.volume.specs.Tables.{sector_at}
 use Rattle.volume.specs.Recover.{image_view}
 use Rattle.signed.proofs.SignedLaws.{marks_none, above_listed}
 use Rattle.scan.proofs.ScanLaws.{sectors_inside, scan_none, scan_damaged_lem, scan_finds}
-use borrow.Author.Rules.{rules}
 use mathlib.Core.Path.{ap}
 use mathlib.Core.Bool.{not}
 use Rattle.scan.proofs.scan_listed.Goals as goal

@@ -1,15 +1,14 @@
 -- The live sectors are found in tables of zeros, and each lies in the image.
 use Prim.Native.Nat.{ℕ}
-use mathlib.Core.Path.{◌≡◌, sym, ◌∙◌, ap}
+use mathlib.Core.Path.{◌∙◌, ap}
 use native.Mathlib.Omega.{arith}
-use lib.ListN.{length, replicate}
+use lib.ListN.{replicate}
 use Rattle.geometry.specs.Geometry.{pieces_for}
 use Rattle.volume.specs.Tables.{sector_at}
 use Rattle.volume.specs.Recover.{image_view}
 use Rattle.signed.proofs.ViewLaws.{piece_inside}
 use Rattle.log_tables.proofs.LiveLaws.{live_listed}
 use Rattle.scan.proofs.ScanLaws.{place_inside, pieces_inside, is_map}
-use borrow.Author.Rules.{rules}
 use Rattle.scan.proofs.scan_live.Goals as goal
 
 pub find_live-requires : goal.find_live-requires

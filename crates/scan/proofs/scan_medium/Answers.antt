@@ -1,7 +1,6 @@
 -- The arrays hold the volume.
 use mathlib.Core.Path.{refl}
 use native.Mathlib.Omega.{arith}
-use borrow.Author.Rules.{rules}
 use Rattle.scan.proofs.scan_medium.Goals as goal
 
 pub scan_in-requires : goal.scan_in-requires

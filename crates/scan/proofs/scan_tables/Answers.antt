@@ -5,7 +5,6 @@ use Rattle.layout.specs.Bounded.{distinct}
 use Rattle.volume.specs.Tables.{sector_at}
 use Rattle.soundness.proofs.Sounding.{sectors_some}
 use Rattle.scan.proofs.ScanLaws.{distinct_fails, tables_decide}
-use borrow.Author.Rules.{rules}
 use mathlib.Core.Bool.{not}
 use Rattle.scan.proofs.scan_tables.Goals as goal
 

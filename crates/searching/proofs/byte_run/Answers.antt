@@ -1,5 +1,4 @@
 -- A byte that starts at k and is full, or k alone.
-use borrow.Author.Rules.{rules}
 use Rattle.volume.specs.Tables.{bit_at}
 use Rattle.searching.proofs.TrackLaws.{run_one, run_byte}
 use Rattle.searching.proofs.byte_run.Goals as goal

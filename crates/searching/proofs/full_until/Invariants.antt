@@ -1,12 +1,8 @@
 -- The positions before k are known to be full.
 use Prim.Native.Nat.{ℕ, ◌-◌, ◌≤◌, ◌<◌}
-use mathlib.Core.Path.{◌≡◌, ◌∙◌, ap}
-use mathlib.Core.Logic.{⊎_elim}
-use native.Mathlib.Omega.{arith}
+use mathlib.Core.Path.{◌≡◌}
 use Rattle.layout.specs.Bounded.{at}
-use Rattle.laws.proofs.Bounded.{lt?}
 use Rattle.searching.specs.Searching.{all_tracks}
-use Rattle.searching.proofs.TrackLaws.{run_more}
 use Rattle.searching.proofs.full_until.Given as goal
 
 abbrev pub invariant-loop-k : goal.invariant-loop-k

@@ -1,6 +1,5 @@
 -- Nothing is kept of the position, or it is known to be full; or found on some track, or on none, and as much is known of the position then.
 use native.Mathlib.Omega.{arith}
-use borrow.Author.Rules.{rules}
 use Rattle.layout.specs.Bounded.{at}
 use Rattle.volume.specs.Tables.{bit_at}
 use Rattle.searching.proofs.TrackLaws.{at_position, run_more, none_before, known_more}

@@ -1,15 +1,8 @@
 -- Every sector at the position below k is used, and k is there on its track.
-use Prim.Native.Nat.{◌+◌, ◌*◌, ◌-◌, ◌≤◌, ◌<◌}
-use mathlib.Core.Path.{◌≡◌, refl, ◌∙◌, sym}
-use native.Mathlib.Nat.{mul-le-mul, le-mul_of_pos_right}
-use native.Mathlib.Omega.{arith}
-use borrow.Author.Tests.{not-true, not-false}
-use borrow.Author.Rules.{rules}
+use Prim.Native.Nat.{◌+◌, ◌*◌, ◌-◌}
+use mathlib.Core.Path.{◌≡◌}
 use Rattle.volume.specs.Tables.{bit_at}
 use Rattle.searching.specs.Searching.{UsedAt}
-use Rattle.searching.proofs.TrackLaws.{at_next}
-use mathlib.Core.Path.{ap}
-use mathlib.Core.Bool.{not}
 use Rattle.searching.proofs.lowest_at.Given as goal
 
 abbrev pub invariant-loop-k : goal.invariant-loop-k

@@ -1,11 +1,9 @@
 -- All that has passed by is used, and k is under the head now.
-use Prim.Native.Nat.{◌-◌, ◌≤◌}
-use mathlib.Core.Path.{◌≡◌, ◌∙◌, sym}
+use Prim.Native.Nat.{◌-◌}
+use mathlib.Core.Path.{◌∙◌, sym}
 use native.Mathlib.Omega.{arith}
 use borrow.Author.Tests.{not-true, not-false}
-use borrow.Author.Rules.{rules}
 use Rattle.volume.specs.Tables.{bit_at}
-use Rattle.searching.specs.Searching.{turned, AllPassed}
 use Rattle.searching.proofs.TrackLaws.{turned_none, turned_inside, run_turned, run_passed, some_left}
 use mathlib.Core.Path.{ap}
 use mathlib.Core.Bool.{not}
@@ -56,7 +54,8 @@ pub loop-skipped-preserved : goal.loop-skipped-preserved
 loop-skipped-preserved c = (
   run_turned c.args.first c.args.size c.args.start c.requires.first_le_start c.requires.start_bound c.loop-skipped.skipped c.loop-skipped.k c.used_run-run.result c.around-k.result c.loop-skipped.invariant.0 c.used_run-run.ensures.2 c.around-k.ensures,
   omega arith,
-  run_passed c.args.first c.args.size c.args.start c.requires.first_le_start c.requires.start_bound (bit_at c.args.used.now) c.loop-skipped.skipped c.loop-skipped.k c.used_run-run.result (c.args.steps - c.loop-skipped.skipped) c.loop-skipped.invariant.0 c.used_run-run.ensures c.loop-skipped.invariant.2,
+  run_passed c.args.first c.args.size c.args.start c.requires.first_le_start c.requires.start_bound (bit_at c.args.used.now) c.loop-skipped.skipped c.loop-skipped.k
+      c.used_run-run.result (c.args.steps - c.loop-skipped.skipped) c.loop-skipped.invariant.0 c.used_run-run.ensures c.loop-skipped.invariant.2,
 )
 
 pub returns-then-skipped-steps : goal.returns-then-skipped-steps

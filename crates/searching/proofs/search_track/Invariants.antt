@@ -1,14 +1,8 @@
 -- All that has passed by is used, and k is under the head now.
 use Prim.Native.Nat.{◌-◌, ◌≤◌}
-use mathlib.Core.Path.{◌≡◌, ◌∙◌, sym}
-use native.Mathlib.Omega.{arith}
-use borrow.Author.Tests.{not-true, not-false}
-use borrow.Author.Rules.{rules}
+use mathlib.Core.Path.{◌≡◌}
 use Rattle.volume.specs.Tables.{bit_at}
 use Rattle.searching.specs.Searching.{turned, AllPassed}
-use Rattle.searching.proofs.TrackLaws.{turned_none, turned_inside, run_turned, run_passed, some_left}
-use mathlib.Core.Path.{ap}
-use mathlib.Core.Bool.{not}
 use Rattle.searching.proofs.search_track.Given as goal
 
 abbrev pub invariant-loop-skipped : goal.invariant-loop-skipped

@@ -1,11 +1,9 @@
 -- No sector is free at the positions that have passed by, and `at` is under the head now.
-use Prim.Native.Nat.{ℕ, ◌+◌, ◌-◌, ◌%◌, ◌≤◌, ◌<◌}
-use mathlib.Core.Path.{◌≡◌, ◌∙◌, refl, subst}
+use Prim.Native.Nat.{ℕ, ◌+◌, ◌-◌}
+use mathlib.Core.Path.{◌∙◌, refl, subst}
 use native.Mathlib.Omega.{arith}
-use lib.ListN.{length}
-use borrow.Author.Rules.{rules}
 use Rattle.volume.specs.Tables.{bit_at}
-use Rattle.searching.specs.Searching.{LowestFree, NoneWithin, Known}
+use Rattle.searching.specs.Searching.{LowestFree}
 use Rattle.searching.proofs.TrackLaws.{run_more, first_position, next_position, none_yet, none_more, one_more, full_passed}
 use Rattle.searching.proofs.search_tracks.Goals as goal
 
@@ -70,7 +68,9 @@ loop-skipped-preserved c =
     let run = c.full_until.result - c.loop-skipped.at in
     let next = next_position c.args.size c.args.position c.loop-skipped.skipped c.loop-skipped.at run c.around-at.result c.loop-skipped.invariant.0 c.loop-skipped.invariant.1 (omega arith) c.around-at.ensures in
     let u = bit_at c.args.used.now in
-    let passed = none_more u c.args.n c.args.size c.args.position c.loop-skipped.skipped c.loop-skipped.at run c.loop-skipped.invariant.0 (omega arith) c.loop-skipped.invariant.4 (full_passed c.loop-skipped.known u c.args.n c.args.size c.loop-skipped.at c.full_until.result c.full_until.ensures.3 c.loop-skipped.invariant.5) in
+    let passed = none_more u c.args.n c.args.size c.args.position c.loop-skipped.skipped c.loop-skipped.at run c.loop-skipped.invariant.0 (omega arith)
+    c.loop-skipped.invariant.4 (full_passed c.loop-skipped.known u c.args.n c.args.size c.loop-skipped.at c.full_until.result c.full_until.ensures.3
+    c.loop-skipped.invariant.5) in
     let inside = next.1 in
     let more = run_more c.args.size (c.loop-skipped.skipped + run) (omega arith) c.if-skipped-size.false in
     let then = next_position c.args.size c.args.position (c.loop-skipped.skipped + run) c.around-at.result 1 c.around-at-in-loop-skipped.result next.0 inside (omega arith) c.around-at-in-loop-skipped.ensures in (
@@ -89,7 +89,9 @@ pub returns-then-skipped-size : goal.returns-then-skipped-size
 returns-then-skipped-size c =
     let run = c.full_until.result - c.loop-skipped.at in
     let u = bit_at c.args.used.now in
-    let passed = none_more u c.args.n c.args.size c.args.position c.loop-skipped.skipped c.loop-skipped.at run c.loop-skipped.invariant.0 (omega arith) c.loop-skipped.invariant.4 (full_passed c.loop-skipped.known u c.args.n c.args.size c.loop-skipped.at c.full_until.result c.full_until.ensures.3 c.loop-skipped.invariant.5) in
+    let passed = none_more u c.args.n c.args.size c.args.position c.loop-skipped.skipped c.loop-skipped.at run c.loop-skipped.invariant.0 (omega arith)
+    c.loop-skipped.invariant.4 (full_passed c.loop-skipped.known u c.args.n c.args.size c.loop-skipped.at c.full_until.result c.full_until.ensures.3
+    c.loop-skipped.invariant.5) in
     (omega arith, passed, λ h. absurd (omega arith), λ h. c.if-skipped-size.true, c.loop-skipped.invariant.5)
 
 pub shape_of-known-then-k-n : goal.shape_of-known-then-k-n
@@ -100,7 +102,9 @@ returns-then-k-n c =
     let run = c.full_until.result - c.loop-skipped.at in
     let next = next_position c.args.size c.args.position c.loop-skipped.skipped c.loop-skipped.at run c.around-at.result c.loop-skipped.invariant.0 c.loop-skipped.invariant.1 (omega arith) c.around-at.ensures in
     let u = bit_at c.args.used.now in
-    let passed = none_more u c.args.n c.args.size c.args.position c.loop-skipped.skipped c.loop-skipped.at run c.loop-skipped.invariant.0 (omega arith) c.loop-skipped.invariant.4 (full_passed c.loop-skipped.known u c.args.n c.args.size c.loop-skipped.at c.full_until.result c.full_until.ensures.3 c.loop-skipped.invariant.5) in (
+    let passed = none_more u c.args.n c.args.size c.args.position c.loop-skipped.skipped c.loop-skipped.at run c.loop-skipped.invariant.0 (omega arith)
+    c.loop-skipped.invariant.4 (full_passed c.loop-skipped.known u c.args.n c.args.size c.loop-skipped.at c.full_until.result c.full_until.ensures.3
+    c.loop-skipped.invariant.5) in (
       omega arith,
       passed,
       λ h. subst (λ (x : ℕ). LowestFree u c.args.size x c.look_at-k.result) next.0 (c.look_at-k.ensures.0 h),

@@ -1,12 +1,9 @@
 -- No sector is free at the positions that have passed by, and `at` is under the head now.
-use Prim.Native.Nat.{ℕ, ◌+◌, ◌-◌, ◌%◌, ◌≤◌, ◌<◌}
-use mathlib.Core.Path.{◌≡◌, ◌∙◌, refl, subst}
-use native.Mathlib.Omega.{arith}
+use Prim.Native.Nat.{◌+◌, ◌-◌, ◌%◌, ◌≤◌, ◌<◌}
+use mathlib.Core.Path.{◌≡◌}
 use lib.ListN.{length}
-use borrow.Author.Rules.{rules}
 use Rattle.volume.specs.Tables.{bit_at}
-use Rattle.searching.specs.Searching.{LowestFree, NoneWithin, Known}
-use Rattle.searching.proofs.TrackLaws.{run_more, first_position, next_position, none_yet, none_more, one_more, full_passed}
+use Rattle.searching.specs.Searching.{NoneWithin, Known}
 use Rattle.searching.proofs.search_tracks.Given as goal
 
 abbrev pub invariant-loop-skipped : goal.invariant-loop-skipped

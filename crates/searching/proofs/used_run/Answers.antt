@@ -1,5 +1,4 @@
 -- A word that starts at k and is full, or what a byte allows.
-use borrow.Author.Rules.{rules}
 use Rattle.searching.proofs.TrackLaws.{run_word}
 use Rattle.searching.proofs.used_run.Goals as goal
 

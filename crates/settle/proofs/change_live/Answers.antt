@@ -1,6 +1,5 @@
 -- The written pieces below p have their new places and numbers.
-use borrow.Author.Rules.{rules}
-use Prim.Native.Nat.{ℕ, suc, ◌+◌, ◌-◌, ◌≤◌}
+use Prim.Native.Nat.{ℕ, suc, ◌+◌}
 use mathlib.Core.Path.{◌≡◌, refl, ◌∙◌, ap}
 use native.Mathlib.Omega.{arith}
 use lib.ListN.{length, length-set}
@@ -9,7 +8,7 @@ use Rattle.pieces.specs.Arrays.{flagged}
 use Rattle.laws.proofs.Bounded.{count_before, at_set}
 use Rattle.pieces.proofs.FlagLaws.{flags_none}
 use Rattle.store.proofs.StoreLaws.{is_flagged, not_flagged, rank_skips, rank_grows}
-use Rattle.settle.proofs.SettleLaws.{live, live_none, live_skip, live_put, live_all}
+use Rattle.settle.proofs.SettleLaws.{live_none, live_skip, live_put, live_all}
 use Rattle.settle.proofs.change_live.Goals as goal
 
 -- The written pieces below p have their new places and numbers.
@@ -74,7 +73,9 @@ pieces-preserved c =
       length-set c.pieces.numbers c.pieces.p (c.pieces.next + 1) ∙ c.pieces.invariant.2,
       omega arith,
       omega arith,
-      live_put (flagged c.args.written.now) v1 (at c.args.places.now) c.pieces.p (at c.pieces.places) _ f c.pieces.invariant.5 (at_set c.pieces.places c.pieces.p (at c.args.taken.now c.pieces.k) c.pieces-test.true ∙ ap (λ (y : ℕ). updated (at c.pieces.places) c.pieces.p (at c.args.taken.now y)) c.pieces.invariant.3),
+      live_put (flagged c.args.written.now) v1 (at c.args.places.now) c.pieces.p (at c.pieces.places) _ f c.pieces.invariant.5
+          (at_set c.pieces.places c.pieces.p (at c.args.taken.now c.pieces.k) c.pieces-test.true ∙ ap
+          (λ (y : ℕ). updated (at c.pieces.places) c.pieces.p (at c.args.taken.now y)) c.pieces.invariant.3),
       live_put (flagged c.args.written.now) v2 (at c.args.numbers.now) c.pieces.p (at c.pieces.numbers) _ f c.pieces.invariant.6
           (at_set c.pieces.numbers c.pieces.p (c.pieces.next + 1) (omega arith) ∙ ap (updated (at c.pieces.numbers) c.pieces.p)
           (let y : c.pieces.next + 1 ≡ suc (c.args.number + count_below (flagged c.args.written.now) c.pieces.p) = omega arith in y)),

@@ -1,15 +1,10 @@
 -- The written pieces below p have their new places and numbers.
-use borrow.Author.Rules.{rules}
-use Prim.Native.Nat.{ℕ, suc, ◌+◌, ◌-◌, ◌≤◌}
-use mathlib.Core.Path.{◌≡◌, refl, ◌∙◌, ap}
-use native.Mathlib.Omega.{arith}
-use lib.ListN.{length, length-set}
-use Rattle.layout.specs.Bounded.{at, count_below, updated}
+use Prim.Native.Nat.{suc, ◌+◌, ◌-◌, ◌≤◌}
+use mathlib.Core.Path.{◌≡◌}
+use lib.ListN.{length}
+use Rattle.layout.specs.Bounded.{at, count_below}
 use Rattle.pieces.specs.Arrays.{flagged}
-use Rattle.laws.proofs.Bounded.{count_before, at_set}
-use Rattle.pieces.proofs.FlagLaws.{flags_none}
-use Rattle.store.proofs.StoreLaws.{is_flagged, not_flagged, rank_skips, rank_grows}
-use Rattle.settle.proofs.SettleLaws.{live, live_none, live_skip, live_put, live_all}
+use Rattle.settle.proofs.SettleLaws.{live}
 use Rattle.settle.proofs.change_live.Given as goal
 
 abbrev pub invariant-pieces : goal.invariant-pieces

@@ -1,11 +1,8 @@
 -- The first i blocks have their new entries.
-use borrow.Author.Rules.{rules}
-use Prim.Native.Nat.{ℕ, ◌-◌, ◌≤◌}
-use mathlib.Core.Path.{◌≡◌, refl, ◌∙◌, ap}
-use native.Mathlib.Omega.{arith}
-use lib.ListN.{length, length-set}
+use Prim.Native.Nat.{◌-◌, ◌≤◌}
+use mathlib.Core.Path.{◌≡◌}
+use lib.ListN.{length}
 use Rattle.layout.specs.Bounded.{at, updates}
-use Rattle.settle.proofs.SettleLaws.{changed_none, changed_more}
 use Rattle.settle.proofs.change_map.Given as goal
 
 abbrev pub invariant-loop-i : goal.invariant-loop-i

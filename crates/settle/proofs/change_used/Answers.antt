@@ -1,7 +1,6 @@
 -- Each step starts from the bits that the one before it left.
 use mathlib.Core.Path.{◌∙◌}
 use Rattle.settle.proofs.UsedLaws.{used_steps, bits_kept}
-use borrow.Author.Rules.{rules}
 use Rattle.settle.proofs.change_used.Goals as goal
 
 pub free_places-requires : goal.free_places-requires

@@ -1,6 +1,5 @@
 -- The sectors of the first i blocks are free.
-use borrow.Author.Rules.{rules}
-use Prim.Native.Nat.{ℕ, ◌*◌, ◌-◌, ◌≤◌, ◌<◌}
+use Prim.Native.Nat.{ℕ, ◌*◌, ◌<◌}
 use mathlib.Core.Path.{◌≡◌, refl, ◌∙◌, ap, sym, subst}
 use mathlib.Core.Bool.{Bool, not}
 use native.Mathlib.Omega.{arith}
@@ -37,8 +36,12 @@ free_entry-requires c =
     (c.requires.by_index_2 (at c.args.blocks.now c.loop-i.i) (c.requires.by_index c.loop-i.i c.loop-i-test.true) e)
 
 pub loop-i-preserved : goal.loop-i-preserved
-loop-i-preserved c =
-    (omega arith, c.free_entry.auto.used ∙ c.loop-i.invariant.1, without_more (bit_at c.args.used.now) (λ i. not (is_empty (at c.args.map.now (at c.args.blocks.now i)))) (λ i. sector_of (at c.args.map.now (at c.args.blocks.now i))) c.loop-i.i (bit_at c.loop-i.used) _ c.loop-i.invariant.2 c.free_entry.ensures)
+loop-i-preserved c = (
+  omega arith,
+  c.free_entry.auto.used ∙ c.loop-i.invariant.1,
+  without_more (bit_at c.args.used.now) (λ i. not (is_empty (at c.args.map.now (at c.args.blocks.now i))))
+      (λ i. sector_of (at c.args.map.now (at c.args.blocks.now i))) c.loop-i.i (bit_at c.loop-i.used) _ c.loop-i.invariant.2 c.free_entry.ensures,
+)
 
 pub returns : goal.returns
 returns c =

@@ -1,15 +1,12 @@
 -- The sectors of the first i blocks are free.
-use borrow.Author.Rules.{rules}
-use Prim.Native.Nat.{ℕ, ◌*◌, ◌-◌, ◌≤◌, ◌<◌}
-use mathlib.Core.Path.{◌≡◌, refl, ◌∙◌, ap, sym, subst}
-use mathlib.Core.Bool.{Bool, not}
-use native.Mathlib.Omega.{arith}
+use Prim.Native.Nat.{◌-◌, ◌≤◌}
+use mathlib.Core.Path.{◌≡◌}
+use mathlib.Core.Bool.{not}
 use lib.ListN.{length}
 use Rattle.layout.specs.Bounded.{at}
 use Rattle.layout.specs.Entry.{is_empty, sector_of}
 use Rattle.volume.specs.Tables.{bit_at}
 use Rattle.pieces.specs.Arrays.{without}
-use Rattle.settle.proofs.SettleLaws.{without_none, without_more}
 use Rattle.settle.proofs.free_blocks.Given as goal
 
 abbrev pub invariant-loop-i : goal.invariant-loop-i

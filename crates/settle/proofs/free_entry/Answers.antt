@@ -1,10 +1,9 @@
 -- One bit is cleared, or none.
-use Prim.Native.Nat.{ℕ, ◌*◌, ◌-◌, ◌<◌}
+use Prim.Native.Nat.{ℕ, ◌*◌, ◌<◌}
 use mathlib.Core.Path.{sym, subst}
 use lib.ListN.{length}
 use borrow.Author.Tests.{ne_eqb}
 use Rattle.settle.proofs.SettleLaws.{freed_none, freed_one}
-use borrow.Author.Rules.{rules}
 use Rattle.settle.proofs.free_entry.Goals as goal
 
 pub returns-then-entry-eq0 : goal.returns-then-entry-eq0

@@ -1,15 +1,10 @@
 -- The places of the written pieces below q are free.
-use borrow.Author.Rules.{rules}
-use Prim.Native.Nat.{ℕ, ◌-◌, ◌≤◌}
-use mathlib.Core.Path.{◌≡◌, refl, ◌∙◌, ap}
-use mathlib.Core.Bool.{Bool}
-use native.Mathlib.Omega.{arith}
+use Prim.Native.Nat.{◌-◌, ◌≤◌}
+use mathlib.Core.Path.{◌≡◌}
 use lib.ListN.{length}
 use Rattle.layout.specs.Bounded.{at}
 use Rattle.volume.specs.Tables.{bit_at}
 use Rattle.pieces.specs.Arrays.{flagged, without}
-use Rattle.store.proofs.StoreLaws.{is_flagged, not_flagged}
-use Rattle.settle.proofs.SettleLaws.{without_none, without_hit, without_miss}
 use Rattle.settle.proofs.free_places.Given as goal
 
 abbrev pub invariant-pieces : goal.invariant-pieces

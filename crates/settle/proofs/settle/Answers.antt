@@ -1,6 +1,5 @@
 -- Freed, marked and changed, the tables are those of the definition.
 use Rattle.settle.proofs.UsedLaws.{used_needs, map_needs, live_needs, settled}
-use borrow.Author.Rules.{rules}
 use Rattle.settle.proofs.settle.Goals as goal
 
 pub change_used-requires : goal.change_used-requires

@@ -1,12 +1,9 @@
 -- The first i sectors are marked.
-use borrow.Author.Rules.{rules}
-use Prim.Native.Nat.{ℕ, ◌-◌, ◌≤◌}
-use mathlib.Core.Path.{◌≡◌, refl, ◌∙◌, ap}
-use mathlib.Core.Bool.{Bool}
-use native.Mathlib.Omega.{arith}
+use Prim.Native.Nat.{◌-◌, ◌≤◌}
+use mathlib.Core.Path.{◌≡◌}
 use lib.ListN.{length}
 use Rattle.volume.specs.Tables.{bit_at}
-use Rattle.settle.proofs.SettleLaws.{marking, marking_none, marking_more}
+use Rattle.settle.proofs.SettleLaws.{marking}
 use Rattle.settle.proofs.use_places.Given as goal
 
 abbrev pub invariant-loop-i : goal.invariant-loop-i

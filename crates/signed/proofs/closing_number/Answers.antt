@@ -2,7 +2,6 @@
 use mathlib.Core.Path.{sym, ◌∙◌}
 use lib.Dec.{eqb}
 use borrow.Author.Tests.{not-true, not-false}
-use borrow.Author.Rules.{rules}
 use Rattle.layout.specs.Bounded.{at}
 use Rattle.layout.specs.Word.{words_of}
 use Rattle.laws.proofs.Bounded.{cond_true, cond_false}

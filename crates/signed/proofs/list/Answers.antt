@@ -1,7 +1,6 @@
 -- Three stores.
 use mathlib.Core.Path.{refl, ap}
 use lib.ListN.{set}
-use borrow.Author.Rules.{rules}
 use Rattle.signed.proofs.list.Goals as goal
 
 pub returns : goal.returns

@@ -1,16 +1,10 @@
 -- Those from index i on are marked.
-use Prim.Native.Nat.{ℕ, ◌-◌, ◌≤◌}
-use mathlib.Core.Path.{◌≡◌, refl, sym, ◌∙◌, ap}
-use mathlib.Core.Bool.{true}
-use native.Mathlib.Omega.{arith}
+use Prim.Native.Nat.{◌≤◌}
+use mathlib.Core.Path.{◌≡◌}
 use lib.ListN.{length}
-use lib.Dec.{ltb}
-use borrow.Author.Tests.{lt-ltb, le-ltb}
-use Rattle.layout.specs.Bounded.{at, updated}
 use Rattle.volume.specs.Tables.{bit_at}
 use Rattle.signed.specs.Signed.{marked_above}
-use Rattle.signed.proofs.Listing.{Stepped, stepped_none, stepped_more, stepped_whole}
-use Rattle.signed.proofs.SignedLaws.{marked_not, marked_so}
+use Rattle.signed.proofs.Listing.{Stepped}
 use Rattle.signed.proofs.mark_above.Given as goal
 
 abbrev pub invariant-listed : goal.invariant-listed

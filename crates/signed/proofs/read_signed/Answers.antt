@@ -1,20 +1,17 @@
 -- The sectors below k are listed, and the newest closing one of them is known.
-use Prim.Native.Nat.{ℕ, ◌-◌, ◌≤◌}
+use Prim.Native.Nat.{ℕ}
 use mathlib.Core.Path.{◌≡◌, refl, sym, ◌∙◌, ap}
-use mathlib.Core.Logic.{⊎_elim}
 use mathlib.Core.Bool.{false}
 use mathlib.Core.Option.{none}
 use native.Mathlib.Omega.{arith}
-use borrow.Author.Rules.{rules}
 use borrow.Author.Tests.{not-true, not-false}
 use lib.ListN.{length}
-use Rattle.layout.specs.MapSector.{View}
 use Rattle.volume.specs.Tables.{sector_at}
 use Rattle.volume.specs.Recover.{image_view, closing_number}
 use Rattle.laws.proofs.Sectors.{sector_length}
 use Rattle.map_sector.proofs.Maps.{valid_unmarked}
-use Rattle.signed.proofs.Listing.{Listing, listing_none, listing_skips, listing_room, listing_lists, listing_ends}
-use Rattle.signed.proofs.Newest.{Newest, newest_none, newest_more, newest_same}
+use Rattle.signed.proofs.Listing.{listing_none, listing_skips, listing_room, listing_lists, listing_ends}
+use Rattle.signed.proofs.Newest.{newest_none, newest_more, newest_same}
 use Rattle.signed.proofs.ViewLaws.{valid_view, invalid_view, valid_piece, valid_number, no_closing, is_newest, is_closed}
 use Rattle.signed.proofs.read_signed.Goals.{then-highest-number, else-highest-number}
 use mathlib.Core.Bool.{not}
@@ -83,7 +80,12 @@ sectors-preserved c =
       omega arith,
       listing_lists view _ c.sectors.sectors c.sectors.numbers c.sectors.pieces c.sectors.from c.sectors.k c.sectors.invariant.1 _ seen
           (valid_number c.args.g (sector_at c.args.image.now) _ (sym c.marked_valid.ensures ∙ sure)) (omega arith) _ _ _ c.list.ensures.0 c.list.ensures.1 c.list.ensures.2,
-      elim c.if-highest-number.branch [ then-highest-number w ↦ newest_more key c.sectors.k c.sectors.tail c.sectors.highest c.closing_number-number.result _ _ c.sectors.invariant.2 own w.if-highest-number.true w.tail-is w.highest-is | else-highest-number w ↦ newest_same key c.sectors.k c.sectors.tail c.sectors.highest c.closing_number-number.result _ _ c.sectors.invariant.2 own w.if-highest-number.false w.tail-is w.highest-is ],
+      elim c.if-highest-number.branch [
+        | then-highest-number w ↦
+            newest_more key c.sectors.k c.sectors.tail c.sectors.highest c.closing_number-number.result _ _ c.sectors.invariant.2 own w.if-highest-number.true w.tail-is w.highest-is
+        | else-highest-number w ↦
+            newest_same key c.sectors.k c.sectors.tail c.sectors.highest c.closing_number-number.result _ _ c.sectors.invariant.2 own w.if-highest-number.false w.tail-is w.highest-is
+      ],
     )
 
 pub shape_of-sectors : goal.shape_of-sectors

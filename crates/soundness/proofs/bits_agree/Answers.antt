@@ -1,12 +1,5 @@
 -- So far all bytes were the same.
-use Prim.Native.Nat.{◌*◌, ◌-◌, ◌≤◌}
-use mathlib.Core.Path.{◌≡◌}
-use mathlib.Core.Bool.{beq}
 use native.Mathlib.Omega.{arith}
-use lib.ListN.{length}
-use borrow.Author.Rules.{rules}
-use Rattle.layout.specs.Bounded.{all_below}
-use Rattle.volume.specs.Tables.{bit_at}
 use Rattle.soundness.proofs.SameBits.{same_none, same_more, same_all}
 use Rattle.soundness.proofs.bits_agree.Goals as goal
 

@@ -2,12 +2,9 @@
 use Prim.Native.Nat.{◌*◌, ◌-◌, ◌≤◌}
 use mathlib.Core.Path.{◌≡◌}
 use mathlib.Core.Bool.{beq}
-use native.Mathlib.Omega.{arith}
 use lib.ListN.{length}
-use borrow.Author.Rules.{rules}
 use Rattle.layout.specs.Bounded.{all_below}
 use Rattle.volume.specs.Tables.{bit_at}
-use Rattle.soundness.proofs.SameBits.{same_none, same_more, same_all}
 use Rattle.soundness.proofs.bits_agree.Given as goal
 
 abbrev pub invariant-loop-i : goal.invariant-loop-i

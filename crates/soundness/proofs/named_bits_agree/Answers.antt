@@ -1,6 +1,5 @@
 -- A map that is long enough is taken.
 use native.Mathlib.Omega.{arith}
-use borrow.Author.Rules.{rules}
 use Rattle.soundness.proofs.named_bits_agree.Goals as goal
 
 pub few_bits_agree-requires : goal.few_bits_agree-requires

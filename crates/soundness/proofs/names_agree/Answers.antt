@@ -1,6 +1,5 @@
 -- Each return, by a law of Sounding.
 use native.Mathlib.Omega.{arith}
-use borrow.Author.Rules.{rules}
 use mathlib.Core.Path.{refl}
 use lib.ListN.{length}
 use Rattle.layout.specs.Bounded.{at}

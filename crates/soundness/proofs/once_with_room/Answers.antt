@@ -1,7 +1,5 @@
 -- Named twice, or the room decides.
-use native.Mathlib.Omega.{arith}
 use Rattle.soundness.proofs.Sounding.{twice, once_then}
-use borrow.Author.Rules.{rules}
 use Rattle.soundness.proofs.once_with_room.Goals as goal
 
 pub returns-then-free-count : goal.returns-then-free-count

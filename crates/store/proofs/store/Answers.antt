@@ -1,9 +1,7 @@
 -- The data and the members are the two parts of the list.
-use mathlib.Core.Path.{sym, ◌∙◌}
 use native.Mathlib.Omega.{arith}
 use Rattle.volume.specs.Tables.{sector_at}
 use Rattle.store.proofs.StoreLaws.{data_fails, members_run}
-use borrow.Author.Rules.{rules}
 use Rattle.store.proofs.store.Goals as goal
 
 pub store_data-stored-requires : goal.store_data-stored-requires

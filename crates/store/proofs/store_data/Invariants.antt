@@ -1,16 +1,10 @@
 -- The loop has made the stores below i, and so many are left.
-use borrow.Author.Rules.{rules}
-use Prim.Native.Nat.{ℕ, ◌-◌, ◌≤◌}
-use mathlib.Core.Path.{◌≡◌, refl, ◌∙◌, ap, subst}
-use mathlib.Core.List.{List}
-use native.Mathlib.Numerals.{add-one}
-use native.Mathlib.Omega.{arith}
+use Prim.Native.Nat.{◌-◌, ◌≤◌}
+use mathlib.Core.Path.{◌≡◌}
 use lib.ListN.{length}
-use Rattle.layout.specs.Bounded.{at, always, updated}
-use Rattle.layout.specs.Entry.{stored}
+use Rattle.layout.specs.Bounded.{always}
 use Rattle.volume.specs.Tables.{sector_at}
-use Rattle.laws.proofs.Sectors.{sector_length}
-use Rattle.power.proofs.Storing.{Storing, storing_starts, storing_stores, storing_fails, storing_ends, positive}
+use Rattle.power.proofs.Storing.{Storing}
 use Rattle.pieces.specs.Arrays.{block_store}
 use Rattle.store.proofs.store_data.Given as goal
 

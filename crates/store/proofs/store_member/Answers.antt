@@ -6,7 +6,6 @@ use lib.ListN.{length}
 use Rattle.layout.specs.Bounded.{at, updated, updates}
 use Rattle.volume.specs.Tables.{sector_at, piece_entries}
 use Rattle.store.proofs.StoreLaws.{first_member, later_member}
-use borrow.Author.Rules.{rules}
 use Rattle.store.proofs.store_member.Goals as goal
 
 pub overflow_cast-k : goal.overflow_cast-k

@@ -1,18 +1,14 @@
 -- The loop has made the members of the pieces below p; the next one's rank is j, and its blocks stand from `from` on.
-use borrow.Author.Rules.{rules}
-use Prim.Native.Nat.{ℕ, ◌-◌, ◌≤◌}
+use Prim.Native.Nat.{ℕ}
 use mathlib.Core.Path.{◌≡◌, refl, ◌∙◌, subst}
 use native.Mathlib.Numerals.{add-one}
 use native.Mathlib.Omega.{arith}
-use lib.ListN.{length}
-use Rattle.layout.specs.Bounded.{count_below}
 use Rattle.volume.specs.Tables.{sector_at}
 use Rattle.laws.proofs.Bounded.{count_before}
 use Rattle.power.proofs.Storing.{Storing, storing_starts, storing_skips, storing_stores, storing_fails, storing_ends, positive}
 use Rattle.geometry.specs.Geometry.{pieces_for}
 use Rattle.pieces.specs.Arrays.{flagged}
 use Rattle.pieces.proofs.FlagLaws.{flags_none}
-use Rattle.piece_entries.specs.Cursor.{Cursor}
 use Rattle.store.proofs.StoreLaws.{stores, member_stored, rank_skips, rank_grows, cursor_starts, cursor_skips, is_flagged, not_flagged}
 use Rattle.store.proofs.store_members.Goals as goal
 
@@ -74,6 +70,8 @@ pieces-preserved c = (
 pub returns : goal.returns
 returns c =
     let e : c.pieces.p ≡ pieces_for c.args.s.geometry.l = (omega arith) in
-    storing_ends (flagged c.args.written.now) (stores c.args.s c.args.map.now c.args.blocks.now c.args.news.now c.args.taken.now c.args.branches.now c.args.written.now c.args.count c.args.members) (sector_at c.args.image.now) c.args.allowance (pieces_for c.args.s.geometry.l) c.pieces.left (sector_at c.pieces.image)
+    storing_ends (flagged c.args.written.now) (stores c.args.s c.args.map.now c.args.blocks.now c.args.news.now c.args.taken.now c.args.branches.now c.args.written.now
+    c.args.count c.args.members) (sector_at c.args.image.now) c.args.allowance (pieces_for c.args.s.geometry.l) c.pieces.left (sector_at c.pieces.image)
     (subst
-    (λ (x : ℕ). Storing (flagged c.args.written.now) (stores c.args.s c.args.map.now c.args.blocks.now c.args.news.now c.args.taken.now c.args.branches.now c.args.written.now c.args.count c.args.members) (sector_at c.args.image.now) c.args.allowance x c.pieces.left (sector_at c.pieces.image)) e c.pieces.invariant.4)
+    (λ (x : ℕ). Storing (flagged c.args.written.now) (stores c.args.s c.args.map.now c.args.blocks.now c.args.news.now c.args.taken.now c.args.branches.now
+    c.args.written.now c.args.count c.args.members) (sector_at c.args.image.now) c.args.allowance x c.pieces.left (sector_at c.pieces.image)) e c.pieces.invariant.4)

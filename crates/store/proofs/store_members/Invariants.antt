@@ -1,19 +1,13 @@
 -- The loop has made the members of the pieces below p; the next one's rank is j, and its blocks stand from `from` on.
-use borrow.Author.Rules.{rules}
-use Prim.Native.Nat.{ℕ, ◌-◌, ◌≤◌}
-use mathlib.Core.Path.{◌≡◌, refl, ◌∙◌, subst}
-use native.Mathlib.Numerals.{add-one}
-use native.Mathlib.Omega.{arith}
+use Prim.Native.Nat.{◌-◌, ◌≤◌}
+use mathlib.Core.Path.{◌≡◌}
 use lib.ListN.{length}
 use Rattle.layout.specs.Bounded.{count_below}
 use Rattle.volume.specs.Tables.{sector_at}
-use Rattle.laws.proofs.Bounded.{count_before}
-use Rattle.power.proofs.Storing.{Storing, storing_starts, storing_skips, storing_stores, storing_fails, storing_ends, positive}
-use Rattle.geometry.specs.Geometry.{pieces_for}
+use Rattle.power.proofs.Storing.{Storing}
 use Rattle.pieces.specs.Arrays.{flagged}
-use Rattle.pieces.proofs.FlagLaws.{flags_none}
 use Rattle.piece_entries.specs.Cursor.{Cursor}
-use Rattle.store.proofs.StoreLaws.{stores, member_stored, rank_skips, rank_grows, cursor_starts, cursor_skips, is_flagged, not_flagged}
+use Rattle.store.proofs.StoreLaws.{stores}
 use Rattle.store.proofs.store_members.Given as goal
 
 abbrev pub invariant-pieces : goal.invariant-pieces

@@ -1,5 +1,5 @@
 -- The word stored is the balance of the sum found.
-use Rattle.std.proofs.Common.{ℕ, ap, ◌∙◌, rules}
+use Rattle.std.proofs.Common.{ℕ, ap, ◌∙◌}
 use lib.Seq.{sets}
 use Rattle.layout.specs.Word.{word_bytes, balance}
 use Rattle.sums.proofs.put_balance.Goals as goal

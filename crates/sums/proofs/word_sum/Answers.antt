@@ -1,5 +1,5 @@
 -- The sum so far is that of the words passed.
-use Rattle.std.proofs.Common.{◌≡◌, ◌-◌, ◌≤◌, take, refl, ap, ◌∙◌, arith, take_all, rules}
+use Rattle.std.proofs.Common.{refl, ap, ◌∙◌, arith, take_all}
 use Rattle.layout.specs.Word.{words_of, word_sum}
 use Rattle.laws.proofs.Words.{length_words_of}
 use Rattle.laws.proofs.Sums.{sum_next}

@@ -1,8 +1,6 @@
 -- The sum so far is that of the words passed.
-use Rattle.std.proofs.Common.{◌≡◌, ◌-◌, ◌≤◌, take, refl, ap, ◌∙◌, arith, take_all, rules}
+use Rattle.std.proofs.Common.{◌≡◌, ◌-◌, ◌≤◌, take}
 use Rattle.layout.specs.Word.{words_of, word_sum}
-use Rattle.laws.proofs.Words.{length_words_of}
-use Rattle.laws.proofs.Sums.{sum_next}
 use Rattle.sums.proofs.word_sum.Given as goal
 
 abbrev pub invariant-loop-k : goal.invariant-loop-k

@@ -1,7 +1,6 @@
 -- The header decides, or the sum does.
 use borrow.Author.Tests.{not-true, not-false}
 use Rattle.targets.proofs.TargetLaws.{header_decides, sum_decides}
-use borrow.Author.Rules.{rules}
 use mathlib.Core.Path.{ap}
 use mathlib.Core.Bool.{not}
 use Rattle.targets.proofs.does_wait.Goals as goal

@@ -1,6 +1,5 @@
 -- The first three tests return, and the last is the result.
 use Rattle.targets.proofs.TargetLaws.{piece_left, late_left, done_left, newer_waits}
-use borrow.Author.Rules.{rules}
 use Rattle.targets.proofs.may_wait.Goals as goal
 
 pub returns-then-taken-p : goal.returns-then-taken-p

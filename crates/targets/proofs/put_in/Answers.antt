@@ -1,7 +1,6 @@
 -- Its number and its piece are what the bytes say.
 use native.Mathlib.Omega.{arith}
 use Rattle.targets.proofs.TargetLaws.{put_done}
-use borrow.Author.Rules.{rules}
 use Rattle.targets.proofs.put_in.Goals as goal
 
 pub change-requires : goal.change-requires

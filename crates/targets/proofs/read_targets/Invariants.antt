@@ -1,15 +1,12 @@
 -- What is read from i on, from where the loop is, is what is read from the start.
-use borrow.Author.Rules.{rules}
 use Prim.Native.Nat.{◌-◌, ◌≤◌}
-use mathlib.Core.Path.{◌≡◌, refl, ◌∙◌}
-use native.Mathlib.Omega.{arith}
+use mathlib.Core.Path.{◌≡◌}
 use lib.ListN.{length}
 use Rattle.volume.specs.Tables.{sector_at}
 use Rattle.geometry.specs.Geometry.{pieces_for}
 use Rattle.volume.specs.Recover.{image_view}
-use Rattle.signed.proofs.ViewLaws.{inside}
 use Rattle.targets.specs.Waiting.{walk_of, Waits}
-use Rattle.targets.proofs.TargetLaws.{sector_size, Held, holds, Reading, reading_starts, reading_more, reading_ends}
+use Rattle.targets.proofs.TargetLaws.{Held, Reading}
 use Rattle.targets.proofs.read_targets.Given as goal
 
 abbrev pub invariant-loop-i : goal.invariant-loop-i

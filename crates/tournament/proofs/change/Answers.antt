@@ -2,7 +2,6 @@
 use mathlib.Core.Path.{◌∙◌}
 use Rattle.tournament.specs.Tournament.{ranked}
 use Rattle.tournament.proofs.TournamentLaws.{others_played, changed_replay}
-use borrow.Author.Rules.{rules}
 use Rattle.tournament.proofs.change.Goals as goal
 
 pub replay-requires : goal.replay-requires

@@ -1,7 +1,6 @@
 -- The first place names the entry.
 use native.Mathlib.Omega.{arith}
 use Rattle.tournament.proofs.TournamentLaws.{first_rank, first_best}
-use borrow.Author.Rules.{rules}
 use Rattle.tournament.proofs.first.Goals as goal
 
 pub overflow_sub-result-2 : goal.overflow_sub-result-2

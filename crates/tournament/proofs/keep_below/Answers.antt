@@ -1,8 +1,7 @@
 -- What is struck out counts as 0 below the bound already; the first entry falls with each turn.
 use mathlib.Core.Path.{refl, sym, ◌∙◌}
 use native.Mathlib.Omega.{arith}
-use Rattle.layout.specs.Bounded.{at}
-use Rattle.tournament.proofs.TournamentLaws.{Striking, striking_on, striking_less, striking_done}
+use Rattle.tournament.proofs.TournamentLaws.{striking_on, striking_less, striking_done}
 use Rattle.tournament.proofs.keep_below.Goals as goal
 
 pub loop-tree-init : goal.loop-tree-init

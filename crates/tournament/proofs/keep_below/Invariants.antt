@@ -1,8 +1,6 @@
 -- What is struck out counts as 0 below the bound already; the first entry falls with each turn.
-use mathlib.Core.Path.{refl, sym, ◌∙◌}
-use native.Mathlib.Omega.{arith}
 use Rattle.layout.specs.Bounded.{at}
-use Rattle.tournament.proofs.TournamentLaws.{Striking, striking_on, striking_less, striking_done}
+use Rattle.tournament.proofs.TournamentLaws.{Striking}
 use Rattle.tournament.proofs.keep_below.Given as goal
 
 abbrev pub invariant-loop-tree : goal.invariant-loop-tree

@@ -1,7 +1,6 @@
 -- The rank is in the lowest byte.
 use mathlib.Core.Path.{refl}
 use Rattle.tournament.specs.Tournament.{key_at}
-use borrow.Author.Rules.{rules}
 use Rattle.tournament.proofs.key_of.Goals as goal
 
 pub returns : goal.returns

@@ -1,7 +1,6 @@
 -- The winner is put at its place.
 use mathlib.Core.Path.{ap}
 use lib.ListN.{set}
-use borrow.Author.Rules.{rules}
 use Rattle.tournament.proofs.play.Goals as goal
 
 pub returns : goal.returns

@@ -1,7 +1,7 @@
 -- The matches from place k on are played.
 use mathlib.Core.Path.{refl, sym, ◌∙◌}
 use native.Mathlib.Omega.{arith}
-use Rattle.tournament.proofs.TournamentLaws.{Descended, descended_on, descended_down}
+use Rattle.tournament.proofs.TournamentLaws.{descended_on, descended_down}
 use Rattle.tournament.proofs.play_all.Goals as goal
 
 pub loop-k-init : goal.loop-k-init

@@ -1,7 +1,5 @@
 -- The matches from place k on are played.
-use mathlib.Core.Path.{refl, sym, ◌∙◌}
-use native.Mathlib.Omega.{arith}
-use Rattle.tournament.proofs.TournamentLaws.{Descended, descended_on, descended_down}
+use Rattle.tournament.proofs.TournamentLaws.{Descended}
 use Rattle.tournament.proofs.play_all.Given as goal
 
 abbrev pub invariant-loop-k : goal.invariant-loop-k

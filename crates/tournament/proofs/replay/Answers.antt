@@ -1,8 +1,7 @@
 -- Every match is played but the one of place i, and its entry is at hand.
 use mathlib.Core.Path.{refl, sym, ◌∙◌}
 use native.Mathlib.Omega.{arith}
-use borrow.Author.Rules.{rules}
-use Rattle.tournament.proofs.TournamentLaws.{Climbed, climbed_on, climbed_up, other_below}
+use Rattle.tournament.proofs.TournamentLaws.{climbed_on, climbed_up, other_below}
 use Rattle.tournament.proofs.replay.Goals as goal
 
 pub loop-i-init : goal.loop-i-init

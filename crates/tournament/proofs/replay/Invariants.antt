@@ -1,8 +1,5 @@
 -- Every match is played but the one of place i, and its entry is at hand.
-use mathlib.Core.Path.{refl, sym, ◌∙◌}
-use native.Mathlib.Omega.{arith}
-use borrow.Author.Rules.{rules}
-use Rattle.tournament.proofs.TournamentLaws.{Climbed, climbed_on, climbed_up, other_below}
+use Rattle.tournament.proofs.TournamentLaws.{Climbed}
 use Rattle.tournament.proofs.replay.Given as goal
 
 abbrev pub invariant-loop-i : goal.invariant-loop-i

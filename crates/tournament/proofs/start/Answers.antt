@@ -1,8 +1,7 @@
 -- The first q entries have the key 0.
-use Prim.Native.Nat.{◌-◌, ◌≤◌}
 use mathlib.Core.Path.{refl, sym, ◌∙◌}
 use native.Mathlib.Omega.{arith}
-use Rattle.tournament.proofs.TournamentLaws.{Entered, entered_on, entered_all}
+use Rattle.tournament.proofs.TournamentLaws.{entered_on, entered_all}
 use Rattle.tournament.proofs.start.Goals as goal
 
 pub loop-q-init : goal.loop-q-init

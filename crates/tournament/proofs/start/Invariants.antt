@@ -1,8 +1,6 @@
 -- The first q entries have the key 0.
 use Prim.Native.Nat.{◌-◌, ◌≤◌}
-use mathlib.Core.Path.{refl, sym, ◌∙◌}
-use native.Mathlib.Omega.{arith}
-use Rattle.tournament.proofs.TournamentLaws.{Entered, entered_on, entered_all}
+use Rattle.tournament.proofs.TournamentLaws.{Entered}
 use Rattle.tournament.proofs.start.Given as goal
 
 abbrev pub invariant-loop-q : goal.invariant-loop-q

@@ -1,6 +1,5 @@
 -- The entry that is changed is the first one.
 use Rattle.tournament.proofs.TournamentLaws.{struck_replay}
-use borrow.Author.Rules.{rules}
 use Rattle.tournament.proofs.strike_first.Goals as goal
 
 pub returns : goal.returns

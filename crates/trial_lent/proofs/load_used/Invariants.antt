@@ -1,7 +1,6 @@
 use Prim.Native.Nat.{◌-◌}
 use lib.ListN.{length}
 use mathlib.Core.Path.{◌≡◌}
-use borrow.Author.Rules.{rules}
 use Rattle.trial_lent.proofs.load_used.Given as goal
 
 abbrev pub invariant-loop-j : goal.invariant-loop-j

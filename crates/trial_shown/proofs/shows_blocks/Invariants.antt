@@ -1,5 +1,4 @@
 use Prim.Native.Nat.{◌-◌}
-use borrow.Author.Rules.{rules}
 use Rattle.trial_shown.proofs.shows_blocks.Given as goal
 
 abbrev pub invariant-loop-block : goal.invariant-loop-block

@@ -1,7 +1,6 @@
 use mathlib.Core.Path.{sym}
 use native.Mathlib.Omega.{arith}
 use lib.Seq.{length-take-le}
-use borrow.Author.Rules.{rules}
 use Rattle.trial_shown.proofs.shows_lent.Goals as goal
 
 pub slice_bounds-shows_blocks-end : goal.slice_bounds-shows_blocks-end

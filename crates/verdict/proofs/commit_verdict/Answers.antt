@@ -1,7 +1,6 @@
 -- The lengths decide, or the block numbers, or how the volume stands.
 use native.Mathlib.Omega.{arith}
 use Rattle.verdict.proofs.CommitChecks.{lengths_refused, state_passed, lengths_passed, blocks_refused, few_blocks, standing_decides}
-use borrow.Author.Rules.{rules}
 use mathlib.Core.Path.{ap}
 use mathlib.Core.Bool.{not}
 use Rattle.verdict.proofs.commit_verdict.Goals as goal

@@ -1,7 +1,5 @@
 -- Each refusal is the first that applies, by the laws of CommitChecks.
-use native.Mathlib.Omega.{arith}
 use Rattle.verdict.proofs.CommitChecks.{tables_refused, room_refused, numbers_refused, none_refused, bits_enough}
-use borrow.Author.Rules.{rules}
 use mathlib.Core.Path.{ap}
 use mathlib.Core.Bool.{not}
 use Rattle.verdict.proofs.running_verdict.Goals as goal

@@ -2,7 +2,6 @@
 use mathlib.Core.Path.{ap}
 use Rattle.state.specs.State.{is_running}
 use Rattle.verdict.proofs.CommitChecks.{phase_refused}
-use borrow.Author.Rules.{rules}
 use Rattle.verdict.proofs.standing_verdict.Goals as goal
 
 pub running_verdict-requires : goal.running_verdict-requires

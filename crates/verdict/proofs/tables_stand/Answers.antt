@@ -1,6 +1,5 @@
 -- They are known to agree, or they are looked at.
 use mathlib.Core.Path.{sym}
-use borrow.Author.Rules.{rules}
 use Rattle.verdict.proofs.tables_stand.Goals as goal
 
 pub returns-then-known : goal.returns-then-known

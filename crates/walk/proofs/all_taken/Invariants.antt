@@ -1,12 +1,9 @@
 -- The pieces below i are done; one that is not decides.
 use Prim.Native.Nat.{◌-◌, ◌≤◌}
-use mathlib.Core.Path.{◌≡◌, sym, ◌∙◌, ap}
+use mathlib.Core.Path.{◌≡◌}
 use mathlib.Core.Bool.{true, not}
-use native.Mathlib.Omega.{arith}
 use lib.ListN.{length}
-use borrow.Author.Tests.{eq-eqb, ne_eqb}
 use Rattle.layout.specs.Bounded.{at, is_zero, all_below}
-use Rattle.numbers.proofs.Numbering.{all_below_none, all_below_more, all_below_not}
 use Rattle.walk.proofs.all_taken.Given as goal
 
 abbrev pub invariant-loop-i : goal.invariant-loop-i

@@ -1,15 +1,10 @@
 -- The branches below i are counted, 24 a sector at most.
-use Prim.Native.Nat.{ℕ, ◌*◌, ◌-◌, ◌≤◌}
-use mathlib.Core.Path.{◌≡◌, ◌∙◌, ap}
-use mathlib.Core.List.{List}
-use native.Mathlib.Omega.{arith}
+use Prim.Native.Nat.{◌*◌, ◌-◌, ◌≤◌}
+use mathlib.Core.Path.{◌≡◌}
 use lib.ListN.{length}
 use Rattle.layout.specs.Bounded.{at}
-use Rattle.layout.specs.Word.{words_of}
 use Rattle.volume.specs.Tables.{sector_at}
-use Rattle.laws.proofs.Sectors.{sector_length}
 use Rattle.walk.specs.Walking.{branch_word_count}
-use Rattle.walk.proofs.WalkedLaws.{count_none, count_more}
 use Rattle.walk.proofs.count_branches.Given as goal
 
 abbrev pub invariant-loop-i : goal.invariant-loop-i

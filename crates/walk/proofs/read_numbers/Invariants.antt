@@ -1,14 +1,10 @@
 -- The numbers below i are filled in.
-use Prim.Native.Nat.{ℕ, ◌+◌, ◌-◌}
-use mathlib.Core.Path.{sym, ◌∙◌, ap, subst}
-use mathlib.Core.List.{List}
-use native.Mathlib.Omega.{arith}
-use lib.ListN.{length, set}
+use Prim.Native.Nat.{◌-◌}
+use lib.ListN.{length}
 use Rattle.layout.specs.Bounded.{at}
 use Rattle.volume.specs.Tables.{sector_at}
 use Rattle.layout.specs.Word.{words_of}
-use Rattle.laws.proofs.Filling.{Filled, filled_none, filled_length, filled_more, filled_all}
-use Rattle.laws.proofs.Sectors.{sector_length}
+use Rattle.laws.proofs.Filling.{Filled}
 use Rattle.walk.proofs.read_numbers.Given as goal
 
 abbrev pub invariant-loop-i : goal.invariant-loop-i

@@ -1,8 +1,6 @@
 -- Both are filled from the places.
-use Prim.Native.Nat.{◌-◌}
 use mathlib.Core.Path.{refl}
 use Rattle.scan.proofs.ScanLaws.{is_map}
-use borrow.Author.Rules.{rules}
 use Rattle.walk.proofs.walk_fill.Goals as goal
 
 pub returns : goal.returns

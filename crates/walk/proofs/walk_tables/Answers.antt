@@ -1,12 +1,11 @@
 -- Each return, by a law of WalkedLaws.
-use Prim.Native.Nat.{ℕ, ◌-◌, ◌<◌}
+use Prim.Native.Nat.{ℕ, ◌<◌}
 use mathlib.Core.Path.{◌∙◌, ap}
 use native.Mathlib.Omega.{arith}
 use lib.ListN.{replicate}
 use Rattle.volume.specs.Tables.{sector_at}
 use Rattle.soundness.proofs.Sounding.{sectors_some}
 use Rattle.walk.proofs.WalkedLaws.{places_long, place_below, walk_fails, walk_decides}
-use borrow.Author.Rules.{rules}
 use mathlib.Core.Bool.{not}
 use Rattle.walk.proofs.walk_tables.Goals as goal
 

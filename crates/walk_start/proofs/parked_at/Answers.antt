@@ -1,5 +1,4 @@
 -- No record, no start there, or a start.
-use Prim.Native.Nat.{◌-◌}
 use mathlib.Core.Path.{◌∙◌, ap}
 use native.Mathlib.Omega.{arith}
 use lib.ListN.{length}
@@ -8,7 +7,6 @@ use Rattle.volume.specs.Tables.{sector_at}
 use Rattle.laws.proofs.Sectors.{sector_length}
 use Rattle.volume.specs.Recover.{image_view}
 use Rattle.walk_start.proofs.StartLaws.{no_record, no_start, start_here}
-use borrow.Author.Rules.{rules}
 use mathlib.Core.Bool.{not}
 use Rattle.walk_start.proofs.parked_at.Goals as goal
 

@@ -1,5 +1,4 @@
 -- Test by test.
-use Prim.Native.Nat.{◌-◌}
 use mathlib.Core.Path.{refl, sym, ◌∙◌, ap}
 use mathlib.Core.Bool.{true, false}
 use native.Mathlib.Omega.{arith}
@@ -9,7 +8,6 @@ use Rattle.laws.proofs.Sectors.{sector_length}
 use Rattle.signed.proofs.SignedLaws.{is_signed_lem}
 use Rattle.targets.proofs.TargetLaws.{signed_here}
 use Rattle.walk_start.proofs.StartLaws.{starts_low, starts_high, starts_unsigned, starts_member, starts_number}
-use borrow.Author.Rules.{rules}
 use mathlib.Core.Bool.{not}
 use Rattle.walk_start.proofs.starts_at.Goals as goal
 

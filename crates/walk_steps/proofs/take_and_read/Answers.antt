@@ -1,6 +1,5 @@
 -- What waits there is signed; its piece is done, and its branches are read.
 use Rattle.walk_steps.proofs.WalkLaws.{entry_ready, read_ready, step_some}
-use borrow.Author.Rules.{rules}
 use Rattle.walk_steps.proofs.take_and_read.Goals as goal
 
 pub change-requires : goal.change-requires

@@ -4,7 +4,6 @@ use mathlib.Core.Path.{sym, ◌∙◌}
 use lib.ListN.{replicate, length-replicate}
 use lib.Seq.{length-take-le}
 use Rattle.walk_steps.proofs.WalkLaws.{few_taken, none_wait}
-use borrow.Author.Rules.{rules}
 use Rattle.walk_steps.proofs.walk_from.Goals as goal
 
 pub start-requires : goal.start-requires

@@ -1,6 +1,5 @@
 -- Nothing waits, or the newest is taken.
 use Rattle.walk_steps.proofs.WalkLaws.{entry_ready, step_none, step_ready}
-use borrow.Author.Rules.{rules}
 use Rattle.walk_steps.proofs.walk_step.Goals as goal
 
 pub first-p-requires : goal.first-p-requires

@@ -1,14 +1,7 @@
 -- The walk is that of so many steps.
-use Prim.Native.Nat.{◌*◌, ◌-◌, ◌≤◌, ◌<◌}
-use mathlib.Core.Path.{◌≡◌, refl, ◌∙◌}
+use mathlib.Core.Path.{refl, ◌∙◌}
 use native.Mathlib.Omega.{arith}
-use lib.ListN.{length}
-use Rattle.geometry.specs.Geometry.{sector_bytes, pieces_for}
-use Rattle.volume.specs.Tables.{sector_at}
-use Rattle.volume.specs.Recover.{image_view, walked_for}
-use Rattle.targets.specs.Waiting.{walk_of, Waits}
 use Rattle.walk_steps.proofs.WalkLaws.{walked_none, walked_more, walked_all}
-use borrow.Author.Rules.{rules}
 use Rattle.walk_steps.proofs.walk_steps.Goals as goal
 
 pub loop-step-init : goal.loop-step-init

@@ -3,7 +3,6 @@ use native.Mathlib.Omega.{arith}
 use Rattle.signed.proofs.ViewLaws.{inside}
 use Rattle.targets.proofs.TargetLaws.{sector_size}
 use Rattle.walk_steps.proofs.WalkLaws.{start_ready, start_waits, walk_is}
-use borrow.Author.Rules.{rules}
 use Rattle.walk_steps.proofs.walk_waiting.Goals as goal
 
 pub sector-s-requires : goal.sector-s-requires

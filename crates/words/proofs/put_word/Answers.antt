@@ -1,5 +1,5 @@
 -- The four stores are the word's bytes, in order.
-use Rattle.std.proofs.Common.{◌≡◌, ℕ, suc, ◌+◌, ◌*◌, arith, length-set, rules}
+use Rattle.std.proofs.Common.{◌≡◌, ℕ, suc, ◌+◌, ◌*◌, arith, length-set}
 use Rattle.words.proofs.put_word.Goals as goal
 
 pub bounds-s-first-2 : goal.bounds-s-first-2

@@ -1,5 +1,5 @@
 -- So far the first words are stored, one after the other.
-use Rattle.std.proofs.Common.{◌≡◌, ℕ, ◌+◌, ◌-◌, ◌*◌, ◌≤◌, List, length, get_or, take, refl, ap, ◌∙◌, arith, take_all, rules}
+use Rattle.std.proofs.Common.{ℕ, ◌+◌, ◌*◌, List, get_or, refl, ap, ◌∙◌, arith, take_all, rules}
 use lib.Seq.{sets}
 use Rattle.layout.specs.Word.{word_bytes, bytes_of}
 use Rattle.laws.proofs.Words.{put_words_next}

@@ -1,8 +1,7 @@
 -- So far the first words are stored, one after the other.
-use Rattle.std.proofs.Common.{◌≡◌, ℕ, ◌+◌, ◌-◌, ◌*◌, ◌≤◌, List, length, get_or, take, refl, ap, ◌∙◌, arith, take_all, rules}
+use Rattle.std.proofs.Common.{◌≡◌, ◌-◌, ◌*◌, ◌≤◌, length, take}
 use lib.Seq.{sets}
-use Rattle.layout.specs.Word.{word_bytes, bytes_of}
-use Rattle.laws.proofs.Words.{put_words_next}
+use Rattle.layout.specs.Word.{bytes_of}
 use Rattle.words.proofs.put_words.Given as goal
 
 abbrev pub invariant-loop-i : goal.invariant-loop-i

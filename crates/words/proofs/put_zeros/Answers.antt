@@ -1,5 +1,5 @@
 -- So far i zeros are stored.
-use Rattle.std.proofs.Common.{◌≡◌, ℕ, ◌+◌, ◌-◌, ◌*◌, ◌≤◌, List, length, replicate, refl, ap, ◌∙◌, arith, rules}
+use Rattle.std.proofs.Common.{◌≡◌, ℕ, ◌+◌, ◌*◌, List, replicate, refl, ap, ◌∙◌, arith, rules}
 use lib.Seq.{sets}
 use Rattle.layout.specs.Word.{word_bytes, bytes_of}
 use Rattle.laws.proofs.Words.{put_zeros_next}

@@ -1,8 +1,7 @@
 -- So far i zeros are stored.
-use Rattle.std.proofs.Common.{◌≡◌, ℕ, ◌+◌, ◌-◌, ◌*◌, ◌≤◌, List, length, replicate, refl, ap, ◌∙◌, arith, rules}
+use Rattle.std.proofs.Common.{◌≡◌, ◌-◌, ◌*◌, ◌≤◌, length, replicate}
 use lib.Seq.{sets}
-use Rattle.layout.specs.Word.{word_bytes, bytes_of}
-use Rattle.laws.proofs.Words.{put_zeros_next}
+use Rattle.layout.specs.Word.{bytes_of}
 use Rattle.words.proofs.put_zeros.Given as goal
 
 abbrev pub invariant-loop-i : goal.invariant-loop-i

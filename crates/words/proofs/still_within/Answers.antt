@@ -1,5 +1,5 @@
 -- Below, above, or within.
-use Rattle.std.proofs.Common.{◌≡◌, ℕ, ◌+◌, ◌%◌, ◌<◌, ◌≤◌, Bool, true, false, ◌&&◌, sym, refl, ⊎_elim, arith, rules}
+use Rattle.std.proofs.Common.{◌≡◌, ℕ, ◌+◌, ◌%◌, ◌<◌, ◌≤◌, Bool, true, false, ◌&&◌, sym, refl, ⊎_elim, arith}
 use Rattle.geometry.specs.Geometry.{within}
 use Rattle.laws.proofs.Bounded.{lt?}
 use Rattle.laws.proofs.Lists.{within_below, within_above, within_both}

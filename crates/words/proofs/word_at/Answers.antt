@@ -1,5 +1,5 @@
 -- Word k is made of the four bytes that are read.
-use Rattle.std.proofs.Common.{sym, ◌∙◌, rules}
+use Rattle.std.proofs.Common.{sym, ◌∙◌}
 use Rattle.laws.proofs.Words.{at_words}
 use Rattle.words.proofs.word_at.Goals as goal
 

@@ -1,8 +1,6 @@
 -- What was well so far and what is left are the whole.
-use Rattle.std.proofs.Common.{◌≡◌, ◌-◌, ◌≤◌, ◌&&◌, length, refl, arith, rules}
-use lib.Seq.{slice}
+use Rattle.std.proofs.Common.{◌≤◌, length, refl, arith}
 use Rattle.geometry.specs.Geometry.{within}
-use Rattle.layout.specs.Bounded.{all}
 use Rattle.layout.specs.Word.{words_of}
 use Rattle.laws.proofs.Words.{length_words_of}
 use Rattle.words.proofs.Gathering.{gathered_more, gathered_all}

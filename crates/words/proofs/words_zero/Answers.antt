@@ -1,5 +1,5 @@
 -- A number from 0 to 0 is zero.
-use Rattle.std.proofs.Common.{◌∙◌, rules}
+use Rattle.std.proofs.Common.{◌∙◌}
 use Rattle.geometry.specs.Geometry.{within}
 use Rattle.layout.specs.Bounded.{is_zero}
 use Rattle.laws.proofs.Lists.{all_alike, within_zero}

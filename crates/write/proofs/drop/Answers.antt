@@ -2,7 +2,6 @@
 use mathlib.Core.Path.{sym}
 use mathlib.Core.Bool.{true≢false}
 use Rattle.write.proofs.WriteLaws.{drop_single}
-use borrow.Author.Rules.{rules}
 use Rattle.write.proofs.drop.Goals as goal
 
 pub drop_commit-requires : goal.drop_commit-requires

@@ -3,7 +3,6 @@ use mathlib.Core.Path.{refl, sym, ◌∙◌}
 use mathlib.Core.Logic.{inl}
 use mathlib.Core.List.{[]}
 use Rattle.write.proofs.WriteLaws.{drop_refused, drop_passed, drop_done}
-use borrow.Author.Rules.{rules}
 use Rattle.write.proofs.drop_commit.Goals as goal
 
 pub commit-requires : goal.commit-requires

@@ -1,7 +1,6 @@
 -- Nothing is known of the tables.
 use mathlib.Core.Path.{sym}
 use mathlib.Core.Bool.{true≢false}
-use borrow.Author.Rules.{rules}
 use Rattle.write.proofs.write.Goals as goal
 
 pub write_commit-requires : goal.write_commit-requires

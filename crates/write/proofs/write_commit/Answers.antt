@@ -3,7 +3,6 @@ use mathlib.Core.Path.{refl, sym, ◌∙◌}
 use mathlib.Core.Logic.{inr}
 use native.Mathlib.Omega.{arith}
 use Rattle.write.proofs.WriteLaws.{write_refused, write_passed, write_length, write_few, write_done}
-use borrow.Author.Rules.{rules}
 use Rattle.write.proofs.write_commit.Goals as goal
 
 pub overflow_cast-count : goal.overflow_cast-count

@@ -1,6 +1,5 @@
 -- The refusals of a commit, with what is said of the bytes.
 use Rattle.write.proofs.WriteLaws.{fit_judged}
-use borrow.Author.Rules.{rules}
 use Rattle.write.proofs.write_verdict.Goals as goal
 
 pub returns : goal.returns

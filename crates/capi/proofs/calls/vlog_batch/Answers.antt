@@ -3,7 +3,6 @@ use Rattle.capi.proofs.Numbers.{batch_in_numbers_lem}
 use Rattle.state.specs.declared.State.{State}
 use Rattle.volume.specs.Tables.{memory}
 use Rattle.batches.specs.Batch.{batch_of}
-use borrow.Author.Rules.{rules}
 use Rattle.capi.proofs.calls.vlog_batch.Goals as goal
 
 pub returns : goal.returns

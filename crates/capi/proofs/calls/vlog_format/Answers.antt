@@ -6,7 +6,6 @@ use Rattle.state.specs.declared.State.{State}
 use Rattle.volume.specs.Tables.{memory}
 use Rattle.volume.specs.Format.{format_of}
 use Rattle.plain.specs.Plain.{settings_in}
-use borrow.Author.Rules.{rules}
 use Rattle.capi.proofs.calls.vlog_format.Goals as goal
 
 pub returns : goal.returns

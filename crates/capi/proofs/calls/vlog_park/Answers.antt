@@ -3,7 +3,6 @@ use Rattle.capi.proofs.Numbers.{call_in_numbers}
 use Rattle.state.specs.declared.State.{State}
 use Rattle.volume.specs.Tables.{memory}
 use Rattle.volume.specs.Calls.{park_of}
-use borrow.Author.Rules.{rules}
 use Rattle.capi.proofs.calls.vlog_park.Goals as goal
 
 pub returns : goal.returns

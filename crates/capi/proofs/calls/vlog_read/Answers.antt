@@ -3,7 +3,6 @@ use Rattle.capi.proofs.Numbers.{read_in_numbers_lem}
 use Rattle.state.specs.declared.State.{State}
 use Rattle.volume.specs.Tables.{memory}
 use Rattle.volume.specs.Calls.{read_of}
-use borrow.Author.Rules.{rules}
 use Rattle.capi.proofs.calls.vlog_read.Goals as goal
 
 pub returns : goal.returns

@@ -1,6 +1,5 @@
 -- Names and used bits, then numbers and tail.
 use native.Mathlib.Omega.{arith}
-use borrow.Author.Rules.{rules}
 use mathlib.Core.Path.{sym, ◌∙◌}
 use lib.ListN.{length}
 use Rattle.soundness.proofs.Sounding.{blocks_some}

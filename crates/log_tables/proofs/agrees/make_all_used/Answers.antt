@@ -1,9 +1,8 @@
 -- The map itself is marked.
 use native.Mathlib.Omega.{arith}
-use borrow.Author.Rules.{rules}
 use Prim.Native.Nat.{ℕ}
 use mathlib.Core.Path.{sym, ◌∙◌, ap}
-use lib.ListN.{length, replicate}
+use lib.ListN.{replicate}
 use Rattle.layout.specs.Bounded.{at}
 use Rattle.names.proofs.Marking.{place_below, entry_below, named_bits}
 use Rattle.soundness.proofs.Sounding.{sectors_some}

@@ -1,8 +1,6 @@
 -- 1,024 bits are enough.
 use native.Mathlib.Omega.{arith}
-use borrow.Author.Rules.{rules}
-use mathlib.Core.Path.{refl, ◌∙◌}
-use lib.ListN.{length}
+use mathlib.Core.Path.{refl}
 use Rattle.layout.specs.Bounded.{at}
 use Rattle.names.proofs.Marking.{place_below, entry_below, named_bits}
 use Rattle.soundness.proofs.Sounding.{sectors_some}

@@ -1,14 +1,10 @@
 -- The used map is made, and what is free counted.
 use native.Mathlib.Omega.{arith}
-use borrow.Author.Rules.{rules}
 use mathlib.Core.Path.{sym, ◌∙◌}
-use lib.ListN.{length}
 use Rattle.layout.specs.Bounded.{at}
 use Rattle.names.proofs.Marking.{not_false}
 use Rattle.soundness.proofs.Sounding.{blocks_most, sectors_some, sectors_most, free_few}
 use Rattle.log_tables.proofs.AgreeLaws.{outside, room_made}
-use mathlib.Core.Path.{ap}
-use mathlib.Core.Bool.{not}
 use Rattle.log_tables.proofs.agrees.mark_used.Goals as goal
 
 pub judge_names-named-requires : goal.judge_names-named-requires

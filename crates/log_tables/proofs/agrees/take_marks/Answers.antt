@@ -1,9 +1,7 @@
 -- The bytes below i are filled in.
-use Prim.Native.Nat.{◌-◌}
 use native.Mathlib.Omega.{arith}
-use lib.ListN.{length}
 use Rattle.layout.specs.Bounded.{at}
-use Rattle.laws.proofs.Filling.{Filled, filled_none, filled_length, filled_more, filled_all}
+use Rattle.laws.proofs.Filling.{filled_none, filled_length, filled_more, filled_all}
 use Rattle.log_tables.proofs.agrees.take_marks.Goals as goal
 
 pub loop-i-init : goal.loop-i-init

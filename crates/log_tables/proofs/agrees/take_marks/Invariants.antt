@@ -1,9 +1,8 @@
 -- The bytes below i are filled in.
 use Prim.Native.Nat.{◌-◌}
-use native.Mathlib.Omega.{arith}
 use lib.ListN.{length}
 use Rattle.layout.specs.Bounded.{at}
-use Rattle.laws.proofs.Filling.{Filled, filled_none, filled_length, filled_more, filled_all}
+use Rattle.laws.proofs.Filling.{Filled}
 use Rattle.log_tables.proofs.agrees.take_marks.Given as goal
 
 abbrev pub invariant-loop-i : goal.invariant-loop-i

@@ -1,11 +1,8 @@
 -- The pieces below p are filled in.
-use borrow.Author.Rules.{rules}
-use Prim.Native.Nat.{◌*◌, ◌-◌, ◌≤◌, ◌<◌}
-use mathlib.Core.Path.{◌≡◌, refl, ◌∙◌}
+use mathlib.Core.Path.{refl, ◌∙◌}
 use native.Mathlib.Omega.{arith}
-use lib.ListN.{length}
-use Rattle.laws.proofs.Filling.{Filled, filled_none, filled_all}
-use Rattle.log_tables.proofs.MapLaws.{entry_of, piece_entry, place_there, next_piece}
+use Rattle.laws.proofs.Filling.{filled_none, filled_all}
+use Rattle.log_tables.proofs.MapLaws.{piece_entry, place_there, next_piece}
 use Rattle.log_tables.proofs.fill_map.fill_map.Goals as goal
 
 pub loop-first-init : goal.loop-first-init

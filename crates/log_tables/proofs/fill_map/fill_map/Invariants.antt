@@ -1,11 +1,9 @@
 -- The pieces below p are filled in.
-use borrow.Author.Rules.{rules}
 use Prim.Native.Nat.{◌*◌, ◌-◌, ◌≤◌, ◌<◌}
-use mathlib.Core.Path.{◌≡◌, refl, ◌∙◌}
-use native.Mathlib.Omega.{arith}
+use mathlib.Core.Path.{◌≡◌}
 use lib.ListN.{length}
-use Rattle.laws.proofs.Filling.{Filled, filled_none, filled_all}
-use Rattle.log_tables.proofs.MapLaws.{entry_of, piece_entry, place_there, next_piece}
+use Rattle.laws.proofs.Filling.{Filled}
+use Rattle.log_tables.proofs.MapLaws.{entry_of}
 use Rattle.log_tables.proofs.fill_map.fill_map.Given as goal
 
 abbrev pub invariant-loop-first : goal.invariant-loop-first

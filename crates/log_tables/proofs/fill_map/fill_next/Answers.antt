@@ -4,7 +4,6 @@ use native.Mathlib.Omega.{arith}
 use lib.ListN.{length}
 use Rattle.laws.proofs.Sectors.{sector_length}
 use Rattle.log_tables.proofs.MapLaws.{piece_filled}
-use borrow.Author.Rules.{rules}
 use Rattle.log_tables.proofs.fill_map.fill_next.Goals as goal
 
 pub fill_piece-requires : goal.fill_piece-requires

@@ -1,14 +1,8 @@
 -- The entries below i of the piece are filled in.
-use borrow.Author.Rules.{rules}
-use Prim.Native.Nat.{ℕ, ◌+◌, ◌-◌, ◌≤◌, ◌<◌}
+use Prim.Native.Nat.{◌+◌, ◌<◌}
 use mathlib.Core.Path.{◌≡◌, refl, sym, ◌∙◌}
-use mathlib.Core.List.{List}
 use native.Mathlib.Omega.{arith}
 use lib.ListN.{length, length-set}
-use Rattle.layout.specs.Bounded.{at}
-use Rattle.layout.specs.Word.{words_of}
-use Rattle.layout.specs.MapSector.{entry_words}
-use Rattle.laws.proofs.Filling.{Filled}
 use Rattle.log_tables.proofs.MapLaws.{piece_starts, piece_more, piece_ends}
 use Rattle.log_tables.proofs.fill_map.fill_piece.Goals as goal
 

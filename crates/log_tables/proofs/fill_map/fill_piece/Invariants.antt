@@ -1,15 +1,12 @@
 -- The entries below i of the piece are filled in.
-use borrow.Author.Rules.{rules}
 use Prim.Native.Nat.{ℕ, ◌+◌, ◌-◌, ◌≤◌, ◌<◌}
-use mathlib.Core.Path.{◌≡◌, refl, sym, ◌∙◌}
+use mathlib.Core.Path.{◌≡◌}
 use mathlib.Core.List.{List}
-use native.Mathlib.Omega.{arith}
-use lib.ListN.{length, length-set}
+use lib.ListN.{length}
 use Rattle.layout.specs.Bounded.{at}
 use Rattle.layout.specs.Word.{words_of}
 use Rattle.layout.specs.MapSector.{entry_words}
 use Rattle.laws.proofs.Filling.{Filled}
-use Rattle.log_tables.proofs.MapLaws.{piece_starts, piece_more, piece_ends}
 use Rattle.log_tables.proofs.fill_map.fill_piece.Given as goal
 
 abbrev pub invariant-loop-i : goal.invariant-loop-i

@@ -1,10 +1,9 @@
 -- Those from index i on are put in.
-use Prim.Native.Nat.{ℕ, ◌-◌, ◌≤◌}
-use mathlib.Core.Path.{◌≡◌, refl, sym, ◌∙◌}
+use Prim.Native.Nat.{◌-◌}
+use mathlib.Core.Path.{refl, ◌∙◌}
 use native.Mathlib.Omega.{arith}
-use lib.ListN.{length}
 use Rattle.log_tables.specs.LogTables.{raised}
-use Rattle.signed.proofs.Listing.{Stepped, stepped_none, stepped_more, stepped_whole}
+use Rattle.signed.proofs.Listing.{stepped_none, stepped_more, stepped_whole}
 use Rattle.log_tables.proofs.live.find_live.Goals as goal
 
 pub loop-i-init : goal.loop-i-init

@@ -1,10 +1,9 @@
 -- Those from index i on are put in.
-use Prim.Native.Nat.{ℕ, ◌-◌, ◌≤◌}
-use mathlib.Core.Path.{◌≡◌, refl, sym, ◌∙◌}
-use native.Mathlib.Omega.{arith}
+use Prim.Native.Nat.{◌≤◌}
+use mathlib.Core.Path.{◌≡◌}
 use lib.ListN.{length}
 use Rattle.log_tables.specs.LogTables.{raised}
-use Rattle.signed.proofs.Listing.{Stepped, stepped_none, stepped_more, stepped_whole}
+use Rattle.signed.proofs.Listing.{Stepped}
 use Rattle.log_tables.proofs.live.find_live.Given as goal
 
 abbrev pub invariant-loop-i : goal.invariant-loop-i

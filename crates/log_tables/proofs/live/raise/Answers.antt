@@ -1,12 +1,10 @@
 -- Both stores are made where the number is higher, and neither where it is not.
-use Prim.Native.Nat.{◌-◌}
 use mathlib.Core.Path.{sym}
 use lib.Dec.{ltb}
 use borrow.Author.Tests.{lt-ltb, le-ltb}
 use Rattle.layout.specs.Bounded.{at}
 use lib.ListN.{set}
 use Rattle.laws.proofs.Bounded.{cond_true, cond_false}
-use borrow.Author.Rules.{rules}
 use Rattle.log_tables.proofs.live.raise.Goals as goal
 
 pub returns-then-number-numbers : goal.returns-then-number-numbers

@@ -1,7 +1,6 @@
 -- Each way out, by what the sector's number says.
 use Rattle.layout.specs.Bounded.{at}
 use native.Mathlib.Omega.{arith}
-use borrow.Author.Rules.{rules}
 use Rattle.log_tables.proofs.LiveLaws.{raised_not, raised_so}
 use Rattle.log_tables.proofs.live.raise_listed.Goals as goal
 
