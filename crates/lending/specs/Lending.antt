@@ -1,0 +1,34 @@
+-- What a caller lends, as the definitions see it: memory and tables of document 01.
+use Rattle.std.specs.Prelude.{ℕ, List, ◌≡◌, length}
+use Rattle.geometry.specs.declared.Geometry.{Geometry}
+use Rattle.geometry.specs.Geometry.{pieces_for, used_bytes}
+use Rattle.volume.specs.Tables.{Tables, Memory, tables_of, memory}
+use Rattle.lending.specs.declared.Tables as lent_tables
+use Rattle.lending.specs.declared.Memory as lent_memory
+
+-- The tables that are looked at.
+abbrev pub tables_in : lent_tables.Tables → Tables
+tables_in t = tables_of t.map.now t.places.now t.numbers.now t.used.now
+
+-- An image and such tables.
+abbrev pub seen : List ℕ → lent_tables.Tables → Memory
+seen image t = memory image t.map.now t.places.now t.numbers.now t.used.now
+
+-- All that is lent to a storing call.
+abbrev pub held : lent_memory.Memory → Memory
+held m = memory m.image.now m.map.now m.places.now m.numbers.now m.used.now
+
+-- The tables have the lengths of a volume.
+pub record Sized (g : Geometry) (t : lent_tables.Tables) : Type 0 where
+  pub map_len : length t.map.now ≡ g.l
+  pub places_len : length t.places.now ≡ pieces_for g.l
+  pub numbers_len : length t.numbers.now ≡ pieces_for g.l
+  pub used_len : length t.used.now ≡ used_bytes g.n
+
+-- The same slices are still lent: what a call leaves in them reaches the caller.
+pub record SameLent (after before : lent_memory.Memory) : Type 0 where
+  pub image : after.image.ghost_name ≡ before.image.ghost_name
+  pub map : after.map.ghost_name ≡ before.map.ghost_name
+  pub places : after.places.ghost_name ≡ before.places.ghost_name
+  pub numbers : after.numbers.ghost_name ≡ before.numbers.ghost_name
+  pub used : after.used.ghost_name ≡ before.used.ghost_name

@@ -1,0 +1,2 @@
+-- What is lent, as the definitions see it.
+pub mod Lending

@@ -1,0 +1,43 @@
+// What a caller lends to a call: the image and the tables of a volume.
+#![tactic(auto)]
+
+ghost use Rattle.std.specs.Prelude.{◌≡◌};
+ghost use Rattle.lending.specs.Lending.{held, seen};
+
+// The tables, to look at: L map words, P live places, P live numbers, and the used map.
+#[derive(Clone, Copy)]
+pub struct Tables<'a> {
+    pub map: &'a [u32],
+    pub places: &'a [u32],
+    pub numbers: &'a [u32],
+    pub used: &'a [u8],
+}
+
+// All that a storing call is lent: the image, and the tables.
+#[derive(Drop)]
+pub struct Memory<'a> {
+    pub image: &'a mut [u8],
+    pub map: &'a mut [u32],
+    pub places: &'a mut [u32],
+    pub numbers: &'a mut [u32],
+    pub used: &'a mut [u8],
+}
+
+impl<'a> Memory<'a> {
+    pub fn image(&self) -> &[u8]
+        ensures { result.now ≡ self.now.image.now }
+    {
+        &*self.image
+    }
+
+    pub fn tables(&self) -> Tables<'_>
+        ensures { seen self.now.image.now result ≡ held self.now }
+    {
+        Tables {
+            map: &*self.map,
+            places: &*self.places,
+            numbers: &*self.numbers,
+            used: &*self.used,
+        }
+    }
+}
