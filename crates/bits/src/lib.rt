@@ -34,27 +34,13 @@ pub fn clear_bit(used: &mut [u8], k: usize)
 // A word of 64 sectors that are all marked.
 pub const FULL: u64 = 18_446_744_073_709_551_615;
 
-// Eight bytes as one number, the lowest first.
-fn long_of(a: u8, b: u8, c: u8, d: u8, e: u8, f: u8, g: u8, h: u8) -> u64
-    ensures { result ≡ a + 256 * (b + 256 * (c + 256 * (d + 256 * (e + 256 * (f + 256 * (g + 256 * h)))))) }
-{
-    (a as u64)
-        + 256 * (b as u64)
-        + 65_536 * (c as u64)
-        + 16_777_216 * (d as u64)
-        + 4_294_967_296 * (e as u64)
-        + 1_099_511_627_776 * (f as u64)
-        + 281_474_976_710_656 * (g as u64)
-        + 72_057_594_037_927_936 * (h as u64)
-}
-
 // The bits of sectors 64w to 64w + 63 as one number, sector 64w in the lowest bit.
 pub fn word_at(used: &[u8], w: usize) -> u64
     requires { 8 * w + 8 ≤ length used.now }
     ensures { (j : ℕ) → j < 64 → eqb (result / 2 ^ j % 2) 1 ≡ bit_at used.now (64 * w + j) }
 {
     let first = 8 * w;
-    long_of(
+    u64::from_le_bytes([
         used[first],
         used[first + 1],
         used[first + 2],
@@ -63,7 +49,7 @@ pub fn word_at(used: &[u8], w: usize) -> u64
         used[first + 5],
         used[first + 6],
         used[first + 7],
-    )
+    ])
 }
 
 // Stores the bits of sectors 64w to 64w + 63.
@@ -72,10 +58,8 @@ pub fn put_word(used: &mut [u8], w: usize, x: u64)
     ensures { bit_at used.new ≡ (λ k. cond (eqb (k / 64) w) (eqb (x / 2 ^ (k % 64) % 2) 1) (bit_at used.old k)) }
 {
     let first = 8 * w;
-    let mut i = 0;
-    while i < 8 {
+    for i in 0..8 {
         used[first + i] = ((x >> (8 * i)) % 256) as u8;
-        i += 1;
     }
 }
 
@@ -86,10 +70,8 @@ fn count_words(used: &[u8], words: usize) -> u32
     ensures { result ≡ count_below (bit_at used.now) (64 * words) }
 {
     let mut set: u32 = 0;
-    let mut w = 0;
-    while w < words {
+    for w in 0..words {
         set += u64::count_ones(word_at(used, w));
-        w += 1;
     }
     set
 }
@@ -101,12 +83,10 @@ pub fn count_free(used: &[u8], n: u32) -> u32
 {
     let whole = n / 64 * 64;
     let mut free = whole - count_words(used, (n / 64) as usize);
-    let mut k = whole;
-    while k < n {
+    for k in whole..n {
         if !is_set(used, k as usize) {
             free += 1;
         }
-        k += 1;
     }
     free
 }

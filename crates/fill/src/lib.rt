@@ -9,21 +9,13 @@ ghost use Rattle.layout.specs.Bounded.{list_from};
 pub fn zero_words(words: &mut [u32])
     ensures { words.new ≡ replicate (length words.old) 0 }
 {
-    let mut i = 0;
-    while i < words.len() {
-        words[i] = 0;
-        i += 1;
-    }
+    words.fill(0);
 }
 
 pub fn zero_bytes(bytes: &mut [u8])
     ensures { bytes.new ≡ replicate (length bytes.old) 0 }
 {
-    let mut i = 0;
-    while i < bytes.len() {
-        bytes[i] = 0;
-        i += 1;
-    }
+    bytes.fill(0);
 }
 
 // 1, 2, 3 and so on.
@@ -31,10 +23,8 @@ pub fn count_up(words: &mut [u32])
     requires { length words.old ≤ most_pieces }
     ensures { words.new ≡ list_from suc 0 (length words.old) }
 {
-    let mut i = 0;
-    while i < words.len() {
-        words[i] = i as u32 + 1;
-        i += 1;
+    for (i, word) in words.iter_mut().enumerate() {
+        *word = i as u32 + 1;
     }
 }
 
@@ -44,9 +34,5 @@ pub fn copy_words(words: &mut [u32], from: &[u32], count: usize)
     requires count_in_bounds_2 { count ≤ length from.now }
     ensures { words.new ≡ take count from.now ++ drop count words.old }
 {
-    let mut i = 0;
-    while i < count {
-        words[i] = from[i];
-        i += 1;
-    }
+    words[..count].copy_from_slice(&from[..count]);
 }

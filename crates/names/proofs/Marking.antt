@@ -1,8 +1,7 @@
 -- Names are judged and marked one after the other: so far all that were looked at lie in 1 to n - 1; the bits are sector 0 and the
 -- names so far.
-use Rattle.std.proofs.Common.{◌≡◌, ℕ, zero, suc, ◌+◌, ◌-◌, ◌*◌, ◌/◌, ◌%◌, ◌^◌, ◌<◌, ◌≤◌, Bool, true, false, cond, not, ◌&&◌, ◌||◌, eqb, leb, List, [], ◌∷◌, length, replicate, sym, refl, ap, ◌∙◌, ap₂, ⊎_elim, true≢false, add-one, arith, eq-eqb, ne_eqb, eqb-true, le-leb, leb-true}
+use Rattle.std.proofs.Common.{◌≡◌, ℕ, zero, suc, ◌+◌, ◌-◌, ◌*◌, ◌/◌, ◌%◌, ◌^◌, ◌<◌, ◌≤◌, Bool, true, false, cond, not, ◌&&◌, ◌||◌, eqb, leb, List, [], ◌∷◌, length, replicate, sym, refl, ap, ◌∙◌, ap₂, ⊎_elim, true≢false, add-one, arith, eq-eqb, ne_eqb, eqb-true, leb-true}
 use mathlib.Core.Path.{fun_ext}
-use borrow.Author.Tests.{lt-leb}
 use Rattle.geometry.specs.declared.Geometry.{Geometry}
 use Rattle.geometry.specs.Geometry.{within, pieces_for}
 use Rattle.layout.specs.Bounded.{at, all_below, count_below, all, elem, always, gathered, updated}
@@ -10,7 +9,7 @@ use Rattle.volume.specs.Tables.{bit_at, named_by, used_by}
 use Rattle.layout.specs.Entry.{is_empty, sector_of}
 use Rattle.names.specs.Marked.{with_entries, marked}
 use Rattle.laws.proofs.Lists.{within_below}
-use Rattle.laws.proofs.Bounded.{bool?, lt?, eq?, and_l, and_r, not_of, all_elem, all_below_at, count_hit, count_miss, count_always, count_same, gathered_hit, gathered_miss}
+use Rattle.laws.proofs.Bounded.{bool?, eq?, and_l, and_r, not_of, all_elem, all_below_at, count_hit, count_miss, count_always, count_same, gathered_hit, gathered_miss}
 
 pub not_false : (b : Bool) → not b ≡ false → b ≡ true
 not_false true e = refl
@@ -24,30 +23,15 @@ and_true : (a : Bool) → (a && true) ≡ a
 and_true true = refl
 and_true false = refl
 
--- One number, counted or not.
-pub inside_so : (count n k r : ℕ) → 1 ≤ n → n < 4294967296 → r < 4294967296 → (r + 1) % 4294967296 ≡ k → r < n - 1 → count + 1 ≡ cond (within 1 (n - 1) k) (suc count) count
-inside_so count n k r some most small e h =
-    let low : 1 ≤ k = omega arith in
-    let high : k ≤ n - 1 = omega arith in
-    rw add-one (sym (ap₂ (λ (a b : Bool). cond (a && b) (suc count) count) (le-leb 1 k low) (le-leb k (n - 1) high)))
-
-pub inside_not : (count n k r : ℕ) → 1 ≤ n → n < 4294967296 → r < 4294967296 → (r + 1) % 4294967296 ≡ k → n - 1 ≤ r → count ≡ cond (within 1 (n - 1) k) (suc count) count
-inside_not count n k r some most small e h =
-    ⊎_elim (λ (z : k < 1). sym (ap (λ (b : Bool). cond b (suc count) count) (within_below 1 (n - 1) k z)))
-    (λ (z : 1 ≤ k).
-    let past : n - 1 < k = omega arith in
-    sym (ap (λ (b : Bool). cond (leb 1 k && b) (suc count) count) (lt-leb k (n - 1) past) ∙ ap (λ (b : Bool). cond b (suc count) count) (and_false (leb 1 k))))
-    (lt? k 1)
-
 pub counted_none : (test : ℕ → Bool) → 0 ≡ count_below test 0
 unfolding count_below
 counted_none test = refl
 
-pub counted_more : (test : ℕ → Bool) (i count after : ℕ) → count ≡ count_below test i → after ≡ cond (test i) (suc count) count → after ≡ count_below test (i + 1)
-counted_more test i count after e g =
-    rw add-one
-    (⊎_elim (λ (z : test i ≡ true). g ∙ ap (λ (b : Bool). cond b (suc count) count) z ∙ ap suc e ∙ sym (count_hit test i z))
-    (λ (z : test i ≡ false). g ∙ ap (λ (b : Bool). cond b (suc count) count) z ∙ e ∙ sym (count_miss test i z)) (bool? (test i)))
+pub counted_hit : (test : ℕ → Bool) (i count after : ℕ) → test i ≡ true → count ≡ count_below test i → after ≡ count + 1 → after ≡ count_below test (i + 1)
+counted_hit test i count after z e a = let one = count_hit test i z in rw add-one (omega arith)
+
+pub counted_miss : (test : ℕ → Bool) (i count after : ℕ) → test i ≡ false → count ≡ count_below test i → after ≡ count → after ≡ count_below test (i + 1)
+counted_miss test i count after z e a = let none = count_miss test i z in rw add-one (omega arith)
 
 -- Two tests that never both pass: together they pass so many exactly where each number passes one of them.
 module _ (f e : ℕ → Bool) (apart : (k : ℕ) → e k ≡ true → f k ≡ false) where
@@ -244,11 +228,9 @@ module _ (g : Geometry) (entry place : ℕ → ℕ) where
           omega arith
 
     -- What is told of the names.
-    pub told : 1 ≤ g.n → (r : Bool) → r ≡ all (within 1 (g.n - 1)) Named → (named : ℕ) → named ≡ count_below EntryInside l
-        → r ≡ true → (p + named ≡ length Named) × ((q : ℕ) → q < p → place q < g.n) × ((b : ℕ) → b < l → sector_of (entry b) < g.n)
-    told some r f named n e =
-        let inside = sym f ∙ e in
-        (named_counted inside named n, place_below inside some, entry_below inside some)
+    pub told : 1 ≤ g.n → all (within 1 (g.n - 1)) Named ≡ true → (named : ℕ) → named ≡ count_below EntryInside l
+        → (p + named ≡ length Named) × ((q : ℕ) → q < p → place q < g.n) × ((b : ℕ) → b < l → sector_of (entry b) < g.n)
+    told some inside named n = (named_counted inside named n, place_below inside some, entry_below inside some)
 
     pub named_bits : (bits : ℕ → Bool) → bits ≡ used_by (with_entries entry l (gathered always place [] p)) → bits ≡ used_by Named
     unfolding named_by

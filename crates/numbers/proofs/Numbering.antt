@@ -9,16 +9,10 @@ use native.Mathlib.Numerals.{add-one}
 use native.Mathlib.Omega.{arith}
 use lib.Dec.{eqb, leb, ltb}
 use borrow.Author.Tests.{eq-eqb, lt-ltb, le-ltb, ne_eqb}
+use Rattle.std.proofs.Math.Bool.{or_comm}
 use Rattle.layout.specs.Bounded.{all_below, best, elem, distinct, always, gathered, updated}
 use Rattle.names.proofs.Marking.{not_false}
 use Rattle.laws.proofs.Bounded.{bool?, lt?, eq?, clash, not_of, and_i, cond_true, cond_false, all_below_at, distinct_rest, distinct_cons, gathered_has}
-
--- Two numbers, the same or not.
-pub same_found : (found : Bool) (a b : ℕ) → a ≡ b → true ≡ (eqb a b || found)
-same_found found a b e = rw (eq-eqb a b e) refl
-
-pub same_not : (found : Bool) (a b : ℕ) → (a ≡ b → ⊥) → found ≡ (eqb a b || found)
-same_not found a b d = rw (ne_eqb a b d) refl
 
 -- A test that fails below a bound.
 pub all_below_not : (test : ℕ → Bool) (n k : ℕ) → k < n → test k ≡ false → false ≡ all_below test n
@@ -43,9 +37,9 @@ module _ (num : ℕ → ℕ) where
   unfolding gathered elem
   elem_none x = refl
 
-  pub elem_next : (x j : ℕ) (found found' : Bool) → found ≡ elem x (Those j) → found' ≡ (eqb x (num j) || found) → found' ≡ elem x (Those (j + 1))
+  pub elem_next : (x j : ℕ) (found found' : Bool) → found ≡ elem x (Those j) → found' ≡ (found || eqb x (num j)) → found' ≡ elem x (Those (j + 1))
   unfolding gathered elem
-  elem_next x j found found' e f = rw add-one (f ∙ ap (λ (b : Bool). eqb x (num j) || b) e)
+  elem_next x j found found' e f = rw add-one (f ∙ or_comm found (eqb x (num j)) ∙ ap (λ (b : Bool). eqb x (num j) || b) e)
 
   pub distinct_none : distinct (Those 0) ≡ true
   unfolding gathered distinct

@@ -10,16 +10,6 @@ const FEW: usize = 64;
 // The residues, by which most numbers of a log differ.
 const RESIDUES: u32 = 65_536;
 
-// Whether one was found already, or a and b are the same.
-fn or_same(found: bool, a: u32, b: u32) -> bool
-    ensures { result ≡ (eqb a b || found) }
-{
-    if a == b {
-        return true;
-    }
-    found
-}
-
 // Whether number i stands below i already. All are looked at, so that the compiler compares several at a time.
 fn stands_before(numbers: &[u32], i: usize) -> bool
     requires { i < length numbers.now }
@@ -27,10 +17,8 @@ fn stands_before(numbers: &[u32], i: usize) -> bool
 {
     let number = numbers[i];
     let mut found = false;
-    let mut j = 0;
-    while j < i {
-        found = or_same(found, number, numbers[j]);
-        j += 1;
+    for other in &numbers[..i] {
+        found |= number == *other;
     }
     found
 }
@@ -39,12 +27,10 @@ fn stands_before(numbers: &[u32], i: usize) -> bool
 fn pairs_distinct(numbers: &[u32]) -> bool
     ensures { result ≡ distinct (gathered always (at numbers.now) [] (length numbers.now)) }
 {
-    let mut i = 0;
-    while i < numbers.len() {
+    for i in 0..numbers.len() {
         if stands_before(numbers, i) {
             return false;
         }
-        i += 1;
     }
     true
 }
@@ -54,14 +40,12 @@ fn residues_distinct(numbers: &[u32]) -> bool
     ensures { result ≡ true → distinct (gathered always (at numbers.now) [] (length numbers.now)) ≡ true }
 {
     let mut seen = [0u8; RESIDUES as usize / 8];
-    let mut i = 0;
-    while i < numbers.len() {
-        let residue = (numbers[i] % RESIDUES) as usize;
+    for number in numbers {
+        let residue = (*number % RESIDUES) as usize;
         if bits::is_set(&seen, residue) {
             return false;
         }
         bits::set_bit(&mut seen, residue);
-        i += 1;
     }
     true
 }
@@ -82,14 +66,7 @@ fn all_distinct(numbers: &[u32]) -> bool
 fn all_from_1(numbers: &[u32]) -> bool
     ensures { result ≡ all_below (λ q. leb 1 (at numbers.now q)) (length numbers.now) }
 {
-    let mut i = 0;
-    while i < numbers.len() {
-        if numbers[i] < 1 {
-            return false;
-        }
-        i += 1;
-    }
-    true
+    numbers.iter().all(|number| *number >= 1)
 }
 
 // The index of the greatest number, of equal ones the lowest.
@@ -98,12 +75,10 @@ fn newest(numbers: &[u32]) -> usize
     ensures { result ≡ best (at numbers.now) (length numbers.now) }
 {
     let mut found = 0;
-    let mut i = 0;
-    while i < numbers.len() {
-        if numbers[found] < numbers[i] {
+    for (i, number) in numbers.iter().enumerate() {
+        if numbers[found] < *number {
             found = i;
         }
-        i += 1;
     }
     found
 }

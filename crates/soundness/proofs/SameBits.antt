@@ -8,7 +8,7 @@ use mathlib.Core.List.{List}
 use native.Mathlib.Omega.{arith}
 use lib.ListN.{length}
 use lib.Dec.{eqb}
-use borrow.Author.Tests.{eqb-true, eq-eqb, ne_eqb}
+use borrow.Author.Tests.{eqb-true, eq-eqb}
 use Rattle.layout.specs.Bounded.{at, all_below}
 use Rattle.volume.specs.Tables.{bit_at}
 use Rattle.laws.proofs.Bounded.{lt?, and_l, and_r, and_i, all_below_at, all_below_is}
@@ -96,12 +96,3 @@ module _ (us ms : List ℕ) where
 
   pub same_all : (i : ℕ) (good : Bool) → i ≡ length us → good ≡ all_below Same (8 * i) → good ≡ all_below Same (8 * length us)
   same_all i good e f = f ∙ ap (λ (x : ℕ). all_below Same (8 * x)) e
-
--- Two bytes, the same or not.
-pub differ : (good : Bool) (a b : ℕ) → (a ≡ b → ⊥) → false ≡ (good && eqb a b)
-differ true a b d = sym (ne_eqb a b d)
-differ false a b d = refl
-
-pub agree : (good : Bool) (a b : ℕ) → a ≡ b → good ≡ (good && eqb a b)
-agree true a b e = sym (eq-eqb a b e)
-agree false a b e = refl

@@ -13,26 +13,14 @@ ghost use Rattle.soundness.specs.Parts.{names_sound};
 
 use geometry::Geometry;
 
-// Whether all was the same so far, and a and b are.
-fn still_same(good: bool, a: u8, b: u8) -> bool
-    ensures { result ≡ (good && eqb a b) }
-{
-    if a != b {
-        return false;
-    }
-    good
-}
-
 // Whether two used maps have the same bits. All bytes are looked at, so that the compiler compares several at a time.
 fn bits_agree(used: &[u8], marks: &[u8]) -> bool
     requires { length used.now ≤ length marks.now }
     ensures { result ≡ all_below (λ k. beq (bit_at used.now k) (bit_at marks.now k)) (8 * length used.now) }
 {
     let mut good = true;
-    let mut i = 0;
-    while i < used.len() {
-        good = still_same(good, used[i], marks[i]);
-        i += 1;
+    for (i, byte) in used.iter().enumerate() {
+        good &= *byte == marks[i];
     }
     good
 }
@@ -50,28 +38,22 @@ pub fn once_with_room(g: Geometry, count: u32, free: u32) -> bool
     Geometry::pieces_for(g.l) <= free
 }
 
-// Whether the used bits are exactly sector 0 and the names, which are marked in a map of their own and then compared: of a
-// small volume, in one that is cleared sooner.
-fn few_bits_agree(map: &[u32], places: &[u32], used: &[u8]) -> bool
-    requires used_len_bound { length used.now ≤ small_used_bytes }
-    requires by_index { (q : ℕ) → q < length places.now → at places.now q < small_sectors }
-    requires by_index_2 { (b : ℕ) → b < length map.now → sector_of (at map.now b) < small_sectors }
+// Whether the used bits are exactly sector 0 and the names, which are marked in a map of N bytes of their own and then compared. About so
+// many entries are not empty. The map of a small volume is cleared sooner, and marked in another way.
+fn marked_bits_agree<const N: usize>(map: &[u32], places: &[u32], used: &[u8], count: u32) -> bool
+    requires bytes_nonzero { 0 < N }
+    requires bytes_bound { N ≤ most_used_bytes }
+    requires used_len_bound { length used.now ≤ N }
+    requires by_index { (q : ℕ) → q < length places.now → at places.now q < 8 * N }
+    requires by_index_2 { (b : ℕ) → b < length map.now → sector_of (at map.now b) < 8 * N }
     ensures { result ≡ all_below (λ k. beq (bit_at used.now k) (used_by (with_entries (at map.now) (length map.now) (gathered always (at places.now) [] (length places.now))) k)) (8 * length used.now) }
 {
-    let mut marks = [0u8; Geometry::SMALL_USED_BYTES];
-    names::mark_few(&mut marks, map, places);
-    bits_agree(used, &marks)
-}
-
-// The same for a volume of any size, with about so many entries that are not empty.
-fn all_bits_agree(map: &[u32], places: &[u32], used: &[u8], count: u32) -> bool
-    requires used_len_bound { length used.now ≤ most_used_bytes }
-    requires by_index { (q : ℕ) → q < length places.now → at places.now q < most_sectors }
-    requires by_index_2 { (b : ℕ) → b < length map.now → sector_of (at map.now b) < most_sectors }
-    ensures { result ≡ all_below (λ k. beq (bit_at used.now k) (used_by (with_entries (at map.now) (length map.now) (gathered always (at places.now) [] (length places.now))) k)) (8 * length used.now) }
-{
-    let mut marks = [0u8; Geometry::MOST_USED_BYTES];
-    names::mark_all(&mut marks, map, places, count);
+    let mut marks = [0u8; N];
+    if N == Geometry::SMALL_USED_BYTES {
+        names::mark_few(&mut marks, map, places);
+    } else {
+        names::mark_all(&mut marks, map, places, count);
+    }
     bits_agree(used, &marks)
 }
 
@@ -84,9 +66,9 @@ fn named_bits_agree(n: u32, map: &[u32], places: &[u32], used: &[u8], count: u32
     ensures { result ≡ all_below (λ k. beq (bit_at used.now k) (used_by (with_entries (at map.now) (length map.now) (gathered always (at places.now) [] (length places.now))) k)) (8 * length used.now) }
 {
     if n <= Geometry::SMALL {
-        return few_bits_agree(map, places, used);
+        return marked_bits_agree::<{ Geometry::SMALL_USED_BYTES }>(map, places, used, count);
     }
-    all_bits_agree(map, places, used, count)
+    marked_bits_agree::<{ Geometry::MOST_USED_BYTES }>(map, places, used, count)
 }
 
 // Whether the names lie inside and stand once, the used bits are exactly theirs, and P sectors are free, of which the count is given.
@@ -98,14 +80,13 @@ fn names_agree(g: Geometry, map: &[u32], places: &[u32], used: &[u8], free: u32)
     requires free_value { free ≡ free_sectors g.n (bit_at used.now) }
     ensures { result ≡ names_sound g (at map.now) (at places.now) (bit_at used.now) }
 {
-    let named = names::judge_names(g, map, places);
-    if !named.inside {
+    let Some(count) = names::judge_names(g, map, places) else {
+        return false;
+    };
+    if !named_bits_agree(g.n, map, places, used, count) {
         return false;
     }
-    if !named_bits_agree(g.n, map, places, used, named.count) {
-        return false;
-    }
-    once_with_room(g, named.count, free)
+    once_with_room(g, count, free)
 }
 
 // Whether the tables are sound, in a used map with so many free sectors.

@@ -21,7 +21,7 @@ overflow_sub-free c =
 
 pub loop-k-init : goal.loop-k-init
 loop-k-init c =
-    (omega arith, (free_words c.args.used.now (c.args.n / 64) c.count_words.result c.count_words.ensures).1)
+    (free_words c.args.used.now (c.args.n / 64) c.count_words.result c.count_words.ensures).1
 
 pub overflow_add-free : goal.overflow_add-free
 overflow_add-free c =
@@ -29,18 +29,16 @@ overflow_add-free c =
     omega arith
 
 pub loop-k-preserved : goal.loop-k-preserved
-loop-k-preserved c = (
-  omega arith,
-  elim c.if-not-is_set.branch [
-    | then-not-is_set w ↦
-        w.free-is ∙ ap (λ (x : ℕ). x + 1) c.loop-k.invariant.1
-        ∙ free_hit c.loop-k.k c.args.used.now c.is_set.result c.is_set.ensures (ap not w.if-not-is_set.true)
-    | else-not-is_set w ↦
-        w.free-is ∙ c.loop-k.invariant.1
-        ∙ free_miss c.loop-k.k c.args.used.now c.is_set.result c.is_set.ensures (ap not w.if-not-is_set.false)
-  ],
-)
+loop-k-preserved c =
+    elim c.if-not-is_set.branch [
+      | then-not-is_set w ↦
+          w.free-is ∙ ap (λ (x : ℕ). x + 1) c.loop-k.invariant
+          ∙ free_hit c.loop-k.k c.args.used.now c.is_set.result c.is_set.ensures (ap not w.if-not-is_set.true)
+      | else-not-is_set w ↦
+          w.free-is ∙ c.loop-k.invariant
+          ∙ free_miss c.loop-k.k c.args.used.now c.is_set.result c.is_set.ensures (ap not w.if-not-is_set.false)
+    ]
 
 pub returns : goal.returns
 returns c =
-    c.loop-k.invariant.1 ∙ ap (λ (x : ℕ). free_sectors x (bit_at c.args.used.now)) (let e : c.loop-k.k ≡ c.args.n = omega arith in e)
+    c.loop-k.invariant ∙ ap (λ (x : ℕ). free_sectors x (bit_at c.args.used.now)) (let e : c.loop-k.k ≡ c.args.n = omega arith in e)

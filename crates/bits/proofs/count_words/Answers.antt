@@ -10,8 +10,7 @@ use Rattle.bits.proofs.WordLaws.{set_none, set_more}
 use Rattle.bits.proofs.count_words.Goals as goal
 
 pub loop-w-init : goal.loop-w-init
-loop-w-init c =
-    (omega arith, set_none c.args.used.now)
+loop-w-init c = set_none c.args.used.now
 
 pub overflow_add-set : goal.overflow_add-set
 overflow_add-set c =
@@ -23,9 +22,9 @@ overflow_add-set c =
 pub loop-w-preserved : goal.loop-w-preserved
 loop-w-preserved c =
     let below : c.word_at.result < 2 ^ 64 = omega arith in
-    (omega arith, ap (λ (x : ℕ). x + ones c.word_at.result) c.loop-w.invariant.1 ∙ set_more c.args.used.now c.loop-w.w c.word_at.result below c.word_at.ensures)
+    ap (λ (x : ℕ). x + ones c.word_at.result) c.loop-w.invariant ∙ set_more c.args.used.now c.loop-w.w c.word_at.result below c.word_at.ensures
 
 pub returns : goal.returns
 returns c =
     let last : c.loop-w.w ≡ c.args.words = omega arith in
-    c.loop-w.invariant.1 ∙ ap (λ (x : ℕ). count_below (bit_at c.args.used.now) (64 * x)) last
+    c.loop-w.invariant ∙ ap (λ (x : ℕ). count_below (bit_at c.args.used.now) (64 * x)) last

@@ -5,4 +5,4 @@ use Rattle.bits.proofs.word_at.Goals as goal
 
 pub returns : goal.returns
 returns c =
-    word_bits c.args.used.now c.args.w c.long_of.result (λ i. omega (arith, c.type_inv.used i)) c.long_of.ensures
+    word_bits c.args.used.now c.args.w c.from_le_bytes.result (λ i. omega (arith, c.type_inv.used i)) (omega (arith, c.from_le_bytes.ensures))

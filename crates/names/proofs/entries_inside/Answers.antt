@@ -1,28 +1,9 @@
--- So far those that pass are counted.
-use Rattle.std.proofs.Common.{◌≡◌, ℕ, suc, ◌-◌, cond, length, ap, ◌∙◌, arith}
-use Rattle.layout.specs.Bounded.{count_below}
-use Rattle.laws.proofs.Bounded.{count_le}
+-- The entries whose sector passes are counted.
+use Rattle.std.proofs.Common.{◌-◌, rules}
 use Rattle.geometry.specs.Geometry.{within}
-use Rattle.names.proofs.Marking.{counted_none, counted_more}
-use Rattle.names.proofs.entries_inside.Invariants.{full}
+use Rattle.layout.specs.Entry.{sector_of}
 use Rattle.names.proofs.entries_inside.Goals as goal
-
-pub loop-i-init : goal.loop-i-init
-loop-i-init c = (omega arith, counted_none _)
-
-pub with_inside-count-requires : goal.with_inside-count-requires
-with_inside-count-requires c =
-    let few = count_le (full c.args.n c.args.map.now) c.loop-i.i in record {
-      count_lt_most_blocks = omega arith;
-      le_n = omega arith;
-    }
-
-pub loop-i-preserved : goal.loop-i-preserved
-loop-i-preserved c =
-    (omega arith, counted_more (full c.args.n c.args.map.now) c.loop-i.i c.loop-i.count c.with_inside-count.result c.loop-i.invariant.1 (c.with_inside-count.ensures ∙ ap (λ (k : ℕ). cond (within 1 (c.args.n - 1) k) (suc c.loop-i.count) c.loop-i.count) c.sector_of.ensures))
 
 pub returns : goal.returns
 returns c =
-    let few = count_le (full c.args.n c.args.map.now) c.loop-i.i in
-    let end : c.loop-i.i ≡ length c.args.map.now = omega arith in
-    (c.loop-i.invariant.1 ∙ ap (count_below (full c.args.n c.args.map.now)) end, omega arith)
+    (c.count_passing.ensures.counted (λ e. within 1 (c.args.n - 1) (sector_of e)) (λ e b h p. search rules), c.count_passing.ensures.few)

@@ -1,27 +1,13 @@
--- The places below i are marked.
-use Rattle.std.proofs.Common.{◌≡◌, ℕ, [], length, refl, ap, ◌∙◌, arith}
-use Rattle.layout.specs.Bounded.{at, always, gathered}
-use Rattle.volume.specs.Tables.{used_by}
-use Rattle.names.proofs.Marking.{places_start, place_marked}
+-- The places below the index are marked.
+use Rattle.std.proofs.Common.{length}
+use Rattle.layout.specs.Bounded.{at}
+use Rattle.names.proofs.Marking.{places_start, place_marked, zeros_marked}
 use Rattle.names.proofs.mark_places.Goals as goal
 
-pub loop-i-init : goal.loop-i-init
-loop-i-init c =
-    (omega arith, refl, places_start (at c.args.places.now) _ c.requires.marks_value)
+pub loop-place-init : goal.loop-place-init
+loop-place-init c =
+    places_start (at c.args.places.now) _ (zeros_marked _ c.args.marks.now (length c.args.marks.now) c.requires.marks_value c.set_bit.ensures)
 
-pub set_bit-requires : goal.set_bit-requires
-set_bit-requires c =
-    let below = c.requires.by_index c.loop-i.i c.loop-i-test.true in
-    omega arith
-
-pub loop-i-preserved : goal.loop-i-preserved
-loop-i-preserved c = (
-  omega arith,
-  c.set_bit.auto.used ∙ c.loop-i.invariant.1,
-  place_marked (at c.args.places.now) c.loop-i.i _ _ c.loop-i.invariant.2 c.set_bit.ensures,
-)
-
-pub returns : goal.returns
-returns c =
-    let end : c.loop-i.i ≡ length c.args.places.now = omega arith in
-    c.loop-i.invariant.2 ∙ ap (λ (x : ℕ). used_by (gathered always (at c.args.places.now) [] x)) end
+pub loop-place-preserved : goal.loop-place-preserved
+loop-place-preserved c =
+    place_marked (at c.args.places.now) c.loop-place.place-index _ _ c.loop-place.invariant c.set_bit-in-loop-place.ensures

@@ -1,14 +1,8 @@
--- Those below i are distinct, and their residues are marked.
-use Prim.Native.Nat.{◌-◌, ◌≤◌}
-use mathlib.Core.Path.{◌≡◌}
-use lib.ListN.{length}
+-- Those below the index are distinct, and their residues are marked.
 use Rattle.layout.specs.Bounded.{at}
 use Rattle.volume.specs.Tables.{bit_at}
 use Rattle.numbers.proofs.Numbering.{Residues}
 use Rattle.numbers.proofs.residues_distinct.Given as goal
 
-abbrev pub invariant-loop-i : goal.invariant-loop-i
-invariant-loop-i l = (l.i ≤ length l.numbers) × (length l.seen ≡ 8192) × Residues (at l.numbers) (bit_at l.seen) l.i
-
-abbrev pub decreases-loop-i : goal.decreases-loop-i
-decreases-loop-i l = length l.numbers - l.i
+abbrev pub invariant-loop-number : goal.invariant-loop-number
+invariant-loop-number l = Residues (at l.numbers) (bit_at l.seen) l.number-index
