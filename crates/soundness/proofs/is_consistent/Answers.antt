@@ -10,16 +10,16 @@ use Rattle.soundness.proofs.is_consistent.Goals as goal
 
 pub returns-then-not-names_agree : goal.returns-then-not-names_agree
 returns-then-not-names_agree c =
-    sound_fails c.args.g (tables_of c.args.map.now c.args.places.now c.args.numbers.now c.args.used.now) c.args.tail c.args.number c.names_agree.result c.names_agree.ensures (ap not c.if-not-names_agree.true)
+    sound_fails c.args.g (tables_of c.args.t.now.map.now c.args.t.now.places.now c.args.t.now.numbers.now c.args.t.now.used.now) c.args.tail c.args.number c.names_agree.result c.names_agree.ensures (ap not c.if-not-names_agree.true)
 
 pub numbers_agree-requires : goal.numbers_agree-requires
 numbers_agree-requires c =
     let some = blocks_some c.args.g c.requires.g_value in record {
       numbers_nonzero = omega arith;
-      places_len = c.requires.places_len ∙ sym c.requires.numbers_len;
+      places_len = c.requires.sized.places_len ∙ sym c.requires.sized.numbers_len;
     }
 
 pub returns : goal.returns
 returns c =
-    numbers_decide c.args.g (tables_of c.args.map.now c.args.places.now c.args.numbers.now c.args.used.now) c.args.tail c.args.number c.names_agree.result c.names_agree.ensures (ap not c.if-not-names_agree.false)
-    (length c.args.numbers.now) c.requires.numbers_len c.numbers_agree.result c.numbers_agree.ensures
+    numbers_decide c.args.g (tables_of c.args.t.now.map.now c.args.t.now.places.now c.args.t.now.numbers.now c.args.t.now.used.now) c.args.tail c.args.number c.names_agree.result c.names_agree.ensures (ap not c.if-not-names_agree.false)
+    (length c.args.t.now.numbers.now) c.requires.sized.numbers_len c.numbers_agree.result c.numbers_agree.ensures
