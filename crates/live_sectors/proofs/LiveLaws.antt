@@ -89,15 +89,6 @@ gathered_more test i good good' b e f g = rw (add-one, ← e, ← f) g
 pub gathered_all : (test : ℕ → Bool) (i n : ℕ) (good : Bool) → i ≡ n → good ≡ all_below test i → good ≡ all_below test n
 gathered_all test i n good e f = f ∙ ap (all_below test) e
 
--- Two numbers, the same or not.
-pub same_not_so : (good : Bool) (a b : ℕ) → (a ≡ b → ⊥) → false ≡ (good && eqb a b)
-same_not_so true a b d = sym (ne_eqb a b d)
-same_not_so false a b d = refl
-
-pub same_so : (good : Bool) (a b : ℕ) → a ≡ b → good ≡ (good && eqb a b)
-same_so true a b e = sym (eq-eqb a b e)
-same_so false a b e = refl
-
 -- Three tests, in their order.
 module _ (a b c : Bool) where
   first_fails : a ≡ false → false ≡ (a && b && c)

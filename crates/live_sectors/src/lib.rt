@@ -13,52 +13,20 @@ ghost use Rattle.volume.specs.Calls.{view_of, state_fits, tables_agree};
 use geometry::Geometry;
 use state::State;
 
-// Whether all was the same so far, and a and b are.
-fn still_same(good: bool, a: u32, b: u32) -> bool
-    ensures { result ≡ (good && eqb a b) }
-{
-    if a != b {
-        return false;
-    }
-    good
-}
-
-// Whether the sector's entries are those of the map from `first` on. All are looked at, so that the compiler compares several at
-// a time.
-fn whole_matches(s: &[u8], map: &[u32], first: usize) -> bool
+// Whether the sector's entries are the ones given. All are looked at, so that the compiler compares several at a time.
+fn entries_are<F: Fn(usize) -> u32>(s: &[u8], entry: F) -> bool
     requires s_len { length s.now ≡ sector_bytes }
-    requires entries_per_piece_in_bounds { first + entries_per_piece ≤ length map.now }
-    ensures { result ≡ all_below (λ i. eqb (at (entry_words (words_of s.now)) i) (at map.now (first + i))) entries_per_piece }
+    requires callable { (i : ℕ) → i < entries_per_piece → F.pre entry i }
+    ensures { (wanted : ℕ → ℕ) → ((i e : ℕ) → i < entries_per_piece → F.post entry i e → e ≡ wanted i) → result ≡ all_below (λ i. eqb (at (entry_words (words_of s.now)) i) (wanted i)) entries_per_piece }
 {
     let mut good = true;
-    let mut i = 0;
-    while i < Geometry::PIECE_ENTRIES {
-        good = still_same(good, map_sector::entry_at(s, i), map[first + i]);
-        i += 1;
+    for i in 0..Geometry::PIECE_ENTRIES {
+        good &= map_sector::entry_at(s, i) == entry(i);
     }
     good
 }
 
-// The same of the last piece, where the map may end before it: past its end the entries are zero.
-fn last_matches(s: &[u8], map: &[u32], first: usize) -> bool
-    requires s_len { length s.now ≡ sector_bytes }
-    requires first_lt_most_blocks { first < most_blocks }
-    ensures { result ≡ all_below (λ i. eqb (at (entry_words (words_of s.now)) i) (at map.now (first + i))) entries_per_piece }
-{
-    let mut good = true;
-    let mut i = 0;
-    while i < Geometry::PIECE_ENTRIES {
-        good = still_same(
-            good,
-            map_sector::entry_at(s, i),
-            blocks::entry_of(map, first + i),
-        );
-        i += 1;
-    }
-    good
-}
-
-// Whether the sector's entries are those of piece p in the map.
+// Whether the sector's entries are those of piece p in the map. The map may end before the last piece does.
 fn entries_match(s: &[u8], map: &[u32], p: u32) -> bool
     requires s_len { length s.now ≡ sector_bytes }
     requires p_lt_most_pieces { p < most_pieces }
@@ -66,9 +34,10 @@ fn entries_match(s: &[u8], map: &[u32], p: u32) -> bool
 {
     let first = (Geometry::ENTRIES * p) as usize;
     if first + Geometry::PIECE_ENTRIES <= map.len() {
-        return whole_matches(s, map, first);
+        return entries_are(s, |i| map[first + i]);
     }
-    last_matches(s, map, first)
+    // Past the end of the map the entries are zero.
+    entries_are(s, |i| blocks::entry_of(map, first + i))
 }
 
 // Whether the sector is signed with this piece and number, and these entries.
@@ -103,14 +72,12 @@ pub fn live_valid(g: Geometry, image: &[u8], map: &[u32], places: &[u32], number
     ensures { result ≡ live_valid g.l (tables_of map.now places.now numbers.now []) (view_of g (sector_at image.now)) }
 {
     let pieces = Geometry::pieces_for(g.l);
-    let mut p: u32 = 0;
-    while p < pieces {
+    for p in 0..pieces {
         let q = p as usize;
         let s = images::sector(image, places[q] as usize);
         if !says_piece(s, g, map, p, numbers[q]) {
             return false;
         }
-        p += 1;
     }
     true
 }

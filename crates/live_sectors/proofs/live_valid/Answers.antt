@@ -10,8 +10,7 @@ use mathlib.Core.Bool.{not}
 use Rattle.live_sectors.proofs.live_valid.Goals as goal
 
 pub loop-p-init : goal.loop-p-init
-loop-p-init c =
-    (omega arith, live_none c.args.g c.args.image.now c.args.map.now c.args.places.now c.args.numbers.now)
+loop-p-init c = live_none c.args.g c.args.image.now c.args.map.now c.args.places.now c.args.numbers.now
 
 pub overflow_cast-places : goal.overflow_cast-places
 overflow_cast-places c =
@@ -37,18 +36,12 @@ returns-then-not-says_piece c =
     live_fails c.args.g c.args.image.now c.args.map.now c.args.places.now c.args.numbers.now c.loop-p.p
     _ c.sector-s.ensures c.says_piece.result c.says_piece.ensures (omega arith) (ap not c.if-not-says_piece.true)
 
-pub loop-p-smaller : goal.loop-p-smaller
-loop-p-smaller c =
-    omega arith
-
 pub loop-p-preserved : goal.loop-p-preserved
-loop-p-preserved c = (
-  omega arith,
-  live_more c.args.g c.args.image.now c.args.map.now c.args.places.now c.args.numbers.now c.loop-p.p
-      _ c.sector-s.ensures c.says_piece.result c.says_piece.ensures c.loop-p.invariant.1 (ap not c.if-not-says_piece.false),
-)
+loop-p-preserved c =
+    live_more c.args.g c.args.image.now c.args.map.now c.args.places.now c.args.numbers.now c.loop-p.p
+    _ c.sector-s.ensures c.says_piece.result c.says_piece.ensures c.loop-p.invariant (ap not c.if-not-says_piece.false)
 
 pub returns : goal.returns
 returns c =
     let e : c.loop-p.p ≡ pieces_for c.args.g.l = (omega arith) in
-    live_all c.args.g c.args.image.now c.args.map.now c.args.places.now c.args.numbers.now c.loop-p.p e c.loop-p.invariant.1
+    live_all c.args.g c.args.image.now c.args.map.now c.args.places.now c.args.numbers.now c.loop-p.p e c.loop-p.invariant
