@@ -2,6 +2,7 @@
 #![tactic(auto)]
 
 ghost use Rattle.std.specs.Prelude.{◌≡◌, true, ◌&&◌, [], ℕ, ◌+◌, ◌*◌, ◌≤◌, ◌<◌, length, eqb};
+ghost use Rattle.lending.specs.Lending.{seen};
 ghost use Rattle.geometry.specs.Geometry.{sector_bytes, pieces_for, entries_per_piece, most_blocks, most_pieces};
 ghost use Rattle.layout.specs.Bounded.{at, all_below, same};
 ghost use Rattle.layout.specs.Word.{words_of};
@@ -11,6 +12,7 @@ ghost use Rattle.volume.specs.Format.{tables_fit};
 ghost use Rattle.volume.specs.Calls.{view_of, state_fits, tables_agree};
 
 use geometry::Geometry;
+use lending::Tables;
 use state::State;
 
 // Whether the sector's entries are the ones given. All are looked at, so that the compiler compares several at a time.
@@ -61,21 +63,21 @@ fn says_piece(s: &[u8], g: Geometry, map: &[u32], p: u32, number: u32) -> bool
 }
 
 // Each live place is signed with its piece, number and entries.
-pub fn live_valid(g: Geometry, image: &[u8], map: &[u32], places: &[u32], numbers: &[u32]) -> bool
+pub fn live_valid(g: Geometry, image: &[u8], t: &Tables<'_>) -> bool
     requires le_n { 1 ≤ g.n }
     requires l_bound { pieces_for g.l ≤ most_pieces }
     requires image_len { length image.now ≡ sector_bytes * g.n }
-    requires map_len { length map.now ≡ g.l }
-    requires places_len { length places.now ≡ pieces_for g.l }
-    requires numbers_len { length numbers.now ≡ pieces_for g.l }
-    requires by_index { (q : ℕ) → q < pieces_for g.l → at places.now q < g.n }
-    ensures { result ≡ live_valid g.l (tables_of map.now places.now numbers.now []) (view_of g (sector_at image.now)) }
+    requires map_len { length t.now.map.now ≡ g.l }
+    requires places_len { length t.now.places.now ≡ pieces_for g.l }
+    requires numbers_len { length t.now.numbers.now ≡ pieces_for g.l }
+    requires by_index { (q : ℕ) → q < pieces_for g.l → at t.now.places.now q < g.n }
+    ensures { result ≡ live_valid g.l (tables_of t.now.map.now t.now.places.now t.now.numbers.now []) (view_of g (sector_at image.now)) }
 {
     let pieces = Geometry::pieces_for(g.l);
     for p in 0..pieces {
         let q = p as usize;
-        let s = images::sector(image, places[q] as usize);
-        if !says_piece(s, g, map, p, numbers[q]) {
+        let s = images::sector(image, t.places[q] as usize);
+        if !says_piece(s, g, t.map, p, t.numbers[q]) {
             return false;
         }
     }
@@ -83,23 +85,15 @@ pub fn live_valid(g: Geometry, image: &[u8], map: &[u32], places: &[u32], number
 }
 
 // Whether the tables are sound, in a used map with so many free sectors, and the live map sectors say what they say.
-pub fn tables_agree(
-    s: State,
-    image: &[u8],
-    map: &[u32],
-    places: &[u32],
-    numbers: &[u32],
-    used: &[u8],
-    free: u32,
-) -> bool
-    requires used_value { state_fits s (memory image.now map.now places.now numbers.now used.now) ≡ true }
-    requires geometry_value { tables_fit (memory image.now map.now places.now numbers.now used.now) s.geometry ≡ true }
-    requires free_value { free ≡ free_sectors s.geometry.n (bit_at used.now) }
-    ensures { result ≡ tables_agree s (memory image.now map.now places.now numbers.now used.now) }
+pub fn tables_agree(s: State, image: &[u8], t: &Tables<'_>, free: u32) -> bool
+    requires used_value { state_fits s (seen image.now t.now) ≡ true }
+    requires geometry_value { tables_fit (seen image.now t.now) s.geometry ≡ true }
+    requires free_value { free ≡ free_sectors s.geometry.n (bit_at t.now.used.now) }
+    ensures { result ≡ tables_agree s (seen image.now t.now) }
 {
     let g = s.geometry;
-    if !soundness::is_consistent(g, map, places, numbers, used, free, s.tail, s.number) {
+    if !soundness::is_consistent(g, t, free, s.tail, s.number) {
         return false;
     }
-    live_valid(g, image, map, places, numbers)
+    live_valid(g, image, t)
 }

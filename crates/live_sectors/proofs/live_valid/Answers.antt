@@ -10,12 +10,7 @@ use mathlib.Core.Bool.{not}
 use Rattle.live_sectors.proofs.live_valid.Goals as goal
 
 pub loop-p-init : goal.loop-p-init
-loop-p-init c = live_none c.args.g c.args.image.now c.args.map.now c.args.places.now c.args.numbers.now
-
-pub overflow_cast-places : goal.overflow_cast-places
-overflow_cast-places c =
-    let h = (c.type_inv.places c.loop-p.p).fits in
-    omega arith
+loop-p-init c = live_none c.args.g c.args.image.now c.args.t.now.map.now c.args.t.now.places.now c.args.t.now.numbers.now
 
 pub sector-s-requires : goal.sector-s-requires
 sector-s-requires c =
@@ -25,7 +20,7 @@ sector-s-requires c =
 pub says_piece-requires : goal.says_piece-requires
 says_piece-requires c =
     let b = c.requires.by_index c.loop-p.p (omega arith) in record {
-      s_len = ap length c.sector-s.ensures ∙ sector_length c.args.image.now (at c.args.places.now c.loop-p.p) (omega arith);
+      s_len = ap length c.sector-s.ensures ∙ sector_length c.args.image.now (at c.args.t.now.places.now c.loop-p.p) (omega arith);
       le_n = c.requires.le_n;
       map_len = c.requires.map_len;
       p_lt_most_pieces = omega arith;
@@ -33,15 +28,15 @@ says_piece-requires c =
 
 pub returns-then-not-says_piece : goal.returns-then-not-says_piece
 returns-then-not-says_piece c =
-    live_fails c.args.g c.args.image.now c.args.map.now c.args.places.now c.args.numbers.now c.loop-p.p
+    live_fails c.args.g c.args.image.now c.args.t.now.map.now c.args.t.now.places.now c.args.t.now.numbers.now c.loop-p.p
     _ c.sector-s.ensures c.says_piece.result c.says_piece.ensures (omega arith) (ap not c.if-not-says_piece.true)
 
 pub loop-p-preserved : goal.loop-p-preserved
 loop-p-preserved c =
-    live_more c.args.g c.args.image.now c.args.map.now c.args.places.now c.args.numbers.now c.loop-p.p
+    live_more c.args.g c.args.image.now c.args.t.now.map.now c.args.t.now.places.now c.args.t.now.numbers.now c.loop-p.p
     _ c.sector-s.ensures c.says_piece.result c.says_piece.ensures c.loop-p.invariant (ap not c.if-not-says_piece.false)
 
 pub returns : goal.returns
 returns c =
     let e : c.loop-p.p ≡ pieces_for c.args.g.l = (omega arith) in
-    live_all c.args.g c.args.image.now c.args.map.now c.args.places.now c.args.numbers.now c.loop-p.p e c.loop-p.invariant
+    live_all c.args.g c.args.image.now c.args.t.now.map.now c.args.t.now.places.now c.args.t.now.numbers.now c.loop-p.p e c.loop-p.invariant

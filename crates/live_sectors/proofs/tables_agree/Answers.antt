@@ -9,16 +9,13 @@ use Rattle.live_sectors.proofs.tables_agree.Goals as goal
 
 pub is_consistent-requires : goal.is_consistent-requires
 is_consistent-requires c =
-    let fits = geometry_fits_lem c.args.s c.args.image.now c.args.map.now c.args.places.now c.args.numbers.now c.args.used.now c.requires.used_value in
-    let map = map_long c.args.s c.args.image.now c.args.map.now c.args.places.now c.args.numbers.now c.args.used.now c.requires.geometry_value in
-    let places = places_long c.args.s c.args.image.now c.args.map.now c.args.places.now c.args.numbers.now c.args.used.now c.requires.geometry_value in
-    let numbers = numbers_long c.args.s c.args.image.now c.args.map.now c.args.places.now c.args.numbers.now c.args.used.now c.requires.geometry_value in
-    let used = used_long c.args.s c.args.image.now c.args.map.now c.args.places.now c.args.numbers.now c.args.used.now c.requires.geometry_value in record {
+    let fits = geometry_fits_lem c.args.s c.args.image.now c.args.t.now.map.now c.args.t.now.places.now c.args.t.now.numbers.now c.args.t.now.used.now c.requires.used_value in
+    let map = map_long c.args.s c.args.image.now c.args.t.now.map.now c.args.t.now.places.now c.args.t.now.numbers.now c.args.t.now.used.now c.requires.geometry_value in
+    let places = places_long c.args.s c.args.image.now c.args.t.now.map.now c.args.t.now.places.now c.args.t.now.numbers.now c.args.t.now.used.now c.requires.geometry_value in
+    let numbers = numbers_long c.args.s c.args.image.now c.args.t.now.map.now c.args.t.now.places.now c.args.t.now.numbers.now c.args.t.now.used.now c.requires.geometry_value in
+    let used = used_long c.args.s c.args.image.now c.args.t.now.map.now c.args.t.now.places.now c.args.t.now.numbers.now c.args.t.now.used.now c.requires.geometry_value in record {
       g_value = fits;
-      map_len = map;
-      places_len = places;
-      numbers_len = numbers;
-      used_len = used;
+      sized = record { map_len = map; places_len = places; numbers_len = numbers; used_len = used };
       free_value = c.requires.free_value;
     }
 
@@ -28,17 +25,17 @@ returns-then-not-is_consistent c =
 
 pub live_valid-requires : goal.live_valid-requires
 live_valid-requires c =
-    let g = geometry_fits_lem c.args.s c.args.image.now c.args.map.now c.args.places.now c.args.numbers.now c.args.used.now c.requires.used_value in
+    let g = geometry_fits_lem c.args.s c.args.image.now c.args.t.now.map.now c.args.t.now.places.now c.args.t.now.numbers.now c.args.t.now.used.now c.requires.used_value in
     let n = sectors_some c.args.s.geometry g in
     let l = blocks_most c.args.s.geometry g in
     let least : 1 ≤ c.args.s.geometry.n = omega arith in record {
       le_n = least;
       l_bound = omega arith;
-      image_len = image_long c.args.s c.args.image.now c.args.map.now c.args.places.now c.args.numbers.now c.args.used.now c.requires.used_value;
-      map_len = map_long c.args.s c.args.image.now c.args.map.now c.args.places.now c.args.numbers.now c.args.used.now c.requires.geometry_value;
-      places_len = places_long c.args.s c.args.image.now c.args.map.now c.args.places.now c.args.numbers.now c.args.used.now c.requires.geometry_value;
-      numbers_len = numbers_long c.args.s c.args.image.now c.args.map.now c.args.places.now c.args.numbers.now c.args.used.now c.requires.geometry_value;
-      by_index = places_below c.args.s c.args.image.now c.args.map.now c.args.places.now c.args.numbers.now c.args.used.now c.is_consistent.result
+      image_len = image_long c.args.s c.args.image.now c.args.t.now.map.now c.args.t.now.places.now c.args.t.now.numbers.now c.args.t.now.used.now c.requires.used_value;
+      map_len = map_long c.args.s c.args.image.now c.args.t.now.map.now c.args.t.now.places.now c.args.t.now.numbers.now c.args.t.now.used.now c.requires.geometry_value;
+      places_len = places_long c.args.s c.args.image.now c.args.t.now.map.now c.args.t.now.places.now c.args.t.now.numbers.now c.args.t.now.used.now c.requires.geometry_value;
+      numbers_len = numbers_long c.args.s c.args.image.now c.args.t.now.map.now c.args.t.now.places.now c.args.t.now.numbers.now c.args.t.now.used.now c.requires.geometry_value;
+      by_index = places_below c.args.s c.args.image.now c.args.t.now.map.now c.args.t.now.places.now c.args.t.now.numbers.now c.args.t.now.used.now c.is_consistent.result
           c.is_consistent.ensures (ap not c.if-not-is_consistent.false) least;
     }
 
