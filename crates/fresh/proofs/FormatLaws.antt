@@ -7,14 +7,13 @@ use native.Mathlib.Numerals.{add-one}
 use lib.ListN.{length, take, replicate}
 use lib.Dec.{eqb}
 use borrow.Author.Tests.{eq-eqb, ne_eqb}
+use Rattle.std.specs.Prelude.{Option, Some, None, Result, Ok, Err, ⊤}
 use Rattle.geometry.specs.declared.Geometry.{Geometry}
 use Rattle.geometry.specs.declared.Settings.{Settings}
 use Rattle.state.specs.declared.State.{State}
 use Rattle.answer.specs.declared.Refusal.{Refusal}
 use Rattle.answer.specs.declared.Answer.{Answer}
 use Rattle.answer.specs.declared.Answer.TheVariants.{Accepted, Refused, PowerFailed}
-use Rattle.answer.specs.declared.Verdict.{Verdict}
-use Rattle.answer.specs.declared.Verdict.TheVariants.{Pass, Refuse}
 use Rattle.geometry.specs.Geometry.{pieces_for, geometry_of}
 use Rattle.answer.specs.Answer.{stores_alone}
 use Rattle.state.specs.State.{fresh_state, lost_state}
@@ -26,7 +25,6 @@ use Rattle.volume.specs.Store.{applied, stores_below, After, after, performed, u
 use Rattle.volume.specs.Format.{blank_store, piece_store, format_stores, format_tables, format_action, volume_in, size_checks, format_of}
 use Rattle.laws.proofs.Stores.{below_length}
 use Rattle.piece_entries.proofs.EntryLaws.{piece_blank}
-use Rattle.std.specs.Prelude.{Option, Some, None}
 use Rattle.power.specs.Power.{powered}
 use Rattle.power.proofs.Performing.{memory_left, call_cut, call_whole}
 use Rattle.power.proofs.Runs.{first_fails, second_runs}
@@ -98,16 +96,16 @@ module _ (settings : Settings) (g : Geometry) (allowance : ℕ) (im mp pl nu us 
       ∙ asked_performed
 
 pub format_refused : (s : State) (im mp pl nu us : List ℕ) (settings : Settings) (allowance : ℕ) (r : Refusal)
-    → Refuse r ≡ judged (size_checks (memory im mp pl nu us) settings)
+    → Err r ≡ judged (size_checks (memory im mp pl nu us) settings)
     → after (record { answer = Refused r; state = s }) (memory im mp pl nu us) ≡ format_of s (memory im mp pl nu us) settings allowance
 unfolding format_of
 format_refused s im mp pl nu us settings allowance r e =
-    ap (λ (v : Verdict). unless_refused v s (memory im mp pl nu us) (performed allowance (format_action (volume_in (memory im mp pl nu us) settings) settings.drive) (memory im mp pl nu us))) e
+    ap (λ (v : Result ⊤ Refusal). unless_refused v s (memory im mp pl nu us) (performed allowance (format_action (volume_in (memory im mp pl nu us) settings) settings.drive) (memory im mp pl nu us))) e
 
 pub format_passed : (s : State) (im mp pl nu us : List ℕ) (settings : Settings) (allowance : ℕ) (r : After)
-    → Pass ≡ judged (size_checks (memory im mp pl nu us) settings)
+    → Ok tt ≡ judged (size_checks (memory im mp pl nu us) settings)
     → r ≡ performed allowance (format_action (geometry_of (length im / 512) settings) settings.drive) (memory im mp pl nu us)
     → r ≡ format_of s (memory im mp pl nu us) settings allowance
 unfolding format_of memory
 format_passed s im mp pl nu us settings allowance r e f =
-    f ∙ ap (λ (v : Verdict). unless_refused v s (memory im mp pl nu us) (performed allowance (format_action (volume_in (memory im mp pl nu us) settings) settings.drive) (memory im mp pl nu us))) e
+    f ∙ ap (λ (v : Result ⊤ Refusal). unless_refused v s (memory im mp pl nu us) (performed allowance (format_action (volume_in (memory im mp pl nu us) settings) settings.drive) (memory im mp pl nu us))) e
