@@ -9,8 +9,8 @@ use native.Mathlib.Omega.{arith}
 use lib.ListN.{length}
 use lib.Dec.{eqb, ltb}
 use borrow.Author.Tests.{eq-eqb, ltb-false}
+use Rattle.std.specs.Prelude.{Ok}
 use Rattle.state.specs.declared.State.{State}
-use Rattle.answer.specs.declared.Verdict.TheVariants.{Pass}
 use Rattle.geometry.specs.Geometry.{sector_bytes, pieces_for, geometry_fits}
 use Rattle.answer.specs.Answer.{number_of, refusal_number}
 use Rattle.state.specs.State.{committed_state, is_running}
@@ -128,7 +128,7 @@ module _ (rules : Rules) (law : Choosing rules) (s : State) (m : Memory) (head :
       → KeptBy s m (commit_of rules s m head change bytes_fit has_room allowance)
   unfolding commit_of
   commit_keeps allowance a =
-      ⊎_elim (λ (e : judged (commit_checks rules s m head change.blocks bytes_fit has_room) ≡ Pass).
+      ⊎_elim (λ (e : judged (commit_checks rules s m head change.blocks bytes_fit has_room) ≡ Ok tt).
       rw e (passed_keeps (given (commit_passed rules s m head change.blocks bytes_fit has_room e)) allowance (rw e at a)))
       (λ v. clash (eqb (refusal_number v.0) 0) (eq-eqb (refusal_number v.0) 0 (rw v.1 at a)) (refusal_some v.0))
       (verdict? (judged (commit_checks rules s m head change.blocks bytes_fit has_room)))

@@ -1,9 +1,7 @@
 -- Document 01, "Numbers a call turns back with": their order, and the number and the values that each answer stands for.
-use Rattle.std.specs.Prelude.{ℕ, Bool, true, false, List, [], ◌∷◌, ◌++◌}
+use Rattle.std.specs.Prelude.{ℕ, Bool, true, false, List, [], ◌∷◌, ◌++◌, Result, Ok, Err, ⊤}
 use Rattle.answer.specs.declared.Refusal.{Refusal}
 use Rattle.answer.specs.declared.Refusal.TheVariants.{Size, WrongSettings, BufferLength, CommitCount, BlockNumbers, WrongPhase, Inconsistent, NoRoom, NumbersUsedUp}
-use Rattle.answer.specs.declared.Verdict.{Verdict}
-use Rattle.answer.specs.declared.Verdict.TheVariants.{Pass, Refuse}
 use Rattle.answer.specs.declared.Loss.{Loss}
 use Rattle.answer.specs.declared.Loss.TheVariants.{NoLog, DamagedLog}
 use Rattle.answer.specs.declared.Cost.{Cost}
@@ -36,9 +34,9 @@ refusal_number NoRoom = 6
 refusal_number NumbersUsedUp = 7
 
 -- 0 where no refusal applies.
-abbrev pub verdict_number : Verdict → ℕ
-verdict_number Pass = 0
-verdict_number (Refuse r) = refusal_number r
+abbrev pub verdict_number : Result ⊤ Refusal → ℕ
+verdict_number (Ok u) = 0
+verdict_number (Err r) = refusal_number r
 
 abbrev pub loss_number : Loss → ℕ
 loss_number NoLog = 8

@@ -5,88 +5,68 @@ ghost use Rattle.std.specs.Prelude.{◌≡◌};
 ghost use Rattle.answer.specs.declared.Answer.TheVariants.{Accepted, Walked, Scanned, PowerFailed};
 ghost use Rattle.answer.specs.Answer.{refusal_number, verdict_number, loss_number, stores_alone, is_refusal, number_of, cost_of, way_of, reads_of};
 
-// Why a call was turned back before it did anything: everything lent, and the state, is left as it came.
-#[derive(Clone, Copy)]
+// Why a call was turned back before it did anything: everything lent, and the state, is left as it came. The numbers are document
+// 01's, which C is given.
+#[derive(Clone, Copy, Debug, PartialEq, Eq)]
 pub enum Refusal {
-    // 1: N, L or the image's length is out of range, or not the state's.
-    Size,
-    // 11: what the drive is made of is out of range, or its tracks do not hold N sectors.
-    WrongSettings,
-    // 2: a lent buffer has the wrong length.
-    BufferLength,
-    // 12: a batch has no commit, or more than 32.
-    CommitCount,
-    // 3: count, order or range of the block numbers, or the head.
-    BlockNumbers,
-    // 4: the phase does not allow this call.
-    WrongPhase,
-    // 5: the tables are not sound, or do not agree with the image.
-    Inconsistent,
-    // 6: too few free sectors.
-    NoRoom,
-    // 7: too few numbers are left.
-    NumbersUsedUp,
+    // N, L or the image's length is out of range, or not the state's.
+    Size = 1,
+    // What the drive is made of is out of range, or its tracks do not hold N sectors.
+    WrongSettings = 11,
+    // A lent buffer has the wrong length.
+    BufferLength = 2,
+    // A batch has no commit, or more than 32.
+    CommitCount = 12,
+    // Count, order or range of the block numbers, or the head.
+    BlockNumbers = 3,
+    // The phase does not allow this call.
+    WrongPhase = 4,
+    // The tables are not sound, or do not agree with the image.
+    Inconsistent = 5,
+    // Too few free sectors.
+    NoRoom = 6,
+    // Too few numbers are left.
+    NumbersUsedUp = 7,
 }
 
 impl Refusal {
     pub fn number(self) -> u32
         ensures { result ≡ refusal_number self }
     {
-        match self {
-            Refusal::Size => 1,
-            Refusal::WrongSettings => 11,
-            Refusal::BufferLength => 2,
-            Refusal::CommitCount => 12,
-            Refusal::BlockNumbers => 3,
-            Refusal::WrongPhase => 4,
-            Refusal::Inconsistent => 5,
-            Refusal::NoRoom => 6,
-            Refusal::NumbersUsedUp => 7,
-        }
+        self as u32
     }
 }
 
-// Why a recovery has no volume to hand out: the image is left as it came, and the tables are filled with zeros.
-#[derive(Clone, Copy)]
+// Why a recovery has no volume to hand out: the image is left as it came, and the tables are filled with zeros. The numbers are
+// document 01's.
+#[derive(Clone, Copy, Debug, PartialEq, Eq)]
 pub enum Loss {
-    // 8: no signed closing sector.
-    NoLog,
-    // 9: the log that a scan finds is damaged.
-    DamagedLog,
+    // No signed closing sector.
+    NoLog = 8,
+    // The log that a scan finds is damaged.
+    DamagedLog = 9,
 }
 
 impl Loss {
     pub fn number(self) -> u32
         ensures { result ≡ loss_number self }
     {
-        match self {
-            Loss::NoLog => 8,
-            Loss::DamagedLog => 9,
-        }
+        self as u32
     }
 }
 
-// What the checks of a call say: go on, or the first refusal that applies.
-#[derive(Clone, Copy)]
-pub enum Verdict {
-    Pass,
-    Refuse(Refusal),
-}
-
-impl Verdict {
-    // 0, or the number of the refusal.
-    pub fn number(self) -> u32
-        ensures { result ≡ verdict_number self }
-    {
-        match self {
-            Verdict::Pass => 0,
-            Verdict::Refuse(refusal) => refusal.number(),
-        }
+// The number of what the checks of a call say: 0 to go on, or that of the first refusal that applies.
+pub fn verdict_number(v: Result<(), Refusal>) -> u32
+    ensures { result ≡ verdict_number v }
+{
+    match v {
+        Ok(()) => 0,
+        Err(refusal) => refusal.number(),
     }
 }
 
 // What a call cost: the sectors it stored, and the sum of the delays to their places.
-#[derive(Clone, Copy)]
+#[derive(Clone, Copy, Debug, PartialEq, Eq)]
 pub struct Cost {
     pub stores: u32,
     pub skipped: u32,
@@ -102,7 +82,7 @@ impl Cost {
 }
 
 // What a call answers.
-#[derive(Clone, Copy)]
+#[derive(Clone, Copy, Debug, PartialEq, Eq)]
 pub enum Answer {
     // Format, write, drop, read or park did its work.
     Accepted(Cost),
@@ -164,14 +144,7 @@ impl Answer {
     pub fn is_refusal(self) -> bool
         ensures { result ≡ is_refusal self }
     {
-        match self {
-            Answer::Accepted(_) => false,
-            Answer::Walked { read: _, cost: _ } => false,
-            Answer::Scanned { read: _, cost: _ } => false,
-            Answer::Refused(_) => true,
-            Answer::Lost(_) => false,
-            Answer::PowerFailed(_) => false,
-        }
+        matches!(self, Answer::Refused(_))
     }
 
     // What the call cost, each number by itself: a cost that is handed on whole goes through memory.

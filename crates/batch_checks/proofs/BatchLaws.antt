@@ -10,12 +10,11 @@ use native.Mathlib.Omega.{arith}
 use lib.ListN.{length}
 use lib.Dec.{eqb}
 use borrow.Author.Tests.{eq-eqb, ne_eqb, le-leb, lt-leb, not-true, not-false}
+use Rattle.std.specs.Prelude.{Result, Ok, Err, ⊤}
 use Rattle.geometry.specs.Geometry.{within}
 use Rattle.state.specs.declared.State.{State}
 use Rattle.answer.specs.declared.Refusal.{Refusal}
 use Rattle.answer.specs.declared.Refusal.TheVariants.{CommitCount}
-use Rattle.answer.specs.declared.Verdict.{Verdict}
-use Rattle.answer.specs.declared.Verdict.TheVariants.{Pass, Refuse}
 use Rattle.answer.specs.Answer.{lengths}
 use Rattle.layout.specs.Bounded.{sum_below}
 use Rattle.volume.specs.Refusals.{applies, first_of, judged}
@@ -55,62 +54,22 @@ module _ (f : ℕ → ℕ) where
       ⊎_elim (λ (z : left ≡ 0). eq-eqb left 0 z ∙ sym (eq-eqb (sum_below f n) total (omega arith)))
       (λ (z : left ≡ 0 → ⊥). ne_eqb left 0 z ∙ sym (ne_eqb (sum_below f n) total (λ (y : sum_below f n ≡ total). z (omega arith)))) (eq? left 0)
 
--- Five words a commit.
-pub odd_answers : (answers commits : ℕ) → (answers % 5 ≡ 0 → ⊥) → false ≡ eqb answers (5 * commits)
-odd_answers answers commits d = sym (ne_eqb answers (5 * commits) (λ (e : answers ≡ 5 * commits). d (omega arith)))
-
-pub whole_answers : (answers commits : ℕ) → answers % 5 ≡ 0 → eqb (answers / 5) commits ≡ eqb answers (5 * commits)
-whole_answers answers commits e =
-    let m = div-add-mod answers 5 in
-    ⊎_elim (λ (z : answers / 5 ≡ commits). eq-eqb (answers / 5) commits z ∙ sym (eq-eqb answers (5 * commits) (omega arith)))
-    (λ (z : answers / 5 ≡ commits → ⊥). ne_eqb (answers / 5) commits z ∙ sym (ne_eqb answers (5 * commits) (λ (y : answers ≡ 5 * commits). z (omega arith))))
-    (eq? (answers / 5) commits)
-
--- The lengths of a batch's own buffers.
-module _ (words : List ℕ) (blocks bytes answers : ℕ) where
-  pub words_odd : (length words % 4 ≡ 0 → ⊥) → false ≡ batch_fits words blocks bytes answers
-  unfolding batch_fits
-  words_odd d = rw (ne_eqb (length words % 4) 0 d) refl
-
-  module _ (e0 : length words % 4 ≡ 0) (b1 : Bool) (f1 : b1 ≡ eqb (sum_below (blocks_of words) (commits_lent words)) blocks) where
-    pub blocks_odd : not b1 ≡ true → false ≡ batch_fits words blocks bytes answers
-    unfolding batch_fits
-    blocks_odd e = rw (eq-eqb (length words % 4) 0 e0, sym f1 ∙ not-true b1 e) refl
-
-    module _ (e1 : not b1 ≡ false) (b2 : Bool) (f2 : b2 ≡ eqb (sum_below (bytes_of words) (commits_lent words)) bytes) where
-      pub bytes_odd : not b2 ≡ true → false ≡ batch_fits words blocks bytes answers
-      unfolding batch_fits
-      bytes_odd e = rw (eq-eqb (length words % 4) 0 e0, sym f1 ∙ not-false b1 e1, sym f2 ∙ not-true b2 e) refl
-
-      pub answers_decide : not b2 ≡ false → (b3 : Bool) → b3 ≡ eqb answers (5 * commits_lent words) → b3 ≡ batch_fits words blocks bytes answers
-      unfolding batch_fits
-      answers_decide e b3 f3 = rw (eq-eqb (length words % 4) 0 e0, sym f1 ∙ not-false b1 e1, sym f2 ∙ not-false b2 e) f3
-
 -- Refusal 12.
-abbrev pub counted : ℕ → Verdict
-counted commits = cond (within 1 32 commits) Pass (Refuse CommitCount)
-
-pub count_low : (commits : ℕ) → commits < 1 → Refuse CommitCount ≡ counted commits
-count_low commits h = rw (lt-leb 1 commits h) refl
-
-pub count_high : (commits : ℕ) → 1 ≤ commits → 32 < commits → Refuse CommitCount ≡ counted commits
-count_high commits h g = rw (le-leb 1 commits h, lt-leb commits 32 g) refl
-
-pub count_fits : (commits : ℕ) → 1 ≤ commits → commits ≤ 32 → Pass ≡ counted commits
-count_fits commits h g = rw (le-leb 1 commits h, le-leb commits 32 g) refl
+abbrev pub counted : ℕ → Result ⊤ Refusal
+counted commits = cond (within 1 32 commits) (Ok tt) (Err CommitCount)
 
 -- All together: the verdict on the lengths is v.
 module _ (s : State) (image map places numbers used : ℕ) (words : List ℕ) (blocks bytes answers : ℕ) (fit : Bool)
-    (ff : fit ≡ batch_fits words blocks bytes answers) (v : Verdict)
+    (ff : fit ≡ batch_fits words blocks bytes answers) (v : Result ⊤ Refusal)
     (f : v ≡ first_of lengths (state_checks s (lent image map places numbers used) fit)) where
-  abbrev verdict : Verdict
+  abbrev verdict : Result ⊤ Refusal
   verdict = judged (batch_checks s (lent image map places numbers used) words blocks bytes answers)
 
   by_lengths : v ≡ first_of lengths (batch_checks s (lent image map places numbers used) words blocks bytes answers)
   unfolding batch_checks first_of applies
   by_lengths = rw (← ff) f
 
-  pub whole_refused : (r : Refusal) → v ≡ Refuse r → Refuse r ≡ verdict
+  pub whole_refused : (r : Refusal) → v ≡ Err r → Err r ≡ verdict
   whole_refused r e = lengths_refused _ r (sym e ∙ by_lengths)
 
   count_decides : counted (commits_lent words) ≡ first_of later (batch_checks s (lent image map places numbers used) words blocks bytes answers)
@@ -119,5 +78,5 @@ module _ (s : State) (image map places numbers used : ℕ) (words : List ℕ) (b
       ⊎_elim (λ (z : within 1 32 (commits_lent words) ≡ true). rw z refl) (λ (z : within 1 32 (commits_lent words) ≡ false). rw z refl)
       (bool? (within 1 32 (commits_lent words)))
 
-  pub whole_passed : v ≡ Pass → (w : Verdict) → w ≡ counted (commits_lent words) → w ≡ verdict
+  pub whole_passed : v ≡ Ok tt → (w : Result ⊤ Refusal) → w ≡ counted (commits_lent words) → w ≡ verdict
   whole_passed e w k = lengths_passed _ w (sym e ∙ by_lengths) (k ∙ count_decides)

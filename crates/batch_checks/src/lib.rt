@@ -1,16 +1,15 @@
 // The refusals of a batch as a whole: 1, 11, 2 and 12.
 #![tactic(auto)]
 
-ghost use Rattle.std.specs.Prelude.{◌≡◌, cond, ◌+◌, ◌*◌, ◌/◌, ◌<◌, length, eqb};
+ghost use Rattle.std.specs.Prelude.{◌≡◌, cond, ◌+◌, ◌*◌, ◌/◌, ◌<◌, length, eqb, Ok, Err};
 ghost use Rattle.geometry.specs.Geometry.{within};
 ghost use Rattle.layout.specs.Bounded.{at, sum_below};
 ghost use Rattle.answer.specs.declared.Refusal.TheVariants.{CommitCount};
-ghost use Rattle.answer.specs.declared.Verdict.TheVariants.{Pass, Refuse};
 ghost use Rattle.volume.specs.Refusals.{judged};
 ghost use Rattle.batches.specs.Batch.{batch_commits, commit_words, answer_words, batch_fits, batch_checks};
 ghost use Rattle.checks.specs.Left.{lent};
 
-use answer::{Refusal, Verdict};
+use answer::Refusal;
 use state::State;
 
 // Words of a commit as it is lent, and of its answer.
@@ -28,14 +27,12 @@ fn adds_up(words: &[u32], place: usize, total: usize) -> bool
 {
     let commits = words.len() / COMMIT_WORDS;
     let mut left = total;
-    let mut i = 0;
-    while i < commits {
+    for i in 0..commits {
         let own = words[COMMIT_WORDS * i + place] as usize;
         if left < own {
             return false;
         }
         left -= own;
-        i += 1;
     }
     left == 0
 }
@@ -44,39 +41,28 @@ fn adds_up(words: &[u32], place: usize, total: usize) -> bool
 fn answers_fit(answers: usize, commits: usize) -> bool
     ensures { result ≡ eqb answers (answer_words * commits) }
 {
-    if answers % ANSWER_WORDS != 0 {
-        return false;
-    }
-    answers / ANSWER_WORDS == commits
+    answers % ANSWER_WORDS == 0 && answers / ANSWER_WORDS == commits
 }
 
 // Refusal 2: whole commits, whose counts add up to the block numbers and bytes that are lent, and just the room for their answers.
+#[tactic(auto, unfolding(batches::specs::Batch::batch_fits))]
 fn buffers_fit(words: &[u32], blocks: usize, bytes: usize, answers: usize) -> bool
     ensures { result ≡ batch_fits words.now blocks bytes answers }
 {
-    if words.len() % COMMIT_WORDS != 0 {
-        return false;
-    }
-    if !adds_up(words, 2, blocks) {
-        return false;
-    }
-    if !adds_up(words, 3, bytes) {
-        return false;
-    }
-    answers_fit(answers, words.len() / COMMIT_WORDS)
+    words.len() % COMMIT_WORDS == 0
+        && adds_up(words, 2, blocks)
+        && adds_up(words, 3, bytes)
+        && answers_fit(answers, words.len() / COMMIT_WORDS)
 }
 
 // Refusal 12: no commit, or more than 32.
-fn count_verdict(commits: usize) -> Verdict
-    ensures { result ≡ cond (within 1 batch_commits commits) Pass (Refuse CommitCount) }
+fn count_verdict(commits: usize) -> Result<(), Refusal>
+    ensures { result ≡ cond (within 1 batch_commits commits) (Ok tt) (Err CommitCount) }
 {
-    if commits < 1 {
-        return Verdict::Refuse(Refusal::CommitCount);
+    if !(1..=MOST_COMMITS).contains(&commits) {
+        return Err(Refusal::CommitCount);
     }
-    if MOST_COMMITS < commits {
-        return Verdict::Refuse(Refusal::CommitCount);
-    }
-    Verdict::Pass
+    Ok(())
 }
 
 // The refusals of a batch as a whole, in their order, by the lengths of what is lent.
@@ -91,13 +77,10 @@ pub fn batch_verdict(
     blocks: usize,
     bytes: usize,
     answers: usize,
-) -> Verdict
+) -> Result<(), Refusal>
     ensures { result ≡ judged (batch_checks s (lent image map places numbers used) words.now blocks bytes answers) }
 {
     let fit = buffers_fit(words, blocks, bytes, answers);
-    let lengths = checks::state_verdict(s, image, map, places, numbers, used, fit);
-    match lengths {
-        Verdict::Refuse(refusal) => Verdict::Refuse(refusal),
-        Verdict::Pass => count_verdict(words.len() / COMMIT_WORDS),
-    }
+    checks::state_verdict(s, image, map, places, numbers, used, fit)?;
+    count_verdict(words.len() / COMMIT_WORDS)
 }

@@ -1,10 +1,9 @@
 -- Document 02, point 3, "A morning's backlog in one call": a batch of commits.
-use Rattle.std.specs.Prelude.{ℕ, ◌+◌, ◌*◌, ◌-◌, ◌/◌, ◌%◌, Bool, true, cond, not, ◌&&◌, List, [], ◌∷◌, ◌++◌, length, take, drop, eqb}
+use Rattle.std.specs.Prelude.{ℕ, ◌+◌, ◌*◌, ◌-◌, ◌/◌, ◌%◌, Bool, true, cond, not, ◌&&◌, List, [], ◌∷◌, ◌++◌, length, take, drop, eqb, Result, Ok, Err, ⊤}
 use Rattle.geometry.specs.Geometry.{within}
+use Rattle.answer.specs.declared.Refusal.{Refusal}
 use Rattle.answer.specs.declared.Cost.{Cost}
 use Rattle.answer.specs.declared.Refusal.TheVariants.{BlockNumbers, CommitCount}
-use Rattle.answer.specs.declared.Verdict.{Verdict}
-use Rattle.answer.specs.declared.Verdict.TheVariants.{Pass, Refuse}
 use Rattle.answer.specs.Answer.{number_of, cost_of, stores_alone}
 use Rattle.state.specs.declared.State.{State}
 use Rattle.state.specs.declared.Outcome.{Outcome}
@@ -129,16 +128,16 @@ pub record BatchAfter : Type 0 where
 abbrev pub batch_done : Answered → List ℕ → BatchAfter
 batch_done r answers =
     record {
-      outcome = record { verdict = Pass; answered = length r.outcomes; cost = total_cost r.outcomes; state = r.state };
+      outcome = record { verdict = Ok tt; answered = length r.outcomes; cost = total_cost r.outcomes; state = r.state };
       memory = r.memory;
       answers = answers_with r.outcomes answers;
     }
 
-abbrev pub batch_judged : Verdict → State → Memory → Answered → List ℕ → BatchAfter
-batch_judged Pass s m done answers = batch_done done answers
-batch_judged (Refuse r) s m done answers =
+abbrev pub batch_judged : Result ⊤ Refusal → State → Memory → Answered → List ℕ → BatchAfter
+batch_judged (Ok u) s m done answers = batch_done done answers
+batch_judged (Err r) s m done answers =
     record {
-      outcome = record { verdict = Refuse r; answered = 0; cost = stores_alone 0; state = s };
+      outcome = record { verdict = Err r; answered = 0; cost = stores_alone 0; state = s };
       memory = m;
       answers = answers;
     }

@@ -9,10 +9,10 @@ use native.Mathlib.Omega.{arith}
 use lib.ListN.{length}
 use lib.Dec.{eqb}
 use borrow.Author.Tests.{eqb-true, eq-eqb, not-true, not-false}
+use Rattle.std.specs.Prelude.{Ok, Err}
 use Rattle.geometry.specs.declared.Geometry.{Geometry}
 use Rattle.geometry.specs.declared.Settings.{Settings}
 use Rattle.answer.specs.declared.Refusal.TheVariants.{Size, WrongSettings, BufferLength}
-use Rattle.answer.specs.declared.Verdict.TheVariants.{Pass, Refuse}
 use Rattle.geometry.specs.Geometry.{pieces_for, used_bytes, geometry_of, geometry_fits, drive_fits}
 use Rattle.layout.specs.Bounded.{is_zero}
 use Rattle.volume.specs.Tables.{memory}
@@ -23,19 +23,8 @@ use Rattle.laws.proofs.Sizes.{Fits, fits, tables_fit_lem}
 use Rattle.laws.proofs.Judged.{cleared}
 use Rattle.checks.specs.Left.{lent}
 
--- The image's length.
-pub too_many : (image : ℕ) (settings : Settings) → image % 512 ≡ 0 → 65536 < image / 512 → false ≡ (is_zero (image % 512) && geometry_fits (geometry_of (image / 512) settings))
-too_many image settings e h =
-    ⊎_elim (λ (z : geometry_fits (geometry_of (image / 512) settings) ≡ true). let f = (fits (geometry_of (image / 512) settings) z).sectors in absurd (omega arith))
-    (λ (z : geometry_fits (geometry_of (image / 512) settings) ≡ false). rw (eq-eqb (image % 512) 0 e, z) refl)
-    (bool? (geometry_fits (geometry_of (image / 512) settings)))
-
-pub whole_sectors : (image : ℕ) (settings : Settings) (g : Geometry) (b : Bool) → image % 512 ≡ 0 → g ≡ geometry_of (image / 512) settings
-    → b ≡ geometry_fits g → b ≡ (is_zero (image % 512) && geometry_fits (geometry_of (image / 512) settings))
-whole_sectors image settings g b e q f = f ∙ ap (λ (x : Geometry). geometry_fits x) q ∙ rw (eq-eqb (image % 512) 0 e) refl
-
 module _ (settings : Settings) (image map places numbers used : ℕ) (b1 : Bool) (f1 : b1 ≡ (is_zero (image % 512) && geometry_fits (geometry_of (image / 512) settings))) where
-  pub size_refused : not b1 ≡ true → Refuse Size ≡ judged (size_checks (lent image map places numbers used) settings)
+  pub size_refused : not b1 ≡ true → Err Size ≡ judged (size_checks (lent image map places numbers used) settings)
   unfolding judged first_of applies size_checks image_fits
   size_refused e = rw (sym f1 ∙ not-true b1 e) refl
 
@@ -46,7 +35,7 @@ module _ (settings : Settings) (image map places numbers used : ℕ) (b1 : Bool)
     settings_are : bd ≡ drive_fits (image / 512) settings.drive
     settings_are = fd ∙ ap (λ (x : Geometry). drive_fits x.n settings.drive) q
 
-    pub settings_refused : not bd ≡ true → Refuse WrongSettings ≡ judged (size_checks (lent image map places numbers used) settings)
+    pub settings_refused : not bd ≡ true → Err WrongSettings ≡ judged (size_checks (lent image map places numbers used) settings)
     unfolding judged first_of applies size_checks image_fits
     settings_refused e = rw (sym f1 ∙ not-false b1 e1, sym settings_are ∙ not-true bd e) refl
 
@@ -56,11 +45,11 @@ module _ (settings : Settings) (image map places numbers used : ℕ) (b1 : Bool)
       unfolding tables_fit
       lengths_are = f2 ∙ ap (tables_fit (lent image map places numbers used)) q
 
-      pub lengths_refused : not b2 ≡ true → Refuse BufferLength ≡ judged (size_checks (lent image map places numbers used) settings)
+      pub lengths_refused : not b2 ≡ true → Err BufferLength ≡ judged (size_checks (lent image map places numbers used) settings)
       unfolding judged first_of applies size_checks image_fits
       lengths_refused e = rw (sym f1 ∙ not-false b1 e1, sym settings_are ∙ not-false bd ed, sym lengths_are ∙ not-true b2 e) refl
 
-      pub size_passes : not b2 ≡ false → Pass ≡ judged (size_checks (lent image map places numbers used) settings)
+      pub size_passes : not b2 ≡ false → Ok tt ≡ judged (size_checks (lent image map places numbers used) settings)
       unfolding judged first_of applies size_checks image_fits
       size_passes e = rw (sym f1 ∙ not-false b1 e1, sym settings_are ∙ not-false bd ed, sym lengths_are ∙ not-false b2 e) refl
 
@@ -79,7 +68,7 @@ pub record Lengths (im mp pl nu us : List ℕ) (g : Geometry) : Type 0 where
   pub numbers : length nu ≡ pieces_for g.l
   pub used : length us ≡ used_bytes g.n
 
-pub size_passed : (im mp pl nu us : List ℕ) (settings : Settings) → Pass ≡ judged (size_checks (memory im mp pl nu us) settings)
+pub size_passed : (im mp pl nu us : List ℕ) (settings : Settings) → Ok tt ≡ judged (size_checks (memory im mp pl nu us) settings)
     → Lengths im mp pl nu us (geometry_of (length im / 512) settings)
 unfolding size_checks image_fits memory applies
 size_passed im mp pl nu us settings e =
@@ -99,15 +88,15 @@ size_passed im mp pl nu us settings e =
 
 -- The same of the volume as the code has it.
 pub volume_passed : (im mp pl nu us : List ℕ) (settings : Settings) (g : Geometry) → g ≡ geometry_of (length im / 512) settings
-    → Pass ≡ judged (size_checks (memory im mp pl nu us) settings) → Lengths im mp pl nu us g
+    → Ok tt ≡ judged (size_checks (memory im mp pl nu us) settings) → Lengths im mp pl nu us g
 volume_passed im mp pl nu us settings g q e = subst (λ (x : Geometry). Lengths im mp pl nu us x) (sym q) (size_passed im mp pl nu us settings e)
 
-pub size_range : (im mp pl nu us : List ℕ) (settings : Settings) → Pass ≡ judged (size_checks (memory im mp pl nu us) settings) → geometry_fits (geometry_of (length im / 512) settings) ≡ true
+pub size_range : (im mp pl nu us : List ℕ) (settings : Settings) → Ok tt ≡ judged (size_checks (memory im mp pl nu us) settings) → geometry_fits (geometry_of (length im / 512) settings) ≡ true
 unfolding size_checks image_fits memory applies
 size_range im mp pl nu us settings e =
     and_r (is_zero (length im % 512)) (geometry_fits (geometry_of (length im / 512) settings))
     (not-false (is_zero (length im % 512) && geometry_fits (geometry_of (length im / 512) settings)) (cleared Size _ (sym e)))
 
 pub volume_range : (im mp pl nu us : List ℕ) (settings : Settings) (g : Geometry) → g ≡ geometry_of (length im / 512) settings
-    → Pass ≡ judged (size_checks (memory im mp pl nu us) settings) → geometry_fits g ≡ true
+    → Ok tt ≡ judged (size_checks (memory im mp pl nu us) settings) → geometry_fits g ≡ true
 volume_range im mp pl nu us settings g q e = ap (λ (x : Geometry). geometry_fits x) q ∙ size_range im mp pl nu us settings e

@@ -6,12 +6,11 @@ use mathlib.Core.List.{List, ◌++◌}
 use lib.ListN.{length}
 use lib.Dec.{eqb}
 use borrow.Author.Tests.{not-true, not-false}
+use Rattle.std.specs.Prelude.{Result, Ok, Err, ⊤}
 use Rattle.geometry.specs.Geometry.{pieces_for, used_bytes, geometry_fits, drive_fits}
 use Rattle.state.specs.declared.State.{State}
 use Rattle.answer.specs.declared.Refusal.{Refusal}
 use Rattle.answer.specs.declared.Refusal.TheVariants.{Size, WrongSettings, BufferLength}
-use Rattle.answer.specs.declared.Verdict.{Verdict}
-use Rattle.answer.specs.declared.Verdict.TheVariants.{Pass, Refuse}
 use Rattle.answer.specs.Answer.{lengths}
 use Rattle.volume.specs.Tables.{memory}
 use Rattle.volume.specs.Refusals.{Check, applies, first_of, judged}
@@ -22,35 +21,35 @@ use Rattle.laws.proofs.Judged.{is_in, first_clear, later, lengths_refused, lengt
 use Rattle.checks.specs.Left.{lent}
 
 module _ (s : State) (image map places numbers used : ℕ) (own : Bool) (b1 : Bool) (f1 : b1 ≡ (eqb image (512 * s.geometry.n) && geometry_fits s.geometry)) where
-  abbrev verdict : Verdict
+  abbrev verdict : Result ⊤ Refusal
   verdict = first_of lengths (state_checks s (lent image map places numbers used) own)
 
-  pub state_refused : not b1 ≡ true → Refuse Size ≡ verdict
+  pub state_refused : not b1 ≡ true → Err Size ≡ verdict
   unfolding state_fits first_of applies
   state_refused e = rw (sym f1 ∙ not-true b1 e) refl
 
   module _ (e1 : not b1 ≡ false) (bd : Bool) (fd : bd ≡ drive_fits s.geometry.n s.drive) where
-    pub settings_refused : not bd ≡ true → Refuse WrongSettings ≡ verdict
+    pub settings_refused : not bd ≡ true → Err WrongSettings ≡ verdict
     unfolding state_fits first_of applies
     settings_refused e = rw (sym f1 ∙ not-false b1 e1, sym fd ∙ not-true bd e) refl
 
     module _ (ed : not bd ≡ false) (b2 : Bool)
         (f2 : b2 ≡ (eqb map s.geometry.l && eqb places (pieces_for s.geometry.l) && eqb numbers (pieces_for s.geometry.l) && eqb used (used_bytes s.geometry.n))) where
-      pub tables_refused : not b2 ≡ true → Refuse BufferLength ≡ verdict
+      pub tables_refused : not b2 ≡ true → Err BufferLength ≡ verdict
       unfolding state_fits tables_fit first_of applies
       tables_refused e = rw (sym f1 ∙ not-false b1 e1, sym fd ∙ not-false bd ed, sym f2 ∙ not-true b2 e) refl
 
       module _ (e2 : not b2 ≡ false) where
-        pub own_refused : not own ≡ true → Refuse BufferLength ≡ verdict
+        pub own_refused : not own ≡ true → Err BufferLength ≡ verdict
         unfolding state_fits tables_fit first_of applies
         own_refused e = rw (sym f1 ∙ not-false b1 e1, sym fd ∙ not-false bd ed, sym f2 ∙ not-false b2 e2, not-true own e) refl
 
-        pub lengths_fit : not own ≡ false → Pass ≡ verdict
+        pub lengths_fit : not own ≡ false → Ok tt ≡ verdict
         unfolding state_fits tables_fit first_of applies
         lengths_fit e = rw (sym f1 ∙ not-false b1 e1, sym fd ∙ not-false bd ed, sym f2 ∙ not-false b2 e2, not-false own e) refl
 
 -- A call that begins with these: they refuse it, or the rest decides.
-module _ (s : State) (im mp pl nu us : List ℕ) (own : Bool) (rest : List Check) (v : Verdict)
+module _ (s : State) (im mp pl nu us : List ℕ) (own : Bool) (rest : List Check) (v : Result ⊤ Refusal)
     (f : v ≡ first_of lengths (state_checks s (lent (length im) (length mp) (length pl) (length nu) (length us)) own)) where
   abbrev checks : List Check
   checks = state_checks s (memory im mp pl nu us) own ++ rest
@@ -59,11 +58,11 @@ module _ (s : State) (im mp pl nu us : List ℕ) (own : Bool) (rest : List Check
   unfolding state_fits tables_fit memory first_of applies
   by_lengths = f
 
-  pub refused_by_lengths : (r : Refusal) → v ≡ Refuse r → Refuse r ≡ judged checks
+  pub refused_by_lengths : (r : Refusal) → v ≡ Err r → Err r ≡ judged checks
   refused_by_lengths r e = lengths_refused checks r (sym e ∙ by_lengths)
 
-  module _ (e : v ≡ Pass) where
-    pub passed_by_lengths : (w : Verdict) → w ≡ first_of later checks → w ≡ judged checks
+  module _ (e : v ≡ Ok tt) where
+    pub passed_by_lengths : (w : Result ⊤ Refusal) → w ≡ first_of later checks → w ≡ judged checks
     passed_by_lengths w k = lengths_passed checks w (sym e ∙ by_lengths) k
 
     clear : (r : Refusal) → is_in r lengths ≡ true → applies r checks ≡ false

@@ -10,7 +10,7 @@ ghost use Rattle.volume.specs.Format.{size_checks};
 ghost use Rattle.volume.specs.Calls.{state_checks};
 ghost use Rattle.checks.specs.Left.{lent};
 
-use answer::{Refusal, Verdict};
+use answer::Refusal;
 use geometry::{Geometry, Settings};
 use state::State;
 
@@ -19,10 +19,7 @@ fn state_fits(s: State, image: usize) -> bool
     ensures { result ≡ (eqb image (sector_bytes * s.geometry.n) && geometry_fits s.geometry) }
 {
     let g = s.geometry;
-    if image != Geometry::SECTOR * (g.n as usize) {
-        return false;
-    }
-    g.fits()
+    image == Geometry::SECTOR * (g.n as usize) && g.fits()
 }
 
 // Refusal 2: the tables have their lengths.
@@ -30,16 +27,10 @@ fn tables_fit(g: Geometry, map: usize, places: usize, numbers: usize, used: usiz
     ensures { result ≡ (eqb map g.l && eqb places (pieces_for g.l) && eqb numbers (pieces_for g.l) && eqb used (used_bytes g.n)) }
 {
     let pieces = Geometry::pieces_for(g.l) as usize;
-    if map != g.l as usize {
-        return false;
-    }
-    if places != pieces {
-        return false;
-    }
-    if numbers != pieces {
-        return false;
-    }
-    used == g.used_bytes() as usize
+    map == g.l as usize
+        && places == pieces
+        && numbers == pieces
+        && used == g.used_bytes() as usize
 }
 
 // The refusals that every call on a state begins with, by the lengths of what is lent; own says so of the call's own buffer.
@@ -51,39 +42,34 @@ pub fn state_verdict(
     numbers: usize,
     used: usize,
     own: bool,
-) -> Verdict
+) -> Result<(), Refusal>
     ensures { result ≡ first_of lengths (state_checks s (lent image map places numbers used) own) }
 {
     if !state_fits(s, image) {
-        return Verdict::Refuse(Refusal::Size);
+        return Err(Refusal::Size);
     }
     let g = s.geometry;
     let drive = s.drive;
     if !drive.fits(g.n) {
-        return Verdict::Refuse(Refusal::WrongSettings);
+        return Err(Refusal::WrongSettings);
     }
     if !tables_fit(g, map, places, numbers, used) {
-        return Verdict::Refuse(Refusal::BufferLength);
+        return Err(Refusal::BufferLength);
     }
     if !own {
-        return Verdict::Refuse(Refusal::BufferLength);
+        return Err(Refusal::BufferLength);
     }
-    Verdict::Pass
+    Ok(())
 }
 
 // The image is whole sectors, and their number and what is given are in range.
 fn image_fits(image: usize, settings: Settings) -> bool
     ensures { result ≡ (is_zero (image % sector_bytes) && geometry_fits (geometry_of (image / sector_bytes) settings)) }
 {
-    if image % Geometry::SECTOR != 0 {
-        return false;
-    }
     let sectors = image / Geometry::SECTOR;
-    if (Geometry::MOST_SECTORS as usize) < sectors {
-        return false;
-    }
-    let g = settings.volume(sectors as u32);
-    g.fits()
+    image % Geometry::SECTOR == 0
+        && sectors <= Geometry::MOST_SECTORS as usize
+        && settings.volume(sectors as u32).fits()
 }
 
 // The refusals of format and recover, by the lengths of what is lent.
@@ -94,19 +80,19 @@ pub fn size_verdict(
     places: usize,
     numbers: usize,
     used: usize,
-) -> Verdict
+) -> Result<(), Refusal>
     ensures { result ≡ judged (size_checks (lent image map places numbers used) settings) }
 {
     if !image_fits(image, settings) {
-        return Verdict::Refuse(Refusal::Size);
+        return Err(Refusal::Size);
     }
     let g = settings.volume((image / Geometry::SECTOR) as u32);
     let drive = settings.drive;
     if !drive.fits(g.n) {
-        return Verdict::Refuse(Refusal::WrongSettings);
+        return Err(Refusal::WrongSettings);
     }
     if !tables_fit(g, map, places, numbers, used) {
-        return Verdict::Refuse(Refusal::BufferLength);
+        return Err(Refusal::BufferLength);
     }
-    Verdict::Pass
+    Ok(())
 }

@@ -1,33 +1,28 @@
 // The format call: zeros in every sector, then a fresh map.
 #![tactic(auto)]
 
-ghost use Rattle.std.specs.Prelude.{◌≡◌, ◌*◌, ◌/◌, ◌≤◌, ◌<◌, length, take};
+ghost use Rattle.std.specs.Prelude.{◌≡◌, ◌*◌, ◌/◌, ◌≤◌, ◌<◌, length, take, Ok};
 ghost use Rattle.geometry.specs.Geometry.{sector_bytes, pieces_for, geometry_of, most_pieces};
 ghost use Rattle.volume.specs.Tables.{sector_at, memory};
 ghost use Rattle.volume.specs.Refusals.{judged};
 ghost use Rattle.volume.specs.Store.{applied, after, performed};
 ghost use Rattle.volume.specs.Format.{format_stores, format_action, size_checks, format_of};
 ghost use Rattle.power.specs.Power.{powered};
-ghost use Rattle.answer.specs.declared.Verdict.TheVariants.{Pass};
 
-use answer::{Answer, Verdict};
+use answer::Answer;
 use geometry::{Geometry, Settings};
-use power::allowance::Power;
 use state::{Outcome, State};
 
 // All stores of a format, in order, under the allowance.
-fn store_all(image: &mut [u8], g: Geometry, pieces: u32, allowance: u32) -> Power
+fn store_all(image: &mut [u8], g: Geometry, pieces: u32, allowance: u32) -> Option<u32>
     requires pieces_value { pieces ≡ pieces_for g.l }
     requires pieces_le_most_pieces { pieces ≤ most_pieces }
     requires pieces_lt_n { pieces < g.n }
     requires image_len { length image.old ≡ sector_bytes * g.n }
     ensures { (result ≡ powered (length (format_stores g)) allowance) × (sector_at image.new ≡ applied (take allowance (format_stores g)) (sector_at image.old)) }
 {
-    let blanked = fresh::blank_sectors(image, g.n, allowance);
-    match blanked {
-        Power::Failed => Power::Failed,
-        Power::Left(left) => fresh::store_pieces(image, g.l, pieces, left),
-    }
+    let left = fresh::blank_sectors(image, g.n, allowance)?;
+    fresh::store_pieces(image, g.l, pieces, left)
 }
 
 // A format that no refusal stops.
@@ -40,21 +35,21 @@ fn make(
     settings: Settings,
     allowance: u32,
 ) -> Outcome
-    requires { Pass ≡ judged (size_checks (memory image.old map.old places.old numbers.old used.old) settings) }
+    requires { Ok tt ≡ judged (size_checks (memory image.old map.old places.old numbers.old used.old) settings) }
     ensures { after result (memory image.new map.new places.new numbers.new used.new) ≡ performed allowance (format_action (geometry_of (length image.old / sector_bytes) settings) settings.drive) (memory image.old map.old places.old numbers.old used.old) }
 {
     let g = settings.volume((image.len() / Geometry::SECTOR) as u32);
     let pieces = Geometry::pieces_for(g.l);
     let power = store_all(image, g, pieces, allowance);
     match power {
-        Power::Failed => {
+        None => {
             lent::zero_tables(map, places, numbers, used);
             Outcome {
                 answer: Answer::power_failed(allowance),
                 state: State::lost(g, settings.drive),
             }
         }
-        Power::Left(left) => {
+        Some(left) => {
             lent::fresh_tables(map, places, numbers, used, g.l, pieces);
             let stores = allowance - left;
             Outcome {
@@ -87,10 +82,10 @@ pub fn format(
         used.len(),
     );
     match verdict {
-        Verdict::Refuse(refusal) => Outcome {
+        Err(refusal) => Outcome {
             answer: Answer::Refused(refusal),
             state: s,
         },
-        Verdict::Pass => make(image, map, places, numbers, used, settings, allowance),
+        Ok(()) => make(image, map, places, numbers, used, settings, allowance),
     }
 }

@@ -7,14 +7,13 @@ use native.Mathlib.Numerals.{add-one}
 use lib.ListN.{length, take, replicate}
 use lib.Dec.{eqb}
 use borrow.Author.Tests.{eq-eqb, ne_eqb}
+use Rattle.std.specs.Prelude.{Option, Some, None, Result, Ok, Err, ⊤}
 use Rattle.geometry.specs.declared.Geometry.{Geometry}
 use Rattle.geometry.specs.declared.Settings.{Settings}
 use Rattle.state.specs.declared.State.{State}
 use Rattle.answer.specs.declared.Refusal.{Refusal}
 use Rattle.answer.specs.declared.Answer.{Answer}
 use Rattle.answer.specs.declared.Answer.TheVariants.{Accepted, Refused, PowerFailed}
-use Rattle.answer.specs.declared.Verdict.{Verdict}
-use Rattle.answer.specs.declared.Verdict.TheVariants.{Pass, Refuse}
 use Rattle.geometry.specs.Geometry.{pieces_for, geometry_of}
 use Rattle.answer.specs.Answer.{stores_alone}
 use Rattle.state.specs.State.{fresh_state, lost_state}
@@ -26,8 +25,6 @@ use Rattle.volume.specs.Store.{applied, stores_below, After, after, performed, u
 use Rattle.volume.specs.Format.{blank_store, piece_store, format_stores, format_tables, format_action, volume_in, size_checks, format_of}
 use Rattle.laws.proofs.Stores.{below_length}
 use Rattle.piece_entries.proofs.EntryLaws.{piece_blank}
-use Rattle.power.specs.declared.allowance.Power.{Power}
-use Rattle.power.specs.declared.allowance.Power.TheVariants.{Left, Failed}
 use Rattle.power.specs.Power.{powered}
 use Rattle.power.proofs.Performing.{memory_left, call_cut, call_whole}
 use Rattle.power.proofs.Runs.{first_fails, second_runs}
@@ -54,15 +51,15 @@ module _ (g : Geometry) (allowance : ℕ) (before image : ℕ → List ℕ) wher
   blanks : length (stores_below always blank_store g.n) ≡ count_below always g.n
   blanks = below_length always blank_store g.n
 
-  pub format_fails : Failed ≡ powered (count_below always g.n) allowance → image ≡ applied (take allowance (stores_below always blank_store g.n)) before
-      → (Failed ≡ powered (length (format_stores g)) allowance) × (image ≡ applied (take allowance (format_stores g)) before)
+  pub format_fails : None ≡ powered (count_below always g.n) allowance → image ≡ applied (take allowance (stores_below always blank_store g.n)) before
+      → (None ≡ powered (length (format_stores g)) allowance) × (image ≡ applied (take allowance (format_stores g)) before)
   unfolding format_stores
   format_fails e i =
       first_fails (stores_below always blank_store g.n) (stores_below always (piece_store g.l) (pieces_for g.l)) before image allowance
       (e ∙ ap (λ (k : ℕ). powered k allowance) (sym blanks)) i
 
-pub format_runs : (g : Geometry) (pieces allowance : ℕ) (before image mid : ℕ → List ℕ) (left : ℕ) (p : Power) → pieces ≡ pieces_for g.l
-    → Left left ≡ powered (count_below always g.n) allowance → mid ≡ applied (take allowance (stores_below always blank_store g.n)) before
+pub format_runs : (g : Geometry) (pieces allowance : ℕ) (before image mid : ℕ → List ℕ) (left : ℕ) (p : Option ℕ) → pieces ≡ pieces_for g.l
+    → Some left ≡ powered (count_below always g.n) allowance → mid ≡ applied (take allowance (stores_below always blank_store g.n)) before
     → p ≡ powered (count_below always pieces) left → image ≡ applied (take left (stores_below always (piece_store g.l) pieces)) mid
     → (p ≡ powered (length (format_stores g)) allowance) × (image ≡ applied (take allowance (format_stores g)) before)
 unfolding format_stores
@@ -80,7 +77,7 @@ module _ (settings : Settings) (g : Geometry) (allowance : ℕ) (im mp pl nu us 
   asked_performed = ap (λ (x : Geometry). performed allowance (format_action x settings.drive) (memory im mp pl nu us)) asked
 
   pub format_cut_lem : (x : Answer) (s : State) → x ≡ PowerFailed (stores_alone allowance) → s ≡ lost_state g settings.drive
-      → Failed ≡ powered (length (format_stores g)) allowance → tables_of mp' pl' nu' us' ≡ zero_tables
+      → None ≡ powered (length (format_stores g)) allowance → tables_of mp' pl' nu' us' ≡ zero_tables
       → after (record { answer = x; state = s }) (memory im' mp' pl' nu' us') ≡ performed allowance (format_action (geometry_of (length im / 512) settings) settings.drive) (memory im mp pl nu us)
   unfolding format_action memory
   format_cut_lem x s p q e t =
@@ -89,7 +86,7 @@ module _ (settings : Settings) (g : Geometry) (allowance : ℕ) (im mp pl nu us 
       ∙ asked_performed
 
   pub format_whole : (x : Answer) (s : State) (pieces left : ℕ) → pieces ≡ pieces_for g.l → x ≡ Accepted (stores_alone (allowance - left)) → s ≡ fresh_state g settings.drive pieces pieces
-      → Left left ≡ powered (length (format_stores g)) allowance → tables_of mp' pl' nu' us' ≡ format_tables g.l
+      → Some left ≡ powered (length (format_stores g)) allowance → tables_of mp' pl' nu' us' ≡ format_tables g.l
       → after (record { answer = x; state = s }) (memory im' mp' pl' nu' us') ≡ performed allowance (format_action (geometry_of (length im / 512) settings) settings.drive) (memory im mp pl nu us)
   unfolding format_action memory
   format_whole x s pieces left k p q e t =
@@ -99,16 +96,16 @@ module _ (settings : Settings) (g : Geometry) (allowance : ℕ) (im mp pl nu us 
       ∙ asked_performed
 
 pub format_refused : (s : State) (im mp pl nu us : List ℕ) (settings : Settings) (allowance : ℕ) (r : Refusal)
-    → Refuse r ≡ judged (size_checks (memory im mp pl nu us) settings)
+    → Err r ≡ judged (size_checks (memory im mp pl nu us) settings)
     → after (record { answer = Refused r; state = s }) (memory im mp pl nu us) ≡ format_of s (memory im mp pl nu us) settings allowance
 unfolding format_of
 format_refused s im mp pl nu us settings allowance r e =
-    ap (λ (v : Verdict). unless_refused v s (memory im mp pl nu us) (performed allowance (format_action (volume_in (memory im mp pl nu us) settings) settings.drive) (memory im mp pl nu us))) e
+    ap (λ (v : Result ⊤ Refusal). unless_refused v s (memory im mp pl nu us) (performed allowance (format_action (volume_in (memory im mp pl nu us) settings) settings.drive) (memory im mp pl nu us))) e
 
 pub format_passed : (s : State) (im mp pl nu us : List ℕ) (settings : Settings) (allowance : ℕ) (r : After)
-    → Pass ≡ judged (size_checks (memory im mp pl nu us) settings)
+    → Ok tt ≡ judged (size_checks (memory im mp pl nu us) settings)
     → r ≡ performed allowance (format_action (geometry_of (length im / 512) settings) settings.drive) (memory im mp pl nu us)
     → r ≡ format_of s (memory im mp pl nu us) settings allowance
 unfolding format_of memory
 format_passed s im mp pl nu us settings allowance r e f =
-    f ∙ ap (λ (v : Verdict). unless_refused v s (memory im mp pl nu us) (performed allowance (format_action (volume_in (memory im mp pl nu us) settings) settings.drive) (memory im mp pl nu us))) e
+    f ∙ ap (λ (v : Result ⊤ Refusal). unless_refused v s (memory im mp pl nu us) (performed allowance (format_action (volume_in (memory im mp pl nu us) settings) settings.drive) (memory im mp pl nu us))) e

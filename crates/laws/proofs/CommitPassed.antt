@@ -9,10 +9,10 @@ use native.Mathlib.Omega.{arith}
 use lib.ListN.{length}
 use lib.Dec.{leb, ltb}
 use borrow.Author.Tests.{ltb-true, ltb-false, leb-true}
+use Rattle.std.specs.Prelude.{Ok}
 use Rattle.geometry.specs.declared.Geometry.{Geometry}
 use Rattle.state.specs.declared.State.{State}
 use Rattle.answer.specs.declared.Refusal.TheVariants.{Size, WrongSettings, BufferLength, BlockNumbers, WrongPhase, Inconsistent, NoRoom, NumbersUsedUp}
-use Rattle.answer.specs.declared.Verdict.TheVariants.{Pass}
 use Rattle.geometry.specs.Geometry.{within, drive_fits}
 use Rattle.state.specs.State.{is_running}
 use Rattle.layout.specs.Bounded.{at, all, all_below}
@@ -71,7 +71,7 @@ pub record CommitPassed (rules : Rules) (s : State) (m : Memory) (head : ℕ) (b
   pub numbers : s.number ≤ rules.greatest
 
 pub commit_passed : (rules : Rules) (s : State) (m : Memory) (head : ℕ) (blocks : List ℕ) (bytes_fit has_room : Bool)
-    → judged (commit_checks rules s m head blocks bytes_fit has_room) ≡ Pass → CommitPassed rules s m head blocks bytes_fit has_room
+    → judged (commit_checks rules s m head blocks bytes_fit has_room) ≡ Ok tt → CommitPassed rules s m head blocks bytes_fit has_room
 unfolding commit_checks applies
 commit_passed rules s m head blocks bytes_fit has_room e =
     let g = s.geometry in

@@ -7,6 +7,7 @@ use mathlib.Core.List.{List, [], ◌∷◌}
 use native.Mathlib.Omega.{arith}
 use lib.ListN.{length, take}
 use borrow.Author.Tests.{not-true, not-false, le-ltb}
+use Rattle.std.specs.Prelude.{Result, Ok, Err, ⊤, Option, Some, None}
 use Rattle.geometry.specs.declared.Geometry.{Geometry}
 use Rattle.state.specs.declared.State.{State}
 use Rattle.answer.specs.declared.Refusal.{Refusal}
@@ -14,8 +15,6 @@ use Rattle.answer.specs.Answer.{lengths, stores_alone}
 use Rattle.answer.specs.declared.Answer.{Answer}
 use Rattle.answer.specs.declared.Answer.TheVariants.{Accepted, Refused, PowerFailed}
 use Rattle.answer.specs.declared.Refusal.TheVariants.{Size, WrongPhase, Inconsistent}
-use Rattle.answer.specs.declared.Verdict.{Verdict}
-use Rattle.answer.specs.declared.Verdict.TheVariants.{Pass, Refuse}
 use Rattle.state.specs.State.{parked_state, cut_state, is_running}
 use Rattle.layout.specs.Bounded.{updated}
 use Rattle.layout.specs.ParkRecord.{park_record}
@@ -29,38 +28,36 @@ use Rattle.laws.proofs.Sizes.{fits, state_fits_lem, tables_fit_lem}
 use Rattle.laws.proofs.Judged.{cleared, later}
 use Rattle.checks.specs.Left.{lent}
 use Rattle.checks.proofs.StateLaws.{refused_by_lengths, passed_by_lengths, sizes_passed, tables_passed}
-use Rattle.power.specs.declared.allowance.Power.{Power}
-use Rattle.power.specs.declared.allowance.Power.TheVariants.{Left, Failed}
 use Rattle.power.specs.Power.{powered}
 use Rattle.power.proofs.Performing.{memory_left, call_cut, call_whole}
 use Rattle.park.specs.Park.{record_store}
 
 -- The verdict on the lengths is v.
-module _ (s : State) (im mp pl nu us : List ℕ) (v : Verdict)
+module _ (s : State) (im mp pl nu us : List ℕ) (v : Result ⊤ Refusal)
     (f : v ≡ first_of lengths (state_checks s (lent (length im) (length mp) (length pl) (length nu) (length us)) true)) where
-  abbrev verdict : Verdict
+  abbrev verdict : Result ⊤ Refusal
   verdict = judged (park_checks s (memory im mp pl nu us))
 
-  pub lengths_refused : (r : Refusal) → v ≡ Refuse r → Refuse r ≡ verdict
+  pub lengths_refused : (r : Refusal) → v ≡ Err r → Err r ≡ verdict
   unfolding park_checks
   lengths_refused r e = refused_by_lengths s im mp pl nu us true _ v f r e
 
-  module _ (e : v ≡ Pass) where
+  module _ (e : v ≡ Ok tt) where
     pub state_passed : state_fits s (memory im mp pl nu us) ≡ true
     state_passed = sizes_passed s im mp pl nu us true [] v f e
 
     pub lengths_passed : tables_fit (memory im mp pl nu us) s.geometry ≡ true
     lengths_passed = tables_passed s im mp pl nu us true [] v f e
 
-    then : (w : Verdict) → w ≡ first_of later (park_checks s (memory im mp pl nu us)) → w ≡ verdict
+    then : (w : Result ⊤ Refusal) → w ≡ first_of later (park_checks s (memory im mp pl nu us)) → w ≡ verdict
     unfolding park_checks
     then w k = passed_by_lengths s im mp pl nu us true _ v f e w k
 
-    pub phase_refused : is_running s.phase ≡ false → Refuse WrongPhase ≡ verdict
+    pub phase_refused : is_running s.phase ≡ false → Err WrongPhase ≡ verdict
     unfolding park_checks first_of applies
-    phase_refused e3 = then (Refuse WrongPhase) (rw e3 refl)
+    phase_refused e3 = then (Err WrongPhase) (rw e3 refl)
 
-    pub running_judged : (w : Verdict) → is_running s.phase ≡ true → w ≡ cond (tables_agree s (memory im mp pl nu us)) Pass (Refuse Inconsistent) → w ≡ verdict
+    pub running_judged : (w : Result ⊤ Refusal) → is_running s.phase ≡ true → w ≡ cond (tables_agree s (memory im mp pl nu us)) (Ok tt) (Err Inconsistent) → w ≡ verdict
     unfolding park_checks first_of applies
     running_judged w e3 k =
         ⊎_elim (λ (t : tables_agree s (memory im mp pl nu us) ≡ true). then w (k ∙ rw (e3, t) refl))
@@ -71,36 +68,32 @@ module _ (s : State) (im mp pl nu us : List ℕ) (v : Verdict)
 pub bits_enough : (im mp pl nu us : List ℕ) (g : Geometry) → tables_fit (memory im mp pl nu us) g ≡ true → g.n ≤ 8 * length us
 bits_enough im mp pl nu us g e = let u = (tables_fit_lem im mp pl nu us g e).used in omega arith
 
-pub tables_bad : (b t : Bool) → b ≡ t → not b ≡ true → Refuse Inconsistent ≡ cond t Pass (Refuse Inconsistent)
-tables_bad b t f e = rw (sym f ∙ not-true b e) refl
-
-pub tables_good : (b t : Bool) → b ≡ t → not b ≡ false → Pass ≡ cond t Pass (Refuse Inconsistent)
-tables_good b t f e = rw (sym f ∙ not-false b e) refl
-
 -- The store of the record, where it is allowed and where it is not.
 module _ (number tail allowance : ℕ) (before : ℕ → List ℕ) where
-  abbrev pub Stored : Power → (ℕ → List ℕ) → Type 0
+  abbrev pub Stored : Option ℕ → (ℕ → List ℕ) → Type 0
   Stored r image = (r ≡ powered 1 allowance) × (image ≡ applied (take allowance (record_store number tail ∷ [])) before)
 
 take_none : (n : ℕ) → ◌≡◌ {A = List Store} (take n []) []
 take_none zero = refl
 take_none (suc n) = refl
 
-pub store_fails : (number tail allowance : ℕ) (before : ℕ → List ℕ) → allowance ≡ 0 → Stored number tail allowance before Failed before
+pub store_fails : (number tail allowance : ℕ) (before : ℕ → List ℕ) (r : Option ℕ) → (1 ≤ allowance → ⊥) → r ≡ None → Stored number tail allowance before r before
 unfolding powered applied
-store_fails number tail allowance before f = rw f (refl, refl)
+store_fails number tail allowance before r f e =
+    let z : allowance ≡ 0 = omega arith in
+    rw z (e, refl)
 
-pub store_made : (number tail allowance : ℕ) (before image : ℕ → List ℕ) → (allowance ≡ 0 → ⊥)
-    → image ≡ updated before 0 (park_record (record { number = number; tail = tail })) → Stored number tail allowance before (Left (allowance - 1)) image
+pub store_made : (number tail allowance left : ℕ) (before image : ℕ → List ℕ) → (1 ≤ allowance) × (left ≡ allowance - 1)
+    → image ≡ updated before 0 (park_record (record { number = number; tail = tail })) → Stored number tail allowance before (Some left) image
 unfolding powered applied
-store_made number tail zero before image f u = absurd (f refl)
-store_made number tail (suc allowance) before image f u = (
-  rw (le-ltb (suc allowance) 1 (omega arith)) refl,
+store_made number tail zero left before image f u = absurd (omega (arith, f.0))
+store_made number tail (suc allowance) left before image f u = (
+  ap Some f.1 ∙ sym (rw (le-ltb (suc allowance) 1 (omega arith)) refl),
   u ∙ ap (λ (xs : List Store). applied (record_store number tail ∷ xs) before) (sym (take_none allowance)),
 )
 
 -- There is a sector 0.
-pub first_sector : (s : State) (im mp pl nu us : List ℕ) → Pass ≡ judged (park_checks s (memory im mp pl nu us)) → 512 ≤ length im
+pub first_sector : (s : State) (im mp pl nu us : List ℕ) → Ok tt ≡ judged (park_checks s (memory im mp pl nu us)) → 512 ≤ length im
 unfolding park_checks applies
 first_sector s im mp pl nu us e =
     let sizes = state_fits_lem s im mp pl nu us (not-false (state_fits s (memory im mp pl nu us)) (cleared Size _ (sym e))) in
@@ -109,29 +102,29 @@ first_sector s im mp pl nu us e =
     omega arith
 
 module _ (s : State) (im mp pl nu us : List ℕ) (allowance : ℕ) where
-  pub park_refused : (r : Refusal) → Refuse r ≡ judged (park_checks s (memory im mp pl nu us))
+  pub park_refused : (r : Refusal) → Err r ≡ judged (park_checks s (memory im mp pl nu us))
       → after (record { answer = Refused r; state = s }) (memory im mp pl nu us) ≡ park_of s (memory im mp pl nu us) allowance
   unfolding park_of
   park_refused r e =
-      ap (λ (v : Verdict). unless_refused v s (memory im mp pl nu us) (performed allowance (park_action s (memory im mp pl nu us)) (memory im mp pl nu us))) e
+      ap (λ (v : Result ⊤ Refusal). unless_refused v s (memory im mp pl nu us) (performed allowance (park_action s (memory im mp pl nu us)) (memory im mp pl nu us))) e
 
-  module _ (pass : Pass ≡ judged (park_checks s (memory im mp pl nu us))) (im' : List ℕ) (kept : length im' ≡ length im)
+  module _ (pass : Ok tt ≡ judged (park_checks s (memory im mp pl nu us))) (im' : List ℕ) (kept : length im' ≡ length im)
       (made : sector_at im' ≡ applied (take allowance (record_store s.number s.tail ∷ [])) (sector_at im)) (x : Answer) (y : State) where
     performs : performed allowance (park_action s (memory im mp pl nu us)) (memory im mp pl nu us) ≡ park_of s (memory im mp pl nu us) allowance
     unfolding park_of
-    performs = ap (λ (v : Verdict). unless_refused v s (memory im mp pl nu us) (performed allowance (park_action s (memory im mp pl nu us)) (memory im mp pl nu us))) pass
+    performs = ap (λ (v : Result ⊤ Refusal). unless_refused v s (memory im mp pl nu us) (performed allowance (park_action s (memory im mp pl nu us)) (memory im mp pl nu us))) pass
 
     left_as_it_came : memory im' mp pl nu us ≡ memory_with (memory im mp pl nu us) (sector_at im') (tables_of mp pl nu us)
     left_as_it_came = memory_left im mp pl nu us im' mp pl nu us (sector_at im') (tables_of mp pl nu us) kept refl refl refl refl refl refl
 
-    pub park_cut : Failed ≡ powered 1 allowance → x ≡ PowerFailed (stores_alone allowance) → y ≡ cut_state s
+    pub park_cut : None ≡ powered 1 allowance → x ≡ PowerFailed (stores_alone allowance) → y ≡ cut_state s
         → after (record { answer = x; state = y }) (memory im' mp pl nu us) ≡ park_of s (memory im mp pl nu us) allowance
     unfolding park_action memory
     park_cut e p q =
         call_cut allowance (park_action s (memory im mp pl nu us)) (memory im mp pl nu us) (memory im' mp pl nu us) (sector_at im') made x y p q e left_as_it_came
         ∙ performs
 
-    pub park_whole : (left : ℕ) → Left left ≡ powered 1 allowance → x ≡ Accepted (stores_alone (allowance - left)) → y ≡ parked_state s
+    pub park_whole : (left : ℕ) → Some left ≡ powered 1 allowance → x ≡ Accepted (stores_alone (allowance - left)) → y ≡ parked_state s
         → after (record { answer = x; state = y }) (memory im' mp pl nu us) ≡ park_of s (memory im mp pl nu us) allowance
     unfolding park_action memory
     park_whole left e p q =

@@ -1,10 +1,9 @@
 // The park call: the tail and its number go into sector 0, so that recovery can walk from there.
 #![tactic(auto)]
 
-ghost use Rattle.std.specs.Prelude.{◌≡◌, true, cond, [], ◌∷◌, ◌≤◌, length, take};
+ghost use Rattle.std.specs.Prelude.{◌≡◌, true, cond, [], ◌∷◌, ◌≤◌, length, take, Ok, Err};
 ghost use Rattle.geometry.specs.Geometry.{sector_bytes};
 ghost use Rattle.answer.specs.declared.Refusal.TheVariants.{Inconsistent};
-ghost use Rattle.answer.specs.declared.Verdict.TheVariants.{Pass, Refuse};
 ghost use Rattle.volume.specs.Tables.{memory, sector_at};
 ghost use Rattle.volume.specs.Refusals.{judged};
 ghost use Rattle.volume.specs.Store.{applied, after};
@@ -13,8 +12,7 @@ ghost use Rattle.volume.specs.Calls.{state_fits, tables_agree, park_checks, park
 ghost use Rattle.power.specs.Power.{powered};
 ghost use Rattle.park.specs.Park.{record_store};
 
-use answer::{Answer, Refusal, Verdict};
-use power::allowance::Power;
+use answer::{Answer, Refusal};
 use state::{Outcome, Phase, State};
 
 // Of a running volume: its tables agree with each other and with the live map sectors.
@@ -25,17 +23,17 @@ fn tables_verdict(
     places: &[u32],
     numbers: &[u32],
     used: &[u8],
-) -> Verdict
+) -> Result<(), Refusal>
     requires used_value { state_fits s (memory image.now map.now places.now numbers.now used.now) ≡ true }
     requires geometry_value { tables_fit (memory image.now map.now places.now numbers.now used.now) s.geometry ≡ true }
-    ensures { result ≡ cond (tables_agree s (memory image.now map.now places.now numbers.now used.now)) Pass (Refuse Inconsistent) }
+    ensures { result ≡ cond (tables_agree s (memory image.now map.now places.now numbers.now used.now)) (Ok tt) (Err Inconsistent) }
 {
     let g = s.geometry;
     let free = bits::count_free(used, g.n);
     if !live_sectors::tables_agree(s, image, map, places, numbers, used, free) {
-        return Verdict::Refuse(Refusal::Inconsistent);
+        return Err(Refusal::Inconsistent);
     }
-    Verdict::Pass
+    Ok(())
 }
 
 // The refusals of a park, in their order.
@@ -46,10 +44,10 @@ fn park_verdict(
     places: &[u32],
     numbers: &[u32],
     used: &[u8],
-) -> Verdict
+) -> Result<(), Refusal>
     ensures { result ≡ judged (park_checks s (memory image.now map.now places.now numbers.now used.now)) }
 {
-    let lengths = checks::state_verdict(
+    checks::state_verdict(
         s,
         image.len(),
         map.len(),
@@ -57,30 +55,23 @@ fn park_verdict(
         numbers.len(),
         used.len(),
         true,
-    );
-    match lengths {
-        Verdict::Refuse(refusal) => Verdict::Refuse(refusal),
-        Verdict::Pass => {
-            let phase = s.phase;
-            match phase {
-                Phase::Running => tables_verdict(s, image, map, places, numbers, used),
-                Phase::Parked => Verdict::Refuse(Refusal::WrongPhase),
-                Phase::Cut => Verdict::Refuse(Refusal::WrongPhase),
-            }
-        }
+    )?;
+    let phase = s.phase;
+    match phase {
+        Phase::Running => tables_verdict(s, image, map, places, numbers, used),
+        Phase::Parked => Err(Refusal::WrongPhase),
+        Phase::Cut => Err(Refusal::WrongPhase),
     }
 }
 
 // Stores the park record, where a store is allowed.
-fn store_record(image: &mut [u8], number: u32, tail: u32, allowance: u32) -> Power
+fn store_record(image: &mut [u8], number: u32, tail: u32, allowance: u32) -> Option<u32>
     requires { sector_bytes ≤ length image.old }
     ensures { (result ≡ powered 1 allowance) × (sector_at image.new ≡ applied (take allowance (record_store number tail ∷ [])) (sector_at image.old)) }
 {
-    if allowance == 0 {
-        return Power::Failed;
-    }
+    let left = allowance.checked_sub(1)?;
     images::store_park(image, number, tail);
-    Power::Left(allowance - 1)
+    Some(left)
 }
 
 // Parks the volume, if the store is made.
@@ -97,18 +88,18 @@ pub fn park(
 {
     let verdict = park_verdict(s, image, map, places, numbers, used);
     match verdict {
-        Verdict::Refuse(refusal) => Outcome {
+        Err(refusal) => Outcome {
             answer: Answer::Refused(refusal),
             state: s,
         },
-        Verdict::Pass => {
+        Ok(()) => {
             let power = store_record(image, s.number, s.tail, allowance);
             match power {
-                Power::Failed => Outcome {
+                None => Outcome {
                     answer: Answer::power_failed(allowance),
                     state: s.cut(),
                 },
-                Power::Left(left) => {
+                Some(left) => {
                     let stores = allowance - left;
                     Outcome {
                         answer: Answer::accepted(stores),

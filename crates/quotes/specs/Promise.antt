@@ -1,10 +1,9 @@
 -- Document 02, point 5: "Given enough stores, the real call made next on the same image, state and tables does just that. Given fewer, its
 -- answer is 10."
-use Rattle.std.specs.Prelude.{ℕ, suc, ◌≤◌, ◌<◌, ◌≡◌, ◌||◌, List, [], ◌∷◌, length, take, ltb}
+use Rattle.std.specs.Prelude.{ℕ, suc, ◌≤◌, ◌<◌, ◌≡◌, ◌||◌, List, [], ◌∷◌, length, take, ltb, Ok, Err}
 use Rattle.std.proofs.Math.Option.{some}
 use Rattle.answer.specs.declared.Answer.TheVariants.{Accepted}
 use Rattle.answer.specs.declared.Refusal.{Refusal}
-use Rattle.answer.specs.declared.Verdict.TheVariants.{Pass, Refuse}
 use Rattle.answer.specs.Answer.{number_of, verdict_number}
 use Rattle.state.specs.declared.State.{State}
 use Rattle.geometry.specs.Geometry.{branch_room, commit_sectors, pieces_for}
@@ -55,8 +54,8 @@ pub record Promise (rules : Rules) (s : State) (m : Memory) (blocks : List ℕ) 
   -- It changes no memory.
   pub same : q.memory ≡ m
   -- A refusal is the refusal of the real call, whatever that is allowed; it is never 10, and shows nothing of each.
-  pub refusal : (r : Refusal) → q.quote.verdict ≡ Refuse r → (k : ℕ) → real q.memory k ≡ refused r s m
+  pub refusal : (r : Refusal) → q.quote.verdict ≡ Err r → (k : ℕ) → real q.memory k ≡ refused r s m
   pub never : verdict_number q.quote.verdict ≡ 10 → ⊥
-  pub nothing : (r : Refusal) → q.quote.verdict ≡ Refuse r → q.quote ≡ no_quote r
+  pub nothing : (r : Refusal) → q.quote.verdict ≡ Err r → q.quote ≡ no_quote r
   -- Otherwise the real call does just that.
-  pub does : q.quote.verdict ≡ Pass → Does rules s m blocks data_sectors q.quote (real q.memory)
+  pub does : q.quote.verdict ≡ Ok tt → Does rules s m blocks data_sectors q.quote (real q.memory)

@@ -1,8 +1,6 @@
 -- Document 02, point 5, "What will this cost me?": the quote of a commit. It is the plan of the commit, and nothing is stored.
-use Rattle.std.specs.Prelude.{ℕ, ◌*◌, ◌-◌, Bool, true, false, ◌&&◌, List, ◌++◌, length, replicate, eqb}
+use Rattle.std.specs.Prelude.{ℕ, ◌*◌, ◌-◌, Bool, true, false, ◌&&◌, List, ◌++◌, length, replicate, eqb, Result, Ok, Err, ⊤}
 use Rattle.answer.specs.declared.Refusal.{Refusal}
-use Rattle.answer.specs.declared.Verdict.{Verdict}
-use Rattle.answer.specs.declared.Verdict.TheVariants.{Pass, Refuse}
 use Rattle.answer.specs.Answer.{stores_alone}
 use Rattle.state.specs.declared.State.{State}
 use Rattle.geometry.specs.Geometry.{sector_bytes, branch_room, commit_sectors}
@@ -21,7 +19,7 @@ filled room words = words ++ replicate (room - length words) 0
 unfoldable pub quote_of : Plan → Quote
 quote_of plan =
     record {
-      verdict = Pass;
+      verdict = Ok tt;
       cost = bill plan (length plan.places);
       sectors = filled commit_sectors plan.places;
       listed = length plan.branches;
@@ -33,7 +31,7 @@ quote_of plan =
 unfoldable pub no_quote : Refusal → Quote
 no_quote r =
     record {
-      verdict = Refuse r;
+      verdict = Err r;
       cost = stores_alone 0;
       sectors = replicate commit_sectors 0;
       listed = 0;
@@ -49,9 +47,9 @@ pub record QuoteAfter : Type 0 where
 abbrev pub quoted : Quote → Memory → QuoteAfter
 quoted quote memory = record { quote = quote; memory = memory }
 
-unfoldable pub quote_judged : Verdict → Plan → Memory → QuoteAfter
-quote_judged Pass plan m = quoted (quote_of plan) m
-quote_judged (Refuse r) plan m = quoted (no_quote r) m
+unfoldable pub quote_judged : Result ⊤ Refusal → Plan → Memory → QuoteAfter
+quote_judged (Ok u) plan m = quoted (quote_of plan) m
+quote_judged (Err r) plan m = quoted (no_quote r) m
 
 -- It is judged as the commit is, and shows the plan that the commit would carry out.
 unfoldable pub quote_by : Rules → State → Memory → ℕ → Change → Bool → Bool → QuoteAfter

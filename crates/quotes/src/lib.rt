@@ -1,14 +1,14 @@
 // What a quote of a commit is: the struct that it is handed back in, its definition, and what is promised of it. There is no code here.
 #![tactic(auto)]
 
-use answer::{Cost, Verdict};
+use answer::{Cost, Refusal};
 use geometry::Geometry;
 
 // The refusal of the commit; or what it would cost, the sectors that it would take, in the order of its stores, the branches that its
 // first member would list, and whether it would fold. There are as many sectors as stores; what is past the counts is zeros.
 #[derive(Clone, Copy)]
 pub struct Quote {
-    pub verdict: Verdict,
+    pub verdict: Result<(), Refusal>,
     pub cost: Cost,
     pub sectors: [u32; Geometry::COMMIT_SECTORS],
     pub listed: u32,

@@ -10,6 +10,7 @@ use lib.Dec.{eqb, ltb, leb}
 use borrow.Author.Tests.{eqb-true, ne_eqb, lt-ltb, le-ltb, ltb-true, leb-true, le-leb, lt-leb, not-true, not-false}
 use types.Run.{OneOf}
 use denote.Enum.Declared.{tag_of}
+use Rattle.std.specs.Prelude.{Result, Ok, Err, ⊤}
 use Rattle.state.specs.declared.State.{State}
 use Rattle.state.specs.declared.Phase.{Phase}
 use Rattle.state.specs.declared.Phase.TheVariants.{Running, Parked, Cut}
@@ -19,8 +20,6 @@ use Rattle.answer.specs.Answer.{lengths, stores_alone}
 use Rattle.answer.specs.declared.Answer.{Answer}
 use Rattle.answer.specs.declared.Answer.TheVariants.{Accepted, Refused}
 use Rattle.answer.specs.declared.Refusal.TheVariants.{Size, BufferLength, BlockNumbers, WrongPhase, Inconsistent}
-use Rattle.answer.specs.declared.Verdict.{Verdict}
-use Rattle.answer.specs.declared.Verdict.TheVariants.{Pass, Refuse}
 use Rattle.geometry.specs.Geometry.{within}
 use Rattle.state.specs.State.{is_readable}
 use Rattle.layout.specs.Bounded.{at}
@@ -35,19 +34,6 @@ use Rattle.laws.proofs.Sizes.{fits, state_fits_lem, tables_fit_lem}
 use Rattle.laws.proofs.Judged.{cleared, later}
 use Rattle.checks.proofs.StateLaws.{refused_by_lengths, passed_by_lengths, sizes_passed, tables_passed}
 
--- The test of one entry.
-pub entry_empty : (n entry : ℕ) → entry ≡ 0 → true ≡ entry_readable n entry
-unfolding entry_readable
-entry_empty n entry e = rw e refl
-
-pub entry_low : (n entry : ℕ) → (entry ≡ 0 → ⊥) → (k : ℕ) → k ≡ sector_of entry → k < 1 → false ≡ entry_readable n entry
-unfolding entry_readable
-entry_low n entry d k e h = rw (ne_eqb entry 0 d, ← e, lt-leb 1 k h) refl
-
-pub entry_high : (n entry : ℕ) → (entry ≡ 0 → ⊥) → (k : ℕ) → k ≡ sector_of entry → 1 ≤ k → leb k (n - 1) ≡ entry_readable n entry
-unfolding entry_readable
-entry_high n entry d k e h = rw (ne_eqb entry 0 d, ← e, le-leb 1 k h) refl
-
 -- The arm of running and parked is one: what it is told is the number of the variant.
 pub readable_arm : (p : Phase) → OneOf (0 ∷ 1 ∷ []) (tag_of the_type p) → is_readable p ≡ true
 readable_arm Running h = refl
@@ -55,16 +41,16 @@ readable_arm Parked h = refl
 readable_arm Cut h = absurd (⊎_elim (λ (z : ◌≡◌ {A = ℕ} 2 0). omega arith) (λ (z : ◌≡◌ {A = ℕ} 2 1). omega arith) h)
 
 -- The verdict on the lengths is v.
-module _ (s : State) (im mp pl nu us : List ℕ) (block out : ℕ) (v : Verdict)
+module _ (s : State) (im mp pl nu us : List ℕ) (block out : ℕ) (v : Result ⊤ Refusal)
     (f : v ≡ first_of lengths (state_checks s (lent (length im) (length mp) (length pl) (length nu) (length us)) (eqb out 512))) where
-  abbrev verdict : Verdict
+  abbrev verdict : Result ⊤ Refusal
   verdict = judged (read_checks s (memory im mp pl nu us) block out)
 
-  pub lengths_refused : (r : Refusal) → v ≡ Refuse r → Refuse r ≡ verdict
+  pub lengths_refused : (r : Refusal) → v ≡ Err r → Err r ≡ verdict
   unfolding read_checks
   lengths_refused r e = refused_by_lengths s im mp pl nu us (eqb out 512) _ v f r e
 
-  module _ (e : v ≡ Pass) where
+  module _ (e : v ≡ Ok tt) where
     pub in_map : block < s.geometry.l → block < length mp
     in_map h = let m = (tables_fit_lem im mp pl nu us s.geometry (tables_passed s im mp pl nu us (eqb out 512) [] v f e)).map in omega arith
 
@@ -73,32 +59,25 @@ module _ (s : State) (im mp pl nu us : List ℕ) (block out : ℕ) (v : Verdict)
         let least = (fits s.geometry (state_fits_lem s im mp pl nu us (sizes_passed s im mp pl nu us (eqb out 512) [] v f e)).range).least in
         omega arith
 
-    then : (w : Verdict) → w ≡ first_of later (read_checks s (memory im mp pl nu us) block out) → w ≡ verdict
+    then : (w : Result ⊤ Refusal) → w ≡ first_of later (read_checks s (memory im mp pl nu us) block out) → w ≡ verdict
     unfolding read_checks
     then w k = passed_by_lengths s im mp pl nu us (eqb out 512) _ v f e w k
 
-    pub block_refused : s.geometry.l ≤ block → Refuse BlockNumbers ≡ verdict
+    pub block_refused : s.geometry.l ≤ block → Err BlockNumbers ≡ verdict
     unfolding read_checks first_of applies
-    block_refused h = then (Refuse BlockNumbers) (rw (le-ltb block s.geometry.l h) refl)
+    block_refused h = then (Err BlockNumbers) (rw (le-ltb block s.geometry.l h) refl)
 
     module _ (h : block < s.geometry.l) where
-      pub phase_refused : is_readable s.phase ≡ false → Refuse WrongPhase ≡ verdict
+      pub phase_refused : is_readable s.phase ≡ false → Err WrongPhase ≡ verdict
       unfolding read_checks first_of applies
-      phase_refused e3 = then (Refuse WrongPhase) (rw (lt-ltb block s.geometry.l h, e3) refl)
+      phase_refused e3 = then (Err WrongPhase) (rw (lt-ltb block s.geometry.l h, e3) refl)
 
-      pub readable_judged : (w : Verdict) → is_readable s.phase ≡ true → w ≡ cond (entry_readable s.geometry.n (at mp block)) Pass (Refuse Inconsistent) → w ≡ verdict
+      pub readable_judged : (w : Result ⊤ Refusal) → is_readable s.phase ≡ true → w ≡ cond (entry_readable s.geometry.n (at mp block)) (Ok tt) (Err Inconsistent) → w ≡ verdict
       unfolding read_checks first_of applies memory
       readable_judged w e3 k =
           ⊎_elim (λ (t : entry_readable s.geometry.n (at mp block) ≡ true). then w (k ∙ rw (lt-ltb block s.geometry.l h, e3, t) refl))
           (λ (t : entry_readable s.geometry.n (at mp block) ≡ false). then w (k ∙ rw (lt-ltb block s.geometry.l h, e3, t) refl))
           (bool? (entry_readable s.geometry.n (at mp block)))
-
--- The verdict on one entry.
-pub entry_bad : (b t : Bool) → b ≡ t → not b ≡ true → Refuse Inconsistent ≡ cond t Pass (Refuse Inconsistent)
-entry_bad b t f e = rw (sym f ∙ not-true b e) refl
-
-pub entry_good : (b t : Bool) → b ≡ t → not b ≡ false → Pass ≡ cond t Pass (Refuse Inconsistent)
-entry_good b t f e = rw (sym f ∙ not-false b e) refl
 
 -- What a read that meets no refusal relies on.
 pub record Readable (im mp : List ℕ) (block out : ℕ) : Type 0 where
@@ -115,7 +94,7 @@ entry_inside n entry some e =
     omega arith)
     (or_cases (is_empty entry) (within 1 (n - 1) (sector_of entry)) e)
 
-pub readable : (s : State) (im mp pl nu us : List ℕ) (block out : ℕ) → Pass ≡ judged (read_checks s (memory im mp pl nu us) block out)
+pub readable : (s : State) (im mp pl nu us : List ℕ) (block out : ℕ) → Ok tt ≡ judged (read_checks s (memory im mp pl nu us) block out)
     → Readable im mp block out
 unfolding read_checks memory applies
 readable s im mp pl nu us block out e =
@@ -136,17 +115,17 @@ readable s im mp pl nu us block out e =
 
 -- The result of a read.
 pub read_refused : (s : State) (im mp pl nu us : List ℕ) (block : ℕ) (out : List ℕ) (r : Refusal)
-    → Refuse r ≡ judged (read_checks s (memory im mp pl nu us) block (length out))
+    → Err r ≡ judged (read_checks s (memory im mp pl nu us) block (length out))
     → read_left (record { answer = Refused r; state = s }) (memory im mp pl nu us) out ≡ read_of s (memory im mp pl nu us) block out
 unfolding read_of read_judged
-read_refused s im mp pl nu us block out r e = ap (λ (v : Verdict). read_judged v s (memory im mp pl nu us) block out) e
+read_refused s im mp pl nu us block out r e = ap (λ (v : Result ⊤ Refusal). read_judged v s (memory im mp pl nu us) block out) e
 
 pub read_done : (s : State) (im mp pl nu us : List ℕ) (block : ℕ) (out left : List ℕ) (x : Answer) → x ≡ Accepted (stores_alone 0)
-    → Pass ≡ judged (read_checks s (memory im mp pl nu us) block (length out))
+    → Ok tt ≡ judged (read_checks s (memory im mp pl nu us) block (length out))
     → left ≡ restored (at mp block) (sector_at im (sector_of (at mp block)))
     → read_left (record { answer = x; state = s }) (memory im mp pl nu us) left ≡ read_of s (memory im mp pl nu us) block out
 unfolding read_of read_judged block_of memory
 read_done s im mp pl nu us block out left x p e f =
     ap (λ (a : Answer). read_left (record { answer = a; state = s }) (memory im mp pl nu us) left) p
     ∙ ap (λ (xs : List ℕ). read_left (record { answer = Accepted (stores_alone 0); state = s }) (memory im mp pl nu us) xs) f
-    ∙ ap (λ (v : Verdict). read_judged v s (memory im mp pl nu us) block out) e
+    ∙ ap (λ (v : Result ⊤ Refusal). read_judged v s (memory im mp pl nu us) block out) e

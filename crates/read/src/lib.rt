@@ -1,9 +1,8 @@
 // The read call: the block that an entry names, restored where it was stored flipped.
 #![tactic(auto)]
 
-ghost use Rattle.std.specs.Prelude.{◌≡◌, cond, ◌≤◌, ◌<◌, length};
+ghost use Rattle.std.specs.Prelude.{◌≡◌, cond, ◌≤◌, ◌<◌, length, Ok, Err};
 ghost use Rattle.answer.specs.declared.Refusal.TheVariants.{Inconsistent};
-ghost use Rattle.answer.specs.declared.Verdict.TheVariants.{Pass, Refuse};
 ghost use Rattle.layout.specs.Bounded.{at};
 ghost use Rattle.layout.specs.Entry.{sector_of, restored};
 ghost use Rattle.volume.specs.Tables.{sector_at, memory};
@@ -11,34 +10,29 @@ ghost use Rattle.volume.specs.Refusals.{judged};
 ghost use Rattle.volume.specs.Calls.{entry_readable, read_checks, read_of};
 ghost use Rattle.checks.specs.Left.{read_left};
 
-use answer::{Answer, Refusal, Verdict};
+use answer::{Answer, Refusal};
 use geometry::Geometry;
 use state::{Outcome, Phase, State};
 
 // Refusal 5 of a read: its own entry is empty, or names a sector from 1 to n - 1.
+#[tactic(auto, unfolding(volume::specs::Calls::entry_readable))]
 fn entry_readable(n: u32, entry: u32) -> bool
     requires { 1 ≤ n }
     ensures { result ≡ entry_readable n entry }
 {
-    if entry == 0 {
-        return true;
-    }
     let sector = blocks::sector_of(entry);
-    if sector < 1 {
-        return false;
-    }
-    sector <= n - 1
+    entry == 0 || 1 <= sector && sector <= n - 1
 }
 
 // The same as a verdict, of a volume that can be read.
-fn entry_verdict(n: u32, entry: u32) -> Verdict
+fn entry_verdict(n: u32, entry: u32) -> Result<(), Refusal>
     requires { 1 ≤ n }
-    ensures { result ≡ cond (entry_readable n entry) Pass (Refuse Inconsistent) }
+    ensures { result ≡ cond (entry_readable n entry) (Ok tt) (Err Inconsistent) }
 {
     if !entry_readable(n, entry) {
-        return Verdict::Refuse(Refusal::Inconsistent);
+        return Err(Refusal::Inconsistent);
     }
-    Verdict::Pass
+    Ok(())
 }
 
 // The refusals of a read, in their order.
@@ -51,10 +45,10 @@ fn read_verdict(
     used: &[u8],
     block: u32,
     out: usize,
-) -> Verdict
+) -> Result<(), Refusal>
     ensures { result ≡ judged (read_checks s (memory image.now map.now places.now numbers.now used.now) block out) }
 {
-    let lengths = checks::state_verdict(
+    checks::state_verdict(
         s,
         image.len(),
         map.len(),
@@ -62,21 +56,16 @@ fn read_verdict(
         numbers.len(),
         used.len(),
         out == Geometry::SECTOR,
-    );
-    match lengths {
-        Verdict::Refuse(refusal) => Verdict::Refuse(refusal),
-        Verdict::Pass => {
-            let g = s.geometry;
-            if g.l <= block {
-                return Verdict::Refuse(Refusal::BlockNumbers);
-            }
-            let entry = map[block as usize];
-            let phase = s.phase;
-            match phase {
-                Phase::Running | Phase::Parked => entry_verdict(g.n, entry),
-                Phase::Cut => Verdict::Refuse(Refusal::WrongPhase),
-            }
-        }
+    )?;
+    let g = s.geometry;
+    if g.l <= block {
+        return Err(Refusal::BlockNumbers);
+    }
+    let entry = map[block as usize];
+    let phase = s.phase;
+    match phase {
+        Phase::Running | Phase::Parked => entry_verdict(g.n, entry),
+        Phase::Cut => Err(Refusal::WrongPhase),
     }
 }
 
@@ -91,7 +80,7 @@ fn fill(
     block: u32,
     out: &mut [u8],
 )
-    requires { Pass ≡ judged (read_checks s (memory image.now map.now places.now numbers.now used.now) block (length out.old)) }
+    requires { Ok tt ≡ judged (read_checks s (memory image.now map.now places.now numbers.now used.now) block (length out.old)) }
     ensures { out.new ≡ restored (at map.now block) (sector_at image.now (sector_of (at map.now block))) }
 {
     let entry = map[block as usize];
@@ -114,11 +103,11 @@ pub fn read(
 {
     let verdict = read_verdict(s, image, map, places, numbers, used, block, out.len());
     match verdict {
-        Verdict::Refuse(refusal) => Outcome {
+        Err(refusal) => Outcome {
             answer: Answer::Refused(refusal),
             state: s,
         },
-        Verdict::Pass => {
+        Ok(()) => {
             fill(s, image, map, places, numbers, used, block, out);
             Outcome {
                 answer: Answer::accepted(0),

@@ -4,10 +4,10 @@
 ghost use Rattle.std.specs.Prelude.{◌≡◌};
 ghost use Rattle.state.specs.State.{parked_state, cut_state, committed_state, fresh_state, lost_state};
 
-use answer::{Answer, Cost, Verdict};
+use answer::{Answer, Cost, Refusal};
 use geometry::{Drive, Geometry};
 
-#[derive(Clone, Copy)]
+#[derive(Clone, Copy, Debug, PartialEq, Eq)]
 pub enum Phase {
     Running,
     Parked,
@@ -107,7 +107,7 @@ pub struct Outcome {
 // and the state after the last of them.
 #[derive(Clone, Copy)]
 pub struct BatchOutcome {
-    pub verdict: Verdict,
+    pub verdict: Result<(), Refusal>,
     pub answered: u32,
     pub cost: Cost,
     pub state: State,

@@ -8,12 +8,11 @@ use native.Mathlib.Omega.{arith}
 use lib.ListN.{length}
 use lib.Dec.{eqb, ltb}
 use borrow.Author.Tests.{eqb-true, lt-ltb, le-ltb, not-true, not-false, ltb-false}
+use Rattle.std.specs.Prelude.{Result, Ok, Err, ⊤}
 use Rattle.geometry.specs.declared.Geometry.{Geometry}
 use Rattle.state.specs.declared.State.{State}
 use Rattle.answer.specs.declared.Refusal.{Refusal}
 use Rattle.answer.specs.declared.Refusal.TheVariants.{BlockNumbers, WrongPhase, Inconsistent, NoRoom, NumbersUsedUp}
-use Rattle.answer.specs.declared.Verdict.{Verdict}
-use Rattle.answer.specs.declared.Verdict.TheVariants.{Pass, Refuse}
 use Rattle.geometry.specs.Geometry.{pieces_for, used_bytes, geometry_fits, drive_fits}
 use Rattle.answer.specs.Answer.{lengths, named, standing}
 use Rattle.state.specs.State.{is_running}
@@ -42,23 +41,23 @@ module _ (s : State) (im mp pl nu us : List ℕ) (count : ℕ) where
   abbrev free : ℕ
   free = free_sectors s.geometry.n (bit_at us)
 
-  abbrev stands : Verdict
+  abbrev stands : Result ⊤ Refusal
   stands = first_of standing (commit_checks base s (memory im mp pl nu us) 0 [] true (not (ltb free (count + pieces_for s.geometry.l))))
 
   pub pieces_few : state_fits s (memory im mp pl nu us) ≡ true → pieces_for s.geometry.l ≤ 256
   pieces_few e = let m = (fits s.geometry (state_fits_lem s im mp pl nu us e).range).most in omega arith
 
-  pub phase_refused : is_running s.phase ≡ false → Refuse WrongPhase ≡ stands
+  pub phase_refused : is_running s.phase ≡ false → Err WrongPhase ≡ stands
   unfolding commit_checks first_of applies
   phase_refused e = rw e refl
 
   module _ (e4 : is_running s.phase ≡ true) (b5 : Bool) (f5 : b5 ≡ tables_agree s (memory im mp pl nu us)) where
-    pub tables_refused : not b5 ≡ true → Refuse Inconsistent ≡ stands
+    pub tables_refused : not b5 ≡ true → Err Inconsistent ≡ stands
     unfolding commit_checks first_of applies
     tables_refused e = rw (e4, sym f5 ∙ not-true b5 e) refl
 
     module _ (e5 : not b5 ≡ false) (k pieces : ℕ) (f6 : k ≡ free) (p : pieces ≡ pieces_for s.geometry.l) where
-      pub room_refused : k < count + pieces → Refuse NoRoom ≡ stands
+      pub room_refused : k < count + pieces → Err NoRoom ≡ stands
       unfolding commit_checks first_of applies
       room_refused e = rw (e4, sym f5 ∙ not-false b5 e5, lt-ltb free (count + pieces_for s.geometry.l) (omega arith)) refl
 
@@ -66,45 +65,45 @@ module _ (s : State) (im mp pl nu us : List ℕ) (count : ℕ) where
         enough : ltb free (count + pieces_for s.geometry.l) ≡ false
         enough = le-ltb free (count + pieces_for s.geometry.l) (omega arith)
 
-        pub numbers_refused : 4294967039 < s.number → Refuse NumbersUsedUp ≡ stands
+        pub numbers_refused : 4294967039 < s.number → Err NumbersUsedUp ≡ stands
         unfolding commit_checks first_of applies
         numbers_refused e = rw (e4, sym f5 ∙ not-false b5 e5, enough, lt-ltb 4294967039 s.number e) refl
 
-        pub none_refused : s.number ≤ 4294967039 → Pass ≡ stands
+        pub none_refused : s.number ≤ 4294967039 → Ok tt ≡ stands
         unfolding commit_checks first_of applies
         none_refused e = rw (e4, sym f5 ∙ not-false b5 e5, enough, le-ltb 4294967039 s.number e) refl
 
 -- All together: the verdict on the lengths is v.
-module _ (s : State) (im mp pl nu us : List ℕ) (head : ℕ) (blocks : List ℕ) (fit : Bool) (count : ℕ) (v : Verdict)
+module _ (s : State) (im mp pl nu us : List ℕ) (head : ℕ) (blocks : List ℕ) (fit : Bool) (count : ℕ) (v : Result ⊤ Refusal)
     (f : v ≡ first_of lengths (state_checks s (lent (length im) (length mp) (length pl) (length nu) (length us)) fit)) where
   abbrev checks : List Check
   checks = commit_checks base s (memory im mp pl nu us) head blocks fit (not (ltb (free_sectors s.geometry.n (bit_at us)) (count + pieces_for s.geometry.l)))
 
-  pub lengths_refused : (r : Refusal) → v ≡ Refuse r → Refuse r ≡ judged checks
+  pub lengths_refused : (r : Refusal) → v ≡ Err r → Err r ≡ judged checks
   unfolding commit_checks
   lengths_refused r e = refused_by_lengths s im mp pl nu us fit _ v f r e
 
-  module _ (e : v ≡ Pass) where
+  module _ (e : v ≡ Ok tt) where
     pub state_passed : state_fits s (memory im mp pl nu us) ≡ true
     state_passed = sizes_passed s im mp pl nu us fit [] v f e
 
     pub lengths_passed : tables_fit (memory im mp pl nu us) s.geometry ≡ true
     lengths_passed = tables_passed s im mp pl nu us fit [] v f e
 
-    then : (w : Verdict) → w ≡ first_of later checks → w ≡ judged checks
+    then : (w : Result ⊤ Refusal) → w ≡ first_of later checks → w ≡ judged checks
     unfolding commit_checks
     then w k = passed_by_lengths s im mp pl nu us fit _ v f e w k
 
     module _ (b3 : Bool) (f3 : b3 ≡ blocks_fit s.geometry head blocks) where
-      pub blocks_refused : not b3 ≡ true → Refuse BlockNumbers ≡ judged checks
+      pub blocks_refused : not b3 ≡ true → Err BlockNumbers ≡ judged checks
       unfolding commit_checks first_of applies
-      blocks_refused e3 = then (Refuse BlockNumbers) (rw (sym f3 ∙ not-true b3 e3) refl)
+      blocks_refused e3 = then (Err BlockNumbers) (rw (sym f3 ∙ not-true b3 e3) refl)
 
       module _ (e3 : not b3 ≡ false) where
         pub few_blocks : length blocks ≤ 64
         few_blocks = (blocks_fit_lem s.geometry head blocks (sym f3 ∙ not-false b3 e3)).most
 
-        named_pass : Pass ≡ first_of named checks
+        named_pass : Ok tt ≡ first_of named checks
         unfolding commit_checks first_of applies
         named_pass = rw (sym f3 ∙ not-false b3 e3) refl
 
@@ -113,7 +112,7 @@ module _ (s : State) (im mp pl nu us : List ℕ) (head : ℕ) (blocks : List ℕ
         unfolding first_of applies commit_checks
         by_standing = refl
 
-        pub standing_decides : (w : Verdict)
+        pub standing_decides : (w : Result ⊤ Refusal)
             → w ≡ first_of standing (commit_checks base s (memory im mp pl nu us) 0 [] true (not (ltb (free_sectors s.geometry.n (bit_at us)) (count + pieces_for s.geometry.l))))
             → w ≡ judged checks
         standing_decides w k = then w (part_passed named standing checks w named_pass (k ∙ by_standing))
@@ -149,7 +148,7 @@ says g p number bytes es e =
     (bool? (valid g bytes (words_of bytes)))
 
 pub passed : (s : State) (im mp pl nu us : List ℕ) (head : ℕ) (blocks : List ℕ) (count : ℕ)
-    → Pass ≡ judged (commit_checks base s (memory im mp pl nu us) head blocks true (not (ltb (free_sectors s.geometry.n (bit_at us)) (count + pieces_for s.geometry.l))))
+    → Ok tt ≡ judged (commit_checks base s (memory im mp pl nu us) head blocks true (not (ltb (free_sectors s.geometry.n (bit_at us)) (count + pieces_for s.geometry.l))))
     → Passed s im mp pl nu us head blocks count
 unfolding tables_agree live_valid memory
 passed s im mp pl nu us head blocks count e =

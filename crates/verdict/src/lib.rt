@@ -12,7 +12,7 @@ ghost use Rattle.volume.specs.Rules.{base};
 ghost use Rattle.volume.specs.Calls.{state_fits, tables_agree, commit_checks};
 ghost use Rattle.verdict.specs.Known.{KnownAgreed};
 
-use answer::{Refusal, Verdict};
+use answer::Refusal;
 use geometry::Geometry;
 use state::{Phase, State};
 
@@ -36,10 +36,7 @@ fn tables_stand(
     requires known_agreed { KnownAgreed known s (memory image.now map.now places.now numbers.now used.now) }
     ensures { result ≡ tables_agree s (memory image.now map.now places.now numbers.now used.now) }
 {
-    if known {
-        return true;
-    }
-    live_sectors::tables_agree(s, image, map, places, numbers, used, free)
+    known || live_sectors::tables_agree(s, image, map, places, numbers, used, free)
 }
 
 // Of a running volume: the refusals that follow from how its tables stand. A drop needs no sectors of its own: P are always free.
@@ -52,7 +49,7 @@ fn running_verdict(
     used: &[u8],
     count: usize,
     known: bool,
-) -> Verdict
+) -> Result<(), Refusal>
     requires phase_value { is_running s.phase ≡ true }
     requires used_value { state_fits s (memory image.now map.now places.now numbers.now used.now) ≡ true }
     requires geometry_value { tables_fit (memory image.now map.now places.now numbers.now used.now) s.geometry ≡ true }
@@ -63,16 +60,16 @@ fn running_verdict(
     let g = s.geometry;
     let free = bits::count_free(used, g.n);
     if !tables_stand(s, image, map, places, numbers, used, free, known) {
-        return Verdict::Refuse(Refusal::Inconsistent);
+        return Err(Refusal::Inconsistent);
     }
     let pieces = Geometry::pieces_for(g.l) as usize;
     if (free as usize) < count + pieces {
-        return Verdict::Refuse(Refusal::NoRoom);
+        return Err(Refusal::NoRoom);
     }
     if GREATEST < s.number {
-        return Verdict::Refuse(Refusal::NumbersUsedUp);
+        return Err(Refusal::NumbersUsedUp);
     }
-    Verdict::Pass
+    Ok(())
 }
 
 // The refusals that follow from how the volume stands.
@@ -85,7 +82,7 @@ fn standing_verdict(
     used: &[u8],
     count: usize,
     known: bool,
-) -> Verdict
+) -> Result<(), Refusal>
     requires used_value { state_fits s (memory image.now map.now places.now numbers.now used.now) ≡ true }
     requires geometry_value { tables_fit (memory image.now map.now places.now numbers.now used.now) s.geometry ≡ true }
     requires count_le_commit_blocks { count ≤ commit_blocks }
@@ -95,8 +92,8 @@ fn standing_verdict(
     let phase = s.phase;
     match phase {
         Phase::Running => running_verdict(s, image, map, places, numbers, used, count, known),
-        Phase::Parked => Verdict::Refuse(Refusal::WrongPhase),
-        Phase::Cut => Verdict::Refuse(Refusal::WrongPhase),
+        Phase::Parked => Err(Refusal::WrongPhase),
+        Phase::Cut => Err(Refusal::WrongPhase),
     }
 }
 
@@ -113,12 +110,12 @@ pub fn commit_verdict(
     fit: bool,
     count: usize,
     known: bool,
-) -> Verdict
+) -> Result<(), Refusal>
     requires count_in_bounds { count ≤ length blocks.now }
     requires known_agreed { KnownAgreed known s (memory image.now map.now places.now numbers.now used.now) }
     ensures { result ≡ judged (commit_checks base s (memory image.now map.now places.now numbers.now used.now) head blocks.now fit (not (ltb (free_sectors s.geometry.n (bit_at used.now)) (count + pieces_for s.geometry.l)))) }
 {
-    let lengths = checks::state_verdict(
+    checks::state_verdict(
         s,
         image.len(),
         map.len(),
@@ -126,15 +123,10 @@ pub fn commit_verdict(
         numbers.len(),
         used.len(),
         fit,
-    );
-    match lengths {
-        Verdict::Refuse(refusal) => Verdict::Refuse(refusal),
-        Verdict::Pass => {
-            let g = s.geometry;
-            if !block_numbers::blocks_fit(g, head, blocks) {
-                return Verdict::Refuse(Refusal::BlockNumbers);
-            }
-            standing_verdict(s, image, map, places, numbers, used, count, known)
-        }
+    )?;
+    let g = s.geometry;
+    if !block_numbers::blocks_fit(g, head, blocks) {
+        return Err(Refusal::BlockNumbers);
     }
+    standing_verdict(s, image, map, places, numbers, used, count, known)
 }

@@ -1,12 +1,11 @@
 -- Document 01, "Calls": write, drop, read and park. Each has its ordered list of refusals and what it does where none applies.
-use Rattle.std.specs.Prelude.{ℕ, suc, ◌+◌, ◌*◌, ◌-◌, Bool, true, not, ◌&&◌, ◌||◌, List, [], ◌∷◌, ◌++◌, length, eqb, ltb}
+use Rattle.std.specs.Prelude.{ℕ, suc, ◌+◌, ◌*◌, ◌-◌, Bool, true, not, ◌&&◌, ◌||◌, List, [], ◌∷◌, ◌++◌, length, eqb, ltb, Result, Ok, Err, ⊤}
 use Rattle.state.specs.declared.State.{State}
 use Rattle.state.specs.declared.Outcome.{Outcome}
+use Rattle.answer.specs.declared.Refusal.{Refusal}
 use Rattle.answer.specs.declared.Answer.TheVariants.{Accepted, Refused}
 use Rattle.answer.specs.declared.Refusal.TheVariants.{Size, WrongSettings, BufferLength, BlockNumbers, WrongPhase, Inconsistent, NoRoom, NumbersUsedUp}
 use Rattle.answer.specs.Answer.{stores_alone}
-use Rattle.answer.specs.declared.Verdict.{Verdict}
-use Rattle.answer.specs.declared.Verdict.TheVariants.{Pass, Refuse}
 use Rattle.layout.specs.Bounded.{at, all, all_below}
 use Rattle.geometry.specs.declared.Geometry.{Geometry}
 use Rattle.geometry.specs.Geometry.{within, sector_bytes, commit_blocks, pieces_for, geometry_fits, drive_fits}
@@ -121,9 +120,9 @@ pub record ReadAfter : Type 0 where
   pub memory : Memory
   pub out : List ℕ
 
-unfoldable pub read_judged : Verdict → State → Memory → ℕ → List ℕ → ReadAfter
-read_judged Pass s m block out = record { outcome = record { answer = Accepted (stores_alone 0); state = s }; memory = m; out = block_of m block }
-read_judged (Refuse r) s m block out = record { outcome = record { answer = Refused r; state = s }; memory = m; out = out }
+unfoldable pub read_judged : Result ⊤ Refusal → State → Memory → ℕ → List ℕ → ReadAfter
+read_judged (Ok u) s m block out = record { outcome = record { answer = Accepted (stores_alone 0); state = s }; memory = m; out = block_of m block }
+read_judged (Err r) s m block out = record { outcome = record { answer = Refused r; state = s }; memory = m; out = out }
 
 unfoldable pub read_of : State → Memory → ℕ → List ℕ → ReadAfter
 read_of s m block out = read_judged (judged (read_checks s m block (length out))) s m block out

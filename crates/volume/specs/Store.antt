@@ -1,13 +1,11 @@
 -- Document 01, "Power" and "Cut": a storing call has a list of stores; with fewer allowed, the first ones are made.
-use Rattle.std.specs.Prelude.{ℕ, zero, suc, Bool, cond, List, [], ◌∷◌, ◌++◌, length, take, ltb}
+use Rattle.std.specs.Prelude.{ℕ, zero, suc, Bool, cond, List, [], ◌∷◌, ◌++◌, length, take, ltb, Result, Ok, Err, ⊤}
 use Rattle.state.specs.declared.State.{State}
 use Rattle.state.specs.declared.Outcome.{Outcome}
 use Rattle.answer.specs.declared.Refusal.{Refusal}
 use Rattle.answer.specs.declared.Answer.{Answer}
 use Rattle.answer.specs.declared.Cost.{Cost}
 use Rattle.answer.specs.declared.Answer.TheVariants.{Refused, PowerFailed}
-use Rattle.answer.specs.declared.Verdict.{Verdict}
-use Rattle.answer.specs.declared.Verdict.TheVariants.{Pass, Refuse}
 use Rattle.layout.specs.Bounded.{updated}
 use Rattle.volume.specs.Tables.{Tables, Memory}
 
@@ -67,6 +65,6 @@ performed allowance a m =
 abbrev pub refused : Refusal → State → Memory → After
 refused r s m = after (record { answer = Refused r; state = s }) m
 
-abbrev pub unless_refused : Verdict → State → Memory → After → After
-unless_refused Pass s m done = done
-unless_refused (Refuse r) s m done = refused r s m
+abbrev pub unless_refused : Result ⊤ Refusal → State → Memory → After → After
+unless_refused (Ok u) s m done = done
+unless_refused (Err r) s m done = refused r s m

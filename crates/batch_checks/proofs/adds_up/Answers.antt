@@ -5,7 +5,7 @@ use Rattle.batch_checks.proofs.BatchLaws.{sum_none, sum_more, sum_short, sum_all
 use Rattle.batch_checks.proofs.adds_up.Goals as goal
 
 pub loop-i-init : goal.loop-i-init
-loop-i-init c = (omega arith, sum_none _ _)
+loop-i-init c = sum_none _ _
 
 pub overflow_cast-own : goal.overflow_cast-own
 overflow_cast-own c =
@@ -14,12 +14,12 @@ overflow_cast-own c =
 
 pub returns-then-left-own : goal.returns-then-left-own
 returns-then-left-own c =
-    sum_short _ c.loop-i.i _ c.loop-i.left _ c.loop-i-test.true c.loop-i.invariant.1 c.if-left-own.true
+    sum_short _ c.loop-i.i _ c.loop-i.left _ c.loop-i-test.true c.loop-i.invariant c.if-left-own.true
 
 pub loop-i-preserved : goal.loop-i-preserved
 loop-i-preserved c =
-    (omega arith, sum_more _ c.loop-i.i c.loop-i.left _ c.loop-i.invariant.1 c.if-left-own.false _ (omega arith))
+    sum_more _ c.loop-i.i c.loop-i.left _ c.loop-i.invariant c.if-left-own.false _ (omega arith)
 
 pub returns : goal.returns
 returns c =
-    sum_all _ c.loop-i.i _ c.loop-i.left _ c.loop-i.invariant.0 c.loop-i-test.false c.loop-i.invariant.1
+    sum_all _ c.loop-i.i _ c.loop-i.left _ c.loop-i.auto.i-end c.loop-i-test.false c.loop-i.invariant

@@ -6,16 +6,16 @@ use Rattle.format.proofs.format.Goals as goal
 
 pub make-requires : goal.make-requires
 make-requires c =
-    sym c.in-Pass.is ∙ c.size_verdict-verdict.ensures ∙ by_lengths _ _ _ _ _ _
+    sym c.in-Ok.is ∙ c.size_verdict-verdict.ensures ∙ by_lengths _ _ _ _ _ _
 
-pub returns-in-Refuse : goal.returns-in-Refuse
-returns-in-Refuse c =
+pub returns-in-Err : goal.returns-in-Err
+returns-in-Err c =
     format_refused _ _ _ _ _ _ _ _ _
-    (sym c.in-Refuse.is ∙ c.size_verdict-verdict.ensures ∙ by_lengths
+    (sym c.in-Err.is ∙ c.size_verdict-verdict.ensures ∙ by_lengths
     _ _ _ _ _ _)
 
-pub returns-in-Pass : goal.returns-in-Pass
-returns-in-Pass c =
+pub returns-in-Ok : goal.returns-in-Ok
+returns-in-Ok c =
     format_passed _ _ _ _ _ _ _ _ _
-    (sym c.in-Pass.is ∙ c.size_verdict-verdict.ensures ∙ by_lengths _ _ _ _ _ _)
+    (sym c.in-Ok.is ∙ c.size_verdict-verdict.ensures ∙ by_lengths _ _ _ _ _ _)
     c.make.ensures

@@ -32,19 +32,19 @@ fresh_tables-requires c =
 
 pub overflow_sub-stores : goal.overflow_sub-stores
 overflow_sub-stores c =
-    let h = left_enough _ _ _ (sym c.in-Left.is ∙ c.store_all-power.ensures.0) in
+    let h = left_enough _ _ _ (sym c.in-Some.is ∙ c.store_all-power.ensures.0) in
     omega arith
 
-pub returns-in-Failed : goal.returns-in-Failed
-returns-in-Failed c =
+pub returns-in-None : goal.returns-in-None
+returns-in-None c =
     format_cut_lem _ c.volume-g.result _ _ _ _ _ _ _ _ _
     _ _ c.store_all-power.auto.image c.zero_tables.auto.map c.zero_tables.auto.places c.zero_tables.auto.numbers c.zero_tables.auto.used c.store_all-power.ensures.1
     c.volume-g.ensures c.power_failed.result c.lost.result c.power_failed.ensures c.lost.ensures
-    (sym c.in-Failed.is ∙ c.store_all-power.ensures.0) c.zero_tables.ensures
+    (sym c.in-None.is ∙ c.store_all-power.ensures.0) c.zero_tables.ensures
 
-pub returns-in-Left : goal.returns-in-Left
-returns-in-Left c =
+pub returns-in-Some : goal.returns-in-Some
+returns-in-Some c =
     format_whole _ c.volume-g.result _ _ _ _ _ _ _ _
     _ _ _ c.store_all-power.auto.image c.fresh_tables.auto.map c.fresh_tables.auto.places c.fresh_tables.auto.numbers c.fresh_tables.auto.used c.store_all-power.ensures.1
     c.volume-g.ensures c.accepted.result c.running.result c.pieces_for-pieces.result _ c.pieces_for-pieces.ensures c.accepted.ensures
-    c.running.ensures (sym c.in-Left.is ∙ c.store_all-power.ensures.0) c.fresh_tables.ensures
+    c.running.ensures (sym c.in-Some.is ∙ c.store_all-power.ensures.0) c.fresh_tables.ensures

@@ -2,10 +2,10 @@
 use Rattle.park.proofs.ParkLaws.{store_fails, store_made}
 use Rattle.park.proofs.store_record.Goals as goal
 
-pub returns-then-allowance-eq0 : goal.returns-then-allowance-eq0
-returns-then-allowance-eq0 c =
-    store_fails _ _ _ _ c.if-allowance-eq0.true
+pub returns-in_err-left : goal.returns-in_err-left
+returns-in_err-left c =
+    store_fails _ _ _ _ _ c.in_err-left.ensures c.from_residual.ensures
 
 pub returns : goal.returns
 returns c =
-    store_made _ _ _ _ _ c.if-allowance-eq0.false c.store_park.ensures
+    store_made _ _ _ _ _ _ c.in_ok-left.ensures c.store_park.ensures

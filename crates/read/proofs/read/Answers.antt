@@ -5,12 +5,12 @@ use Rattle.read.proofs.read.Goals as goal
 
 pub fill-requires : goal.fill-requires
 fill-requires c =
-    sym c.in-Pass.is ∙ c.read_verdict-verdict.ensures
+    sym c.in-Ok.is ∙ c.read_verdict-verdict.ensures
 
-pub returns-in-Refuse : goal.returns-in-Refuse
-returns-in-Refuse c =
-    read_refused _ _ _ _ _ _ _ _ _ (sym c.in-Refuse.is ∙ c.read_verdict-verdict.ensures)
+pub returns-in-Err : goal.returns-in-Err
+returns-in-Err c =
+    read_refused _ _ _ _ _ _ _ _ _ (sym c.in-Err.is ∙ c.read_verdict-verdict.ensures)
 
-pub returns-in-Pass : goal.returns-in-Pass
-returns-in-Pass c =
-    read_done _ _ _ _ _ _ _ _ _ _ c.accepted.ensures (sym c.in-Pass.is ∙ c.read_verdict-verdict.ensures) c.fill.ensures
+pub returns-in-Ok : goal.returns-in-Ok
+returns-in-Ok c =
+    read_done _ _ _ _ _ _ _ _ _ _ c.accepted.ensures (sym c.in-Ok.is ∙ c.read_verdict-verdict.ensures) c.fill.ensures
