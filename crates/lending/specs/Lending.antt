@@ -5,6 +5,7 @@ use Rattle.geometry.specs.Geometry.{pieces_for, used_bytes}
 use Rattle.volume.specs.Tables.{Tables, Memory, tables_of, memory}
 use Rattle.lending.specs.declared.Tables as lent_tables
 use Rattle.lending.specs.declared.Memory as lent_memory
+use Rattle.lending.specs.declared.Lengths as lent_lengths
 
 -- The tables that are looked at.
 abbrev pub tables_in : lent_tables.Tables → Tables
@@ -17,6 +18,21 @@ seen image t = memory image t.map.now t.places.now t.numbers.now t.used.now
 -- All that is lent to a storing call.
 abbrev pub held : lent_memory.Memory → Memory
 held m = memory m.image.now m.map.now m.places.now m.numbers.now m.used.now
+
+-- The lengths of an image and such tables, and those of all that is lent.
+abbrev pub lengths_of : ℕ → lent_tables.Tables → lent_lengths.Lengths
+lengths_of image t =
+    record { image = image; map = length t.map.now; places = length t.places.now; numbers = length t.numbers.now; used = length t.used.now }
+
+abbrev pub lengths_held : lent_memory.Memory → lent_lengths.Lengths
+lengths_held m =
+    record {
+      image = length m.image.now;
+      map = length m.map.now;
+      places = length m.places.now;
+      numbers = length m.numbers.now;
+      used = length m.used.now;
+    }
 
 -- The tables have the lengths of a volume.
 pub record Sized (g : Geometry) (t : lent_tables.Tables) : Type 0 where

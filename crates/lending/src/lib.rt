@@ -2,7 +2,7 @@
 #![tactic(auto)]
 
 ghost use Rattle.std.specs.Prelude.{◌≡◌};
-ghost use Rattle.lending.specs.Lending.{held, seen};
+ghost use Rattle.lending.specs.Lending.{held, seen, lengths_of, lengths_held};
 
 // The tables, to look at: L map words, P live places, P live numbers, and the used map.
 #[derive(Clone, Copy)]
@@ -11,6 +11,31 @@ pub struct Tables<'a> {
     pub places: &'a [u32],
     pub numbers: &'a [u32],
     pub used: &'a [u8],
+}
+
+// The lengths of what is lent, the image in bytes and the others in elements.
+#[derive(Clone, Copy)]
+pub struct Lengths {
+    pub image: usize,
+    pub map: usize,
+    pub places: usize,
+    pub numbers: usize,
+    pub used: usize,
+}
+
+impl<'a> Tables<'a> {
+    // With the length of an image.
+    pub fn lengths(&self, image: usize) -> Lengths
+        ensures { result ≡ lengths_of image self.now }
+    {
+        Lengths {
+            image,
+            map: self.map.len(),
+            places: self.places.len(),
+            numbers: self.numbers.len(),
+            used: self.used.len(),
+        }
+    }
 }
 
 // All that a storing call is lent: the image, and the tables.
@@ -28,6 +53,18 @@ impl<'a> Memory<'a> {
         ensures { result.now ≡ self.now.image.now }
     {
         &*self.image
+    }
+
+    pub fn lengths(&self) -> Lengths
+        ensures { result ≡ lengths_held self.now }
+    {
+        Lengths {
+            image: self.image.len(),
+            map: self.map.len(),
+            places: self.places.len(),
+            numbers: self.numbers.len(),
+            used: self.used.len(),
+        }
     }
 
     pub fn tables(&self) -> Tables<'_>
