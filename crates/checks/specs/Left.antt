@@ -1,6 +1,7 @@
 -- What a call hands back and leaves, put together from its result and the lent slices.
 use Rattle.std.specs.Prelude.{List, [], ℕ}
 use Rattle.state.specs.declared.Outcome.{Outcome}
+use Rattle.lending.specs.declared.Lengths.{Lengths}
 use Rattle.volume.specs.Tables.{Memory, zero_tables}
 use Rattle.volume.specs.Calls.{ReadAfter}
 
@@ -16,3 +17,7 @@ lent image map places numbers used =
       image = λ _. [];
       tables = zero_tables;
     }
+
+-- The same of lengths that are one value.
+abbrev pub measured : Lengths → Memory
+measured l = lent l.image l.map l.places l.numbers l.used

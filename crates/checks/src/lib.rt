@@ -8,10 +8,11 @@ ghost use Rattle.answer.specs.Answer.{lengths};
 ghost use Rattle.volume.specs.Refusals.{first_of, judged};
 ghost use Rattle.volume.specs.Format.{size_checks};
 ghost use Rattle.volume.specs.Calls.{state_checks};
-ghost use Rattle.checks.specs.Left.{lent};
+ghost use Rattle.checks.specs.Left.{measured};
 
 use answer::Refusal;
 use geometry::{Geometry, Settings};
+use lending::Lengths;
 use state::State;
 
 // Refusal 1 of a call on a state: N and L are in range, and the image has N sectors.
@@ -23,29 +24,21 @@ fn state_fits(s: State, image: usize) -> bool
 }
 
 // Refusal 2: the tables have their lengths.
-fn tables_fit(g: Geometry, map: usize, places: usize, numbers: usize, used: usize) -> bool
-    ensures { result ≡ (eqb map g.l && eqb places (pieces_for g.l) && eqb numbers (pieces_for g.l) && eqb used (used_bytes g.n)) }
+fn tables_fit(g: Geometry, lent: Lengths) -> bool
+    ensures { result ≡ (eqb lent.map g.l && eqb lent.places (pieces_for g.l) && eqb lent.numbers (pieces_for g.l) && eqb lent.used (used_bytes g.n)) }
 {
     let pieces = Geometry::pieces_for(g.l) as usize;
-    map == g.l as usize
-        && places == pieces
-        && numbers == pieces
-        && used == g.used_bytes() as usize
+    lent.map == g.l as usize
+        && lent.places == pieces
+        && lent.numbers == pieces
+        && lent.used == g.used_bytes() as usize
 }
 
 // The refusals that every call on a state begins with, by the lengths of what is lent; own says so of the call's own buffer.
-pub fn state_verdict(
-    s: State,
-    image: usize,
-    map: usize,
-    places: usize,
-    numbers: usize,
-    used: usize,
-    own: bool,
-) -> Result<(), Refusal>
-    ensures { result ≡ first_of lengths (state_checks s (lent image map places numbers used) own) }
+pub fn state_verdict(s: State, lent: Lengths, own: bool) -> Result<(), Refusal>
+    ensures { result ≡ first_of lengths (state_checks s (measured lent) own) }
 {
-    if !state_fits(s, image) {
+    if !state_fits(s, lent.image) {
         return Err(Refusal::Size);
     }
     let g = s.geometry;
@@ -53,7 +46,7 @@ pub fn state_verdict(
     if !drive.fits(g.n) {
         return Err(Refusal::WrongSettings);
     }
-    if !tables_fit(g, map, places, numbers, used) {
+    if !tables_fit(g, lent) {
         return Err(Refusal::BufferLength);
     }
     if !own {
@@ -73,25 +66,18 @@ fn image_fits(image: usize, settings: Settings) -> bool
 }
 
 // The refusals of format and recover, by the lengths of what is lent.
-pub fn size_verdict(
-    settings: Settings,
-    image: usize,
-    map: usize,
-    places: usize,
-    numbers: usize,
-    used: usize,
-) -> Result<(), Refusal>
-    ensures { result ≡ judged (size_checks (lent image map places numbers used) settings) }
+pub fn size_verdict(settings: Settings, lent: Lengths) -> Result<(), Refusal>
+    ensures { result ≡ judged (size_checks (measured lent) settings) }
 {
-    if !image_fits(image, settings) {
+    if !image_fits(lent.image, settings) {
         return Err(Refusal::Size);
     }
-    let g = settings.volume((image / Geometry::SECTOR) as u32);
+    let g = settings.volume((lent.image / Geometry::SECTOR) as u32);
     let drive = settings.drive;
     if !drive.fits(g.n) {
         return Err(Refusal::WrongSettings);
     }
-    if !tables_fit(g, map, places, numbers, used) {
+    if !tables_fit(g, lent) {
         return Err(Refusal::BufferLength);
     }
     Ok(())

@@ -9,9 +9,9 @@ pub returns-then-not-image_fits : goal.returns-then-not-image_fits
 returns-then-not-image_fits c =
     size_refused _ _ _ _ _ _ c.image_fits.result c.image_fits.ensures (ap not c.if-not-image_fits.true)
 
-pub overflow_cast-image : goal.overflow_cast-image
-overflow_cast-image c =
-    let h = fits_number c.args.settings c.args.image c.args.map c.args.places c.args.numbers c.args.used c.image_fits.result c.image_fits.ensures (ap not c.if-not-image_fits.false) in
+pub overflow_cast-lent : goal.overflow_cast-lent
+overflow_cast-lent c =
+    let h = fits_number c.args.settings c.args.lent.image c.args.lent.map c.args.lent.places c.args.lent.numbers c.args.lent.used c.image_fits.result c.image_fits.ensures (ap not c.if-not-image_fits.false) in
     omega arith
 
 pub returns-then-not-fits : goal.returns-then-not-fits
