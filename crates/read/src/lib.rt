@@ -8,10 +8,12 @@ ghost use Rattle.layout.specs.Entry.{sector_of, restored};
 ghost use Rattle.volume.specs.Tables.{sector_at, memory};
 ghost use Rattle.volume.specs.Refusals.{judged};
 ghost use Rattle.volume.specs.Calls.{entry_readable, read_checks, read_of};
+ghost use Rattle.lending.specs.Lending.{seen};
 ghost use Rattle.checks.specs.Left.{read_left};
 
 use answer::{Answer, Refusal};
 use geometry::Geometry;
+use lending::Tables;
 use state::{Outcome, Phase, State};
 
 // Refusal 5 of a read: its own entry is empty, or names a sector from 1 to n - 1.
@@ -39,29 +41,18 @@ fn entry_verdict(n: u32, entry: u32) -> Result<(), Refusal>
 fn read_verdict(
     s: State,
     image: &[u8],
-    map: &[u32],
-    places: &[u32],
-    numbers: &[u32],
-    used: &[u8],
+    t: &Tables<'_>,
     block: u32,
     out: usize,
 ) -> Result<(), Refusal>
-    ensures { result ≡ judged (read_checks s (memory image.now map.now places.now numbers.now used.now) block out) }
+    ensures { result ≡ judged (read_checks s (seen image.now t.now) block out) }
 {
-    checks::state_verdict(
-        s,
-        image.len(),
-        map.len(),
-        places.len(),
-        numbers.len(),
-        used.len(),
-        out == Geometry::SECTOR,
-    )?;
+    checks::state_verdict(s, t.lengths(image.len()), out == Geometry::SECTOR)?;
     let g = s.geometry;
     if g.l <= block {
         return Err(Refusal::BlockNumbers);
     }
-    let entry = map[block as usize];
+    let entry = t.map[block as usize];
     let phase = s.phase;
     match phase {
         Phase::Running | Phase::Parked => entry_verdict(g.n, entry),
@@ -70,45 +61,27 @@ fn read_verdict(
 }
 
 // The block's bytes, where no refusal applies.
-fn fill(
-    s: State,
-    image: &[u8],
-    map: &[u32],
-    places: &[u32],
-    numbers: &[u32],
-    used: &[u8],
-    block: u32,
-    out: &mut [u8],
-)
-    requires { Ok tt ≡ judged (read_checks s (memory image.now map.now places.now numbers.now used.now) block (length out.old)) }
-    ensures { out.new ≡ restored (at map.now block) (sector_at image.now (sector_of (at map.now block))) }
+fn fill(s: State, image: &[u8], t: &Tables<'_>, block: u32, out: &mut [u8])
+    requires { Ok tt ≡ judged (read_checks s (seen image.now t.now) block (length out.old)) }
+    ensures { out.new ≡ restored (at t.now.map.now block) (sector_at image.now (sector_of (at t.now.map.now block))) }
 {
-    let entry = map[block as usize];
+    let entry = t.map[block as usize];
     let k = blocks::sector_of(entry) as usize;
     blocks::restore_block(out, entry, images::sector(image, k));
 }
 
 // Fills out with a block: an accepted read changes only those 512 bytes.
-pub fn read(
-    s: State,
-    image: &[u8],
-    map: &[u32],
-    places: &[u32],
-    numbers: &[u32],
-    used: &[u8],
-    block: u32,
-    out: &mut [u8],
-) -> Outcome
-    ensures { read_left result (memory image.now map.now places.now numbers.now used.now) out.new ≡ read_of s (memory image.now map.now places.now numbers.now used.now) block out.old }
+pub fn read(s: State, image: &[u8], t: &Tables<'_>, block: u32, out: &mut [u8]) -> Outcome
+    ensures { read_left result (seen image.now t.now) out.new ≡ read_of s (seen image.now t.now) block out.old }
 {
-    let verdict = read_verdict(s, image, map, places, numbers, used, block, out.len());
+    let verdict = read_verdict(s, image, t, block, out.len());
     match verdict {
         Err(refusal) => Outcome {
             answer: Answer::Refused(refusal),
             state: s,
         },
         Ok(()) => {
-            fill(s, image, map, places, numbers, used, block, out);
+            fill(s, image, t, block, out);
             Outcome {
                 answer: Answer::accepted(0),
                 state: s,

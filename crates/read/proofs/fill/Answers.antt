@@ -9,8 +9,8 @@ use lib.ListN.{length}
 use Rattle.read.proofs.ReadLaws.{readable}
 use Rattle.read.proofs.fill.Goals as goal
 
-pub bounds-map-block : goal.bounds-map-block
-bounds-map-block c =
+pub bounds-t-block : goal.bounds-t-block
+bounds-t-block c =
     let r = readable _ _ _ _ _ _ _ _ (c.requires) in
     let h = r.in_map in
     omega arith
@@ -32,4 +32,4 @@ restore_block-requires c =
 pub returns : goal.returns
 returns c =
     c.restore_block.ensures
-    ∙ ap (restored (at c.args.map.now c.args.block)) (c.sector.ensures ∙ ap (sector_at c.args.image.now) c.sector_of-k.ensures)
+    ∙ ap (restored (at c.args.t.now.map.now c.args.block)) (c.sector.ensures ∙ ap (sector_at c.args.image.now) c.sector_of-k.ensures)
