@@ -4,6 +4,7 @@
 ghost use Rattle.std.specs.Prelude.{◌≡◌, true, cond, [], ◌∷◌, ◌≤◌, length, take, Ok, Err};
 ghost use Rattle.geometry.specs.Geometry.{sector_bytes};
 ghost use Rattle.answer.specs.declared.Refusal.TheVariants.{Inconsistent};
+ghost use Rattle.lending.specs.Lending.{seen};
 ghost use Rattle.volume.specs.Tables.{memory, sector_at};
 ghost use Rattle.volume.specs.Refusals.{judged};
 ghost use Rattle.volume.specs.Store.{applied, after};
@@ -13,52 +14,31 @@ ghost use Rattle.power.specs.Power.{powered};
 ghost use Rattle.park.specs.Park.{record_store};
 
 use answer::{Answer, Refusal};
+use lending::Tables;
 use state::{Outcome, Phase, State};
 
 // Of a running volume: its tables agree with each other and with the live map sectors.
-fn tables_verdict(
-    s: State,
-    image: &[u8],
-    map: &[u32],
-    places: &[u32],
-    numbers: &[u32],
-    used: &[u8],
-) -> Result<(), Refusal>
-    requires used_value { state_fits s (memory image.now map.now places.now numbers.now used.now) ≡ true }
-    requires geometry_value { tables_fit (memory image.now map.now places.now numbers.now used.now) s.geometry ≡ true }
-    ensures { result ≡ cond (tables_agree s (memory image.now map.now places.now numbers.now used.now)) (Ok tt) (Err Inconsistent) }
+fn tables_verdict(s: State, image: &[u8], t: &Tables<'_>) -> Result<(), Refusal>
+    requires used_value { state_fits s (seen image.now t.now) ≡ true }
+    requires geometry_value { tables_fit (seen image.now t.now) s.geometry ≡ true }
+    ensures { result ≡ cond (tables_agree s (seen image.now t.now)) (Ok tt) (Err Inconsistent) }
 {
     let g = s.geometry;
-    let free = bits::count_free(used, g.n);
-    if !live_sectors::tables_agree(s, image, map, places, numbers, used, free) {
+    let free = bits::count_free(t.used, g.n);
+    if !live_sectors::tables_agree(s, image, t, free) {
         return Err(Refusal::Inconsistent);
     }
     Ok(())
 }
 
 // The refusals of a park, in their order.
-fn park_verdict(
-    s: State,
-    image: &[u8],
-    map: &[u32],
-    places: &[u32],
-    numbers: &[u32],
-    used: &[u8],
-) -> Result<(), Refusal>
-    ensures { result ≡ judged (park_checks s (memory image.now map.now places.now numbers.now used.now)) }
+fn park_verdict(s: State, image: &[u8], t: &Tables<'_>) -> Result<(), Refusal>
+    ensures { result ≡ judged (park_checks s (seen image.now t.now)) }
 {
-    checks::state_verdict(
-        s,
-        image.len(),
-        map.len(),
-        places.len(),
-        numbers.len(),
-        used.len(),
-        true,
-    )?;
+    checks::state_verdict(s, t.lengths(image.len()), true)?;
     let phase = s.phase;
     match phase {
-        Phase::Running => tables_verdict(s, image, map, places, numbers, used),
+        Phase::Running => tables_verdict(s, image, t),
         Phase::Parked => Err(Refusal::WrongPhase),
         Phase::Cut => Err(Refusal::WrongPhase),
     }
@@ -75,18 +55,10 @@ fn store_record(image: &mut [u8], number: u32, tail: u32, allowance: u32) -> Opt
 }
 
 // Parks the volume, if the store is made.
-pub fn park(
-    s: State,
-    image: &mut [u8],
-    map: &[u32],
-    places: &[u32],
-    numbers: &[u32],
-    used: &[u8],
-    allowance: u32,
-) -> Outcome
-    ensures { after result (memory image.new map.now places.now numbers.now used.now) ≡ park_of s (memory image.old map.now places.now numbers.now used.now) allowance }
+pub fn park(s: State, image: &mut [u8], t: &Tables<'_>, allowance: u32) -> Outcome
+    ensures { after result (seen image.new t.now) ≡ park_of s (seen image.old t.now) allowance }
 {
-    let verdict = park_verdict(s, image, map, places, numbers, used);
+    let verdict = park_verdict(s, image, t);
     match verdict {
         Err(refusal) => Outcome {
             answer: Answer::Refused(refusal),
