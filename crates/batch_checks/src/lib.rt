@@ -7,9 +7,10 @@ ghost use Rattle.layout.specs.Bounded.{at, sum_below};
 ghost use Rattle.answer.specs.declared.Refusal.TheVariants.{CommitCount};
 ghost use Rattle.volume.specs.Refusals.{judged};
 ghost use Rattle.batches.specs.Batch.{batch_commits, commit_words, answer_words, batch_fits, batch_checks};
-ghost use Rattle.checks.specs.Left.{lent};
+ghost use Rattle.checks.specs.Left.{measured};
 
 use answer::Refusal;
+use lending::Lengths;
 use state::State;
 
 // Words of a commit as it is lent, and of its answer.
@@ -68,19 +69,15 @@ fn count_verdict(commits: usize) -> Result<(), Refusal>
 // The refusals of a batch as a whole, in their order, by the lengths of what is lent.
 pub fn batch_verdict(
     s: State,
-    image: usize,
-    map: usize,
-    places: usize,
-    numbers: usize,
-    used: usize,
+    lent: Lengths,
     words: &[u32],
     blocks: usize,
     bytes: usize,
     answers: usize,
 ) -> Result<(), Refusal>
-    ensures { result ≡ judged (batch_checks s (lent image map places numbers used) words.now blocks bytes answers) }
+    ensures { result ≡ judged (batch_checks s (measured lent) words.now blocks bytes answers) }
 {
     let fit = buffers_fit(words, blocks, bytes, answers);
-    checks::state_verdict(s, image, map, places, numbers, used, fit)?;
+    checks::state_verdict(s, lent, fit)?;
     count_verdict(words.len() / COMMIT_WORDS)
 }
