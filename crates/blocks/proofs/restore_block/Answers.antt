@@ -6,7 +6,7 @@ use Rattle.blocks.proofs.restore_block.Goals as goal
 
 pub returns-then-entry-eq0 : goal.returns-then-entry-eq0
 returns-then-entry-eq0 c =
-    c.copy_over.ensures ∙ sym (restored_empty c.args.entry c.args.bytes.now c.if-entry-eq0.true)
+    c.copy_from_slice.ensures.after ∙ sym (restored_empty c.args.entry c.args.bytes.now c.if-entry-eq0.true)
 
 pub returns-then-is_flipped : goal.returns-then-is_flipped
 returns-then-is_flipped c =
