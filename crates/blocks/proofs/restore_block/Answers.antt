@@ -11,10 +11,10 @@ returns-then-entry-eq0 c =
 pub returns-then-is_flipped : goal.returns-then-is_flipped
 returns-then-is_flipped c =
     c.complement.ensures
-    ∙ ap complemented c.copy_out.ensures
+    ∙ ap complemented c.copy_from_slice-2.ensures.after
     ∙ sym (restored_flipped c.args.entry c.args.bytes.now c.if-entry-eq0.false (sym c.is_flipped.ensures ∙ c.if-is_flipped.true))
 
 pub returns-else-is_flipped : goal.returns-else-is_flipped
 returns-else-is_flipped c =
-    c.copy_out.ensures
+    c.copy_from_slice-2.ensures.after
     ∙ sym (restored_plain c.args.entry c.args.bytes.now c.if-entry-eq0.false (sym c.is_flipped.ensures ∙ c.if-is_flipped.false))
