@@ -2,7 +2,7 @@
 // complemented, and bit 31 of its entry set.
 #![tactic(auto)]
 
-ghost use Rattle.std.specs.Prelude.{◌≡◌, ◌&&◌, ◌<◌, ◌^◌, length};
+ghost use Rattle.std.specs.Prelude.{◌≡◌, ◌<◌, ◌^◌, length};
 ghost use Rattle.geometry.specs.Geometry.{sector_bytes};
 ghost use Rattle.layout.specs.Bounded.{at, all, is_zero};
 ghost use Rattle.layout.specs.Entry.{sector_of, is_flipped, complemented, needs_flip, stored, entry_for, restored};
@@ -16,10 +16,7 @@ const FLIPPED: u32 = 2_147_483_648;
 pub fn entry_of(map: &[u32], block: usize) -> u32
     ensures { result ≡ at map.now block }
 {
-    if map.len() <= block {
-        return 0;
-    }
-    map[block]
+    map.get(block).copied().unwrap_or(0)
 }
 
 // Bits 0 to 30 of an entry: the block's sector.
@@ -67,22 +64,10 @@ pub fn store_block(dst: &mut [u8], block: &[u8])
     requires block_len { length block.now ≡ sector_bytes }
     ensures { dst.new ≡ stored block.now }
 {
-    marks::copy_over(dst, block, Geometry::SECTOR);
+    dst.copy_from_slice(block);
     if needs_flip(block) {
         complement(dst);
     }
-}
-
-// Copies a sector out. By way of a local one, so that the compiler makes it one move of a known length: of the two that are lent it does not
-// know that they are apart.
-fn copy_out(out: &mut [u8], bytes: &[u8])
-    requires out_len { length out.old ≡ sector_bytes }
-    requires bytes_len { length bytes.now ≡ sector_bytes }
-    ensures { out.new ≡ bytes.now }
-{
-    let mut held = [0u8; Geometry::SECTOR];
-    marks::copy_over(&mut held, bytes, Geometry::SECTOR);
-    marks::copy_over(out, &held, Geometry::SECTOR);
 }
 
 // Fills out with the block that an entry reads as, given the bytes of its sector.
@@ -92,35 +77,18 @@ pub fn restore_block(out: &mut [u8], entry: u32, bytes: &[u8])
     ensures { out.new ≡ restored entry bytes.now }
 {
     if entry == 0 {
-        let zeros = [0u8; Geometry::SECTOR];
-        marks::copy_over(out, &zeros, Geometry::SECTOR);
+        out.copy_from_slice(&[0u8; Geometry::SECTOR]);
         return;
     }
-    copy_out(out, bytes);
+    out.copy_from_slice(bytes);
     if is_flipped(entry) {
         complement(out);
     }
-}
-
-// Whether all was zero so far, and b is.
-fn still_zero(good: bool, b: u8) -> bool
-    ensures { result ≡ (good && is_zero b) }
-{
-    if b != 0 {
-        return false;
-    }
-    good
 }
 
 // Whether every byte is zero. All are looked at, so that the compiler compares several at a time.
 pub fn is_blank(s: &[u8]) -> bool
     ensures { result ≡ all is_zero s.now }
 {
-    let mut good = true;
-    let mut i = 0;
-    while i < s.len() {
-        good = still_zero(good, s[i]);
-        i += 1;
-    }
-    good
+    s.iter().fold(true, |good, b| good & (*b == 0))
 }

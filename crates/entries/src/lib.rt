@@ -15,10 +15,7 @@ pub fn entries_for(bytes: &[u8], places: &[u32], count: usize, entries: &mut [u3
     requires by_index { (i : ℕ) → i < count → at places.now i < 2 ^ 31 }
     ensures { entries.new ≡ list_from (λ i. entry_for (sector_at bytes.now i) (at places.now i)) 0 count ++ drop count entries.old }
 {
-    let mut i = 0;
-    while i < count {
-        let entry = blocks::entry_for(images::sector(bytes, i), places[i]);
-        entries[i] = entry;
-        i += 1;
+    for i in 0..count {
+        entries[i] = blocks::entry_for(images::sector(bytes, i), places[i]);
     }
 }

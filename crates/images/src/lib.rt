@@ -29,7 +29,7 @@ pub fn store_sector(image: &mut [u8], k: usize, bytes: &[u8])
 {
     let first = Geometry::SECTOR * k;
     let end = first + Geometry::SECTOR;
-    marks::copy_over(&mut image[first..end], bytes, Geometry::SECTOR);
+    image[first..end].copy_from_slice(bytes);
 }
 
 // Stores a blank sector.
@@ -37,8 +37,7 @@ pub fn blank_sector(image: &mut [u8], k: usize)
     requires { sector_bytes * k + sector_bytes ≤ length image.old }
     ensures { sector_at image.new ≡ updated (sector_at image.old) k blank }
 {
-    let zeros = [0u8; Geometry::SECTOR];
-    store_sector(image, k, &zeros);
+    store_sector(image, k, &[0u8; Geometry::SECTOR]);
 }
 
 // Stores a block as the data of sector k.
@@ -96,6 +95,5 @@ pub fn store_park(image: &mut [u8], number: u32, tail: u32)
     requires { sector_bytes ≤ length image.old }
     ensures { sector_at image.new ≡ updated (sector_at image.old) 0 (park_record (record { number = number; tail = tail })) }
 {
-    let end = Geometry::SECTOR;
-    park_record::put_park(&mut image[0..end], number, tail);
+    park_record::put_park(&mut image[..Geometry::SECTOR], number, tail);
 }

@@ -12,14 +12,7 @@ ghost use Rattle.piece_entries.specs.Cursor.{Cursor};
 
 use geometry::Geometry;
 
-// 1 for a closing sector, 0 for a member.
-fn kind_of(closing: bool) -> u32
-    ensures { result ≡ kind_of closing }
-{
-    if closing { 1 } else { 0 }
-}
-
-// Words 0 to 7, with zero for the balance.
+// Words 0 to 7, with zero for the balance. The kind is 1 for a closing sector, 0 for a member.
 fn put_header(s: &mut [u8], l: u32, number: u32, piece: u32, closing: bool, branches: u32)
     requires { length s.old ≡ sector_bytes }
     ensures { s.new ≡ sets s.old 0 (map_mark ++ bytes_of (0 ∷ number ∷ 0 ∷ piece ∷ kind_of closing ∷ branches ∷ l ∷ [])) }
@@ -29,7 +22,7 @@ fn put_header(s: &mut [u8], l: u32, number: u32, piece: u32, closing: bool, bran
     words::put_word(s, 2, number);
     words::put_word(s, 3, 0);
     words::put_word(s, 4, piece);
-    words::put_word(s, 5, kind_of(closing));
+    words::put_word(s, 5, u32::from(closing));
     words::put_word(s, 6, branches);
     words::put_word(s, 7, l);
 }

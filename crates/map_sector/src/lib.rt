@@ -121,10 +121,8 @@ fn branches_fit(s: &[u8], n: u32) -> bool
 {
     let count = words::word_at(s, 6);
     let mut good = true;
-    let mut i: u32 = 0;
-    while i < Geometry::BRANCHES {
+    for i in 0..Geometry::BRANCHES {
         good = still_fits(good, branch_at(s, i as usize), i, count, n);
-        i += 1;
     }
     good
 }

@@ -8,9 +8,10 @@ use native.Mathlib.Nat.{add-zero, zero-add, suc-add, sub-zero, not-suc-le-zero, 
 use native.Mathlib.Numerals.{add-one}
 use native.Mathlib.Omega.{arith}
 use lib.ListN.{length, take, drop, replicate, set, length-drop}
-use lib.Seq.{sets, length-sets, length-take-le, drop-cons}
-use lib.Dec.{leb, ltb}
-use borrow.Author.Tests.{eq-eqb, ne_eqb, le-leb, lt-leb, lt-ltb, le-ltb}
+use Rattle.std.proofs.Common.{min}
+use lib.Seq.{sets, length-take-le, drop-cons}
+use lib.Dec.{leb}
+use borrow.Author.Tests.{eq-eqb, ne_eqb, le-leb, lt-leb}
 use Rattle.layout.specs.Bounded.{at, list_from, updated, updates}
 use Rattle.layout.specs.Word.{word_bytes, bytes_of}
 use Rattle.volume.specs.Tables.{piece_entries}
@@ -41,41 +42,19 @@ listed_past xs from n h = list_from_same (at xs) (λ _. 0) from n (λ k a b. sym
 pub held_length : (xs : List ℕ) (start end : ℕ) → start ≤ end → end ≤ length xs → length (take (end - start) (drop start xs)) ≡ end - start
 held_length xs start end h k = length-take-le (end - start) (drop start xs) (simp length-drop (omega arith))
 
-lesser_first : (a b r : ℕ) → r ≡ cond (ltb a b) a b → a < b → r ≡ a
-lesser_first a b r e h = e ∙ rw (lt-ltb a b h) refl
-
-lesser_second : (a b r : ℕ) → r ≡ cond (ltb a b) a b → b ≤ a → r ≡ b
-lesser_second a b r e h = e ∙ rw (le-ltb a b h) refl
-
 -- The n words of a map from `from` on: those that it has, then zeros.
-module _ (map : List ℕ) (from n start end : ℕ) (first : start ≡ cond (ltb from (length map)) from (length map))
-    (last : end ≡ cond (ltb (from + n) (length map)) (from + n) (length map)) where
-  pub held : (start ≤ end) × (end ≤ length map) × (end - start ≤ n) × (start ≤ from)
-  held =
-      ⊎_elim (λ (z : from < length map).
-      let s : start ≡ from = lesser_first from (length map) start first z in
-      ⊎_elim (λ (y : from + n < length map).
-      let e : end ≡ from + n = lesser_first (from + n) (length map) end last y in
-      (omega arith, omega arith, omega arith, omega arith))
-      (λ (y : length map ≤ from + n).
-      let e : end ≡ length map = lesser_second (from + n) (length map) end last y in
-      (omega arith, omega arith, omega arith, omega arith)) (lt? (from + n) (length map)))
-      (λ (z : length map ≤ from).
-      let s : start ≡ length map = lesser_second from (length map) start first z in
-      let e : end ≡ length map = lesser_second (from + n) (length map) end last (omega arith) in
-      (omega arith, omega arith, omega arith, omega arith)) (lt? from (length map))
-
+module _ (map : List ℕ) (from n start end : ℕ) (first : start ≡ min from (length map)) (last : end ≡ min (from + n) (length map)) where
   pub listed : take (end - start) (drop start map) ++ replicate (n - (end - start)) 0 ≡ list_from (at map) from n
   listed =
       ⊎_elim (λ (z : from < length map).
-      let s : start ≡ from = lesser_first from (length map) start first z in
+      let s : start ≡ from = omega arith in
       ⊎_elim (λ (y : from + n < length map).
-      let e : end ≡ from + n = lesser_first (from + n) (length map) end last y in
+      let e : end ≡ from + n = omega arith in
       let all_held : end - start ≡ n = omega arith in
       let none_left : n - n ≡ 0 = omega arith in
       rw (all_held, none_left, s) (append-nil (take n (drop from map)) ∙ part_listed map from n (omega arith)))
       (λ (y : length map ≤ from + n).
-      let e : end ≡ length map = lesser_second (from + n) (length map) end last y in
+      let e : end ≡ length map = omega arith in
       let m : ℕ = end - start in
       let all-is : m + (n - m) ≡ n = omega arith in
       ap (λ (k : ℕ). take m (drop k map) ++ replicate (n - m) 0) s
@@ -84,8 +63,8 @@ module _ (map : List ℕ) (from n start end : ℕ) (first : start ≡ cond (ltb 
       ∙ sym (listed_parts (at map) from m (n - m))
       ∙ ap (list_from (at map) from) all-is) (lt? (from + n) (length map)))
       (λ (z : length map ≤ from).
-      let s : start ≡ length map = lesser_second from (length map) start first z in
-      let e : end ≡ length map = lesser_second (from + n) (length map) end last (omega arith) in
+      let s : start ≡ length map = omega arith in
+      let e : end ≡ length map = omega arith in
       let none-held : end - start ≡ 0 = omega arith in
       rw (none-held, sub-zero) (sym (listed_past map from n z))) (lt? from (length map))
 
@@ -211,9 +190,6 @@ module _ (l p : ℕ) (map blocks news s₀ : List ℕ) where
       }
 
   module _ (i : ℕ) (s : List ℕ) (c : Changing l p map blocks news s₀ i s) where
-    pub changing_length : length s ≡ length s₀
-    changing_length = ap length c.are ∙ length-sets s₀ 128 (bytes_of (piece_entries l (changed i) p))
-
     pub changing_goes : (s' : List ℕ) → i < length blocks → at blocks i < 96 * p + 96 → at blocks i < l
         → s' ≡ sets s (4 * (32 + (at blocks i - 96 * p))) (word_bytes (at news i))
         → Changing l p map blocks news s₀ (i + 1) s'

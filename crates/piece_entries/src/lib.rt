@@ -2,7 +2,7 @@
 // blocks.
 #![tactic(auto)]
 
-ghost use Rattle.std.specs.Prelude.{◌≡◌, cond, ℕ, ◌+◌, ◌*◌, ◌≤◌, ◌<◌, length, ltb};
+ghost use Rattle.std.specs.Prelude.{◌≡◌, ℕ, ◌+◌, ◌*◌, ◌≤◌, ◌<◌, length};
 ghost use Rattle.std.proofs.lemmas.List.Edits.{sets};
 ghost use Rattle.geometry.specs.Geometry.{sector_bytes, entries_per_piece, most_pieces};
 ghost use Rattle.layout.specs.Bounded.{at, list_from, updates};
@@ -15,13 +15,6 @@ use geometry::Geometry;
 // The word of a map sector that has its first entry.
 const FIRST: usize = 32;
 
-// The lesser of two.
-fn lesser(a: usize, b: usize) -> usize
-    ensures { result ≡ cond (ltb a b) a b }
-{
-    if a < b { a } else { b }
-}
-
 // The entries of piece p as the map has them, zero past its end.
 fn put_piece(s: &mut [u8], map: &[u32], p: u32)
     requires s_len { length s.old ≡ sector_bytes }
@@ -29,8 +22,8 @@ fn put_piece(s: &mut [u8], map: &[u32], p: u32)
     ensures { s.new ≡ sets s.old 128 (bytes_of (list_from (at map.now) (entries_per_piece * p) entries_per_piece)) }
 {
     let first = (Geometry::ENTRIES * p) as usize;
-    let start = lesser(first, map.len());
-    let end = lesser(first + Geometry::PIECE_ENTRIES, map.len());
+    let start = first.min(map.len());
+    let end = (first + Geometry::PIECE_ENTRIES).min(map.len());
     let held = end - start;
     words::put_words(s, FIRST, &map[start..end]);
     words::put_zeros(s, FIRST + held, Geometry::PIECE_ENTRIES - held);
@@ -57,15 +50,13 @@ pub fn put_entries(
     put_piece(s, map, p);
     let first = Geometry::ENTRIES * p;
     let end = first + Geometry::ENTRIES;
-    let mut i = from;
-    while i < blocks.len() {
+    for i in from..blocks.len() {
         let b = blocks[i];
         if end <= b {
             return i;
         }
         let here = (b - first) as usize;
         words::put_word(s, FIRST + here, news[i]);
-        i += 1;
     }
-    i
+    blocks.len()
 }

@@ -14,10 +14,8 @@ pub fn word_sum(s: &[u8]) -> u32
     ensures { result ≡ word_sum (words_of s.now) }
 {
     let mut sum: u32 = 0;
-    let mut k = 0;
-    while k < Geometry::WORDS {
-        sum = std::num::wrapping_add_u32(sum, words::word_at(s, k));
-        k += 1;
+    for k in 0..Geometry::WORDS {
+        sum = sum.wrapping_add(words::word_at(s, k));
     }
     sum
 }
@@ -26,7 +24,7 @@ pub fn word_sum(s: &[u8]) -> u32
 pub fn balance_of(sum: u32) -> u32
     ensures { result ≡ balance sum }
 {
-    std::num::wrapping_sub_u32(0, sum)
+    sum.wrapping_neg()
 }
 
 // Stores the balance as word 1 of a sector in which that word is zero.

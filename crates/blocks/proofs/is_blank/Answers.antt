@@ -1,17 +1,25 @@
--- What was zero so far and what is left are the whole.
-use mathlib.Core.Path.{refl}
-use native.Mathlib.Omega.{arith}
-use borrow.Author.Rules.{rules}
-use Rattle.blocks.proofs.Blocks.{zero_more, zero_all}
+-- The bytes gathered from the first on are the test of all of them.
+use Rattle.std.proofs.Common.{◌≡◌, ℕ, Bool, true, false, ◌&&◌, List, [], ◌∷◌, refl, ◌∙◌, rules, tests}
+use Rattle.std.specs.List.{fold}
+use Rattle.std.proofs.lemmas.Iterator.{YieldsList-from_slice}
+use Rattle.std.proofs.lemmas.Iterator.Consumers.{fold_from_yields_List}
+use Rattle.layout.specs.Bounded.{all, is_zero}
 use Rattle.blocks.proofs.is_blank.Goals as goal
 
-pub loop-i-init : goal.loop-i-init
-loop-i-init c = (search rules, refl)
+both_true : (a : Bool) → a ≡ (a && true)
+both_true true = refl
+both_true false = refl
 
-pub loop-i-preserved : goal.loop-i-preserved
-loop-i-preserved c =
-    (omega arith, zero_more c.args.s.now _ c.loop-i.good c.loop-i.i c.loop-i.invariant.1 c.loop-i-test.true c.still_zero-good.result c.still_zero-good.ensures)
+both_then : (a b c : Bool) → ((a && b) && c) ≡ (a && (b && c))
+both_then true b c = refl
+both_then false b c = refl
+
+gathered : (good : Bool) (s : List ℕ) → fold (λ (a : Bool) (b : ℕ). a && is_zero b) good s ≡ (good && all is_zero s)
+unfolding all
+gathered good [] = both_true good
+gathered good (b ∷ s) = gathered (good && is_zero b) s ∙ both_then good (is_zero b) (all is_zero s)
 
 pub returns : goal.returns
 returns c =
-    zero_all c.args.s.now _ c.loop-i.good c.loop-i.i c.loop-i.invariant.1 c.loop-i-test.false
+    fold_from_yields_List _ (λ (a : Bool) (b : ℕ). a && is_zero b) true c.fold.result c.fold.ensures.ran (YieldsList-from_slice c.args.s.now cc) (λ a x b q k. search (rules, tests))
+    ∙ gathered true c.args.s.now

@@ -6,15 +6,15 @@ use Rattle.blocks.proofs.restore_block.Goals as goal
 
 pub returns-then-entry-eq0 : goal.returns-then-entry-eq0
 returns-then-entry-eq0 c =
-    c.copy_over.ensures ∙ sym (restored_empty c.args.entry c.args.bytes.now c.if-entry-eq0.true)
+    c.copy_from_slice.ensures.after ∙ sym (restored_empty c.args.entry c.args.bytes.now c.if-entry-eq0.true)
 
 pub returns-then-is_flipped : goal.returns-then-is_flipped
 returns-then-is_flipped c =
     c.complement.ensures
-    ∙ ap complemented c.copy_out.ensures
+    ∙ ap complemented c.copy_from_slice-2.ensures.after
     ∙ sym (restored_flipped c.args.entry c.args.bytes.now c.if-entry-eq0.false (sym c.is_flipped.ensures ∙ c.if-is_flipped.true))
 
 pub returns-else-is_flipped : goal.returns-else-is_flipped
 returns-else-is_flipped c =
-    c.copy_out.ensures
+    c.copy_from_slice-2.ensures.after
     ∙ sym (restored_plain c.args.entry c.args.bytes.now c.if-entry-eq0.false (sym c.is_flipped.ensures ∙ c.if-is_flipped.false))

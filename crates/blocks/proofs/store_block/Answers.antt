@@ -7,10 +7,10 @@ use Rattle.blocks.proofs.store_block.Goals as goal
 pub returns-then-needs_flip : goal.returns-then-needs_flip
 returns-then-needs_flip c =
     c.complement.ensures
-    ∙ ap complemented c.copy_over.ensures
+    ∙ ap complemented c.copy_from_slice.ensures.after
     ∙ sym (stored_flipped c.args.block.now (sym c.needs_flip.ensures ∙ c.if-needs_flip.true))
 
 pub returns-else-needs_flip : goal.returns-else-needs_flip
 returns-else-needs_flip c =
-    c.copy_over.ensures
+    c.copy_from_slice.ensures.after
     ∙ sym (stored_plain c.args.block.now (sym c.needs_flip.ensures ∙ c.if-needs_flip.false))

@@ -8,4 +8,4 @@ use Rattle.images.proofs.store_sector.Goals as goal
 pub returns : goal.returns
 returns c =
     let size : 512 * c.args.k + 512 - 512 * c.args.k ≡ 512 = omega arith in
-    sector_lent c.args.image.now c.args.k _ c.copy_over.new.dst _ c.requires.sector_bytes_in_bounds size c.copy_over.auto.dst c.copy_over.ensures
+    sector_lent c.args.image.now c.args.k _ c.copy_from_slice.new.self _ c.requires.sector_bytes_in_bounds size c.copy_from_slice.auto.self c.copy_from_slice.ensures.after

@@ -1,5 +1,4 @@
 -- The branches below i fit.
-use Prim.Native.Nat.{◌-◌, ◌≤◌}
 use mathlib.Core.Path.{◌≡◌}
 use Rattle.layout.specs.Bounded.{at, all_below}
 use Rattle.layout.specs.Word.{words_of}
@@ -8,7 +7,4 @@ use Rattle.map_sector.specs.Header.{branch_fits}
 use Rattle.map_sector.proofs.branches_fit.Given as goal
 
 abbrev pub invariant-loop-i : goal.invariant-loop-i
-invariant-loop-i l = (l.i ≤ 24) × (l.good ≡ all_below (λ k. branch_fits l.n l.count k (at (branch_words (words_of l.s)) k)) l.i)
-
-abbrev pub decreases-loop-i : goal.decreases-loop-i
-decreases-loop-i l = 24 - l.i
+invariant-loop-i l = l.good ≡ all_below (λ k. branch_fits l.n l.count k (at (branch_words (words_of l.s)) k)) l.i

@@ -7,12 +7,12 @@ use Rattle.sums.proofs.word_sum.Goals as goal
 
 pub loop-k-init : goal.loop-k-init
 unfolding word_sum
-loop-k-init c = (omega arith, refl)
+loop-k-init c = refl
 
 pub loop-k-preserved : goal.loop-k-preserved
 loop-k-preserved c =
-    (omega arith, cc (sum_next (words_of c.args.s.now) c.loop-k.k (omega (arith, length_words_of c.args.s.now))))
+    cc (sum_next (words_of c.args.s.now) c.loop-k.k (omega (arith, length_words_of c.args.s.now)))
 
 pub returns : goal.returns
 returns c =
-    c.loop-k.invariant.1 ∙ ap word_sum (take_all c.loop-k.k (words_of c.args.s.now) (omega (arith, length_words_of c.args.s.now)))
+    c.loop-k.invariant ∙ ap word_sum (take_all c.loop-k.k (words_of c.args.s.now) (omega (arith, length_words_of c.args.s.now)))

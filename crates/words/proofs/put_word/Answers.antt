@@ -1,20 +1,11 @@
--- The four stores are the word's bytes, in order.
-use Rattle.std.proofs.Common.{◌≡◌, ℕ, suc, ◌+◌, ◌*◌, arith, length-set}
+-- The part that comes back holds the word's bytes.
+use Rattle.std.proofs.Common.{◌≡◌, ◌+◌, ◌*◌, ◌-◌, length, ap, ◌∙◌, arith}
+use lib.Seq.{sets}
+use Rattle.laws.proofs.Runs.{sets_part}
 use Rattle.words.proofs.put_word.Goals as goal
-
-pub bounds-s-first-2 : goal.bounds-s-first-2
-bounds-s-first-2 c = simp length-set (omega arith)
-
-pub bounds-s-first-3 : goal.bounds-s-first-3
-bounds-s-first-3 c = simp length-set (omega arith)
-
-pub bounds-s-first-4 : goal.bounds-s-first-4
-bounds-s-first-4 c = simp length-set (omega arith)
 
 pub returns : goal.returns
 returns c =
-    let i : ℕ = 4 * c.args.k in
-    let e₁ : i + 1 ≡ suc i = omega arith in
-    let e₂ : i + 2 ≡ suc (suc i) = omega arith in
-    let e₃ : i + 3 ≡ suc (suc (suc i)) = omega arith in
-    cc
+    let bytes = c.copy_from_slice.ensures.after ∙ c.to_le_bytes.ensures in
+    let size : 4 * c.args.k + 4 - 4 * c.args.k ≡ length c.copy_from_slice.new.self = omega (arith, ap length bytes) in
+    sets_part c.args.s.now (4 * c.args.k) c.copy_from_slice.new.self _ size (omega (arith, ap length bytes)) ∙ ap (sets c.args.s.now (4 * c.args.k)) bytes
