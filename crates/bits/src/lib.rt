@@ -58,6 +58,7 @@ pub fn put_word(used: &mut [u8], w: usize, x: u64)
     ensures { bit_at used.new ≡ (λ k. cond (eqb (k / 64) w) (eqb (x / 2 ^ (k % 64) % 2) 1) (bit_at used.old k)) }
 {
     let first = 8 * w;
+    // Eight stores of a byte, which the compiler makes one: copy_from_slice would first test whether the two overlap.
     for i in 0..8 {
         used[first + i] = ((x >> (8 * i)) % 256) as u8;
     }
