@@ -22,7 +22,7 @@ pub fn set_bit(used: &mut [u8], k: usize)
     used[q] = used[q] | (1u8 << (k % 8));
 }
 
-// Frees sector k.
+// Frees sector k. (One function with set_bit, given the operator, would be no plainer.)
 pub fn clear_bit(used: &mut [u8], k: usize)
     requires { k < 8 * length used.old }
     ensures { bit_at used.new ≡ updated (bit_at used.old) k false }
