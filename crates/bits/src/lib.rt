@@ -22,7 +22,7 @@ pub fn set_bit(used: &mut [u8], k: usize)
     used[q] = used[q] | (1u8 << (k % 8));
 }
 
-// Frees sector k.
+// Frees sector k. (One function with set_bit, given the operator, would be no plainer.)
 pub fn clear_bit(used: &mut [u8], k: usize)
     requires { k < 8 * length used.old }
     ensures { bit_at used.new ≡ updated (bit_at used.old) k false }
@@ -58,6 +58,7 @@ pub fn put_word(used: &mut [u8], w: usize, x: u64)
     ensures { bit_at used.new ≡ (λ k. cond (eqb (k / 64) w) (eqb (x / 2 ^ (k % 64) % 2) 1) (bit_at used.old k)) }
 {
     let first = 8 * w;
+    // Eight stores of a byte, which the compiler makes one: copy_from_slice would first test whether the two overlap.
     for i in 0..8 {
         used[first + i] = ((x >> (8 * i)) % 256) as u8;
     }

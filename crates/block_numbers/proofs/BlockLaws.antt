@@ -1,19 +1,18 @@
 -- Refusal 3, by the tests that led there.
-use Prim.Native.Nat.{ℕ, suc, ◌+◌, ◌*◌, ◌-◌, ◌/◌, ◌%◌, ◌≤◌, ◌<◌}
+use Prim.Native.Nat.{ℕ, suc, ◌*◌, ◌-◌, ◌/◌, ◌%◌, ◌≤◌, ◌<◌}
 use mathlib.Core.Path.{◌≡◌, refl, sym, ◌∙◌}
 use mathlib.Core.Logic.{⊎_elim}
 use mathlib.Core.Bool.{Bool, true, false, not}
 use mathlib.Core.List.{List}
 use native.Mathlib.Nat.{div-add-mod}
-use native.Mathlib.Numerals.{add-one}
 use native.Mathlib.Omega.{arith}
 use lib.ListN.{length}
 use lib.Dec.{eqb, ltb}
-use borrow.Author.Tests.{eq-eqb, ne_eqb, lt-ltb, le-ltb, le-leb, lt-leb, not-true, not-false}
+use borrow.Author.Tests.{eq-eqb, ne_eqb, le-leb, lt-leb, not-true, not-false}
 use Rattle.geometry.specs.declared.Geometry.{Geometry}
 use Rattle.layout.specs.Bounded.{at, all, all_below}
 use Rattle.volume.specs.Calls.{blocks_fit}
-use Rattle.laws.proofs.Bounded.{bool?, eq?, clash, and_i, all_below_at}
+use Rattle.laws.proofs.Bounded.{bool?, eq?, clash, all_below_at}
 
 pub odd_bytes : (bytes blocks : ℕ) → (bytes % 512 ≡ 0 → ⊥) → false ≡ eqb bytes (512 * blocks)
 odd_bytes bytes blocks d = sym (ne_eqb bytes (512 * blocks) (λ (e : bytes ≡ 512 * blocks). d (omega arith)))
@@ -30,17 +29,9 @@ module _ (blocks : List ℕ) where
   abbrev pub rises : ℕ → Bool
   rises i = ltb (at blocks i) (at blocks (suc i))
 
-  pub rises_none : all_below rises 0 ≡ true
-  unfolding all_below
-  rises_none = refl
-
-  pub rises_more : (i : ℕ) → all_below rises i ≡ true → at blocks i < at blocks (i + 1) → all_below rises (i + 1) ≡ true
-  unfolding all_below
-  rises_more i e h = rw add-one (and_i (all_below rises i) (rises i) e (lt-ltb (at blocks i) (at blocks (suc i)) (rw add-one at h)))
-
-  pub rises_not : (i n : ℕ) → i < n → at blocks (i + 1) ≤ at blocks i → false ≡ all_below rises n
+  pub rises_not : (i n : ℕ) → i < n → rises i ≡ false → false ≡ all_below rises n
   rises_not i n h k =
-      ⊎_elim (λ (e : all_below rises n ≡ true). clash (rises i) (all_below_at rises n e i h) (le-ltb (at blocks i) (at blocks (suc i)) (rw add-one at k)))
+      ⊎_elim (λ (e : all_below rises n ≡ true). clash (rises i) (all_below_at rises n e i h) k)
       (λ (e : all_below rises n ≡ false). sym e) (bool? (all_below rises n))
 
 -- The four parts of refusal 3.

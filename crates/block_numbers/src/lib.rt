@@ -23,29 +23,14 @@ fn ascending(blocks: &[u32]) -> bool
     requires { 1 ≤ length blocks.now }
     ensures { result ≡ all_below (λ i. ltb (at blocks.now i) (at blocks.now (suc i))) (length blocks.now - 1) }
 {
-    let last = blocks.len() - 1;
-    let mut i = 0;
-    while i < last {
-        if blocks[i + 1] <= blocks[i] {
-            return false;
-        }
-        i += 1;
-    }
-    true
+    blocks.is_sorted_by(|a, b| *a < *b)
 }
 
 // Whether all numbers are below l.
 fn all_below(blocks: &[u32], l: u32) -> bool
     ensures { result ≡ all (λ b. ltb b l) blocks.now }
 {
-    let mut i = 0;
-    while i < blocks.len() {
-        if l <= blocks[i] {
-            return false;
-        }
-        i += 1;
-    }
-    true
+    blocks.iter().all(|b| *b < l)
 }
 
 // 1 to 64 strictly ascending block numbers below l, and a head below n.

@@ -5,7 +5,7 @@ ghost use Rattle.std.specs.Prelude.{◌≡◌, ◌++◌, suc, ◌+◌, ◌≤◌
 ghost use Rattle.geometry.specs.Geometry.{most_pieces};
 ghost use Rattle.layout.specs.Bounded.{list_from};
 
-// Zeros.
+// Zeros. Both are the library's fill, under the names that callers use.
 pub fn zero_words(words: &mut [u32])
     ensures { words.new ≡ replicate (length words.old) 0 }
 {

@@ -12,10 +12,8 @@ fn mark_first(used: &mut [u8], count: u32)
     requires count_bound { count ≤ 8 * length used.old }
     ensures { bit_at used.new ≡ (λ k. ltb k count) }
 {
-    let mut k: u32 = 0;
-    while k < count {
+    for k in 0..count {
         bits::set_bit(used, k as usize);
-        k += 1;
     }
 }
 
@@ -35,10 +33,10 @@ pub fn fresh_tables(
     requires pieces_bound { pieces < 8 * length used.old }
     ensures { tables_of map.new places.new numbers.new used.new ≡ format_tables l }
 {
-    fill::zero_words(map);
+    map.fill(0);
     fill::count_up(places);
     fill::count_up(numbers);
-    fill::zero_bytes(used);
+    used.fill(0);
     mark_first(used, pieces + 1);
 }
 
@@ -46,8 +44,8 @@ pub fn fresh_tables(
 pub fn zero_tables(map: &mut [u32], places: &mut [u32], numbers: &mut [u32], used: &mut [u8])
     ensures { tables_of map.new places.new numbers.new used.new ≡ zero_tables }
 {
-    fill::zero_words(map);
-    fill::zero_words(places);
-    fill::zero_words(numbers);
-    fill::zero_bytes(used);
+    map.fill(0);
+    places.fill(0);
+    numbers.fill(0);
+    used.fill(0);
 }

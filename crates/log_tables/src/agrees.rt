@@ -73,13 +73,12 @@ fn mark_used(g: Geometry, map: &[u32], places: &[u32], used: &mut [u8]) -> bool
     requires used_len { length used.old ≡ used_bytes g.n }
     ensures { (result ≡ names_sound g (at map.now) (at places.now) (used_by (named_by g.l (at map.now) (at places.now)))) × (result ≡ true → bit_at used.new ≡ used_by (named_by g.l (at map.now) (at places.now))) }
 {
-    let named = names::judge_names(g, map, places);
-    if !named.inside {
+    let Some(count) = names::judge_names(g, map, places) else {
         return false;
-    }
-    make_used(g, map, places, named.count, used);
+    };
+    make_used(g, map, places, count, used);
     let free = bits::count_free(used, g.n);
-    soundness::once_with_room(g, named.count, free)
+    soundness::once_with_room(g, count, free)
 }
 
 // Marks the sectors that the tables name in the used map, and says whether the tables are then sound.

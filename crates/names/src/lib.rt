@@ -78,7 +78,7 @@ fn all_inside(g: Geometry, map: &[u32], places: &[u32], entries: u32) -> bool
     (entries + count_empty(map)) as usize == map.len()
 }
 
-// Marks sector 0 and the live places.
+// Marks sector 0 and the live places. (A place is a sector, and an entry says one: one loop for both would be no plainer.)
 fn mark_places(marks: &mut [u8], places: &[u32])
     requires marks_nonzero { 0 < length marks.old }
     requires marks_value { marks.old ≡ replicate (length marks.old) 0 }
@@ -201,7 +201,8 @@ fn mark_few_entries(marks: &mut [u8], map: &[u32])
     bits::put_word(marks, hand, held);
 }
 
-// Marks sector 0, the live places, and the sectors of the entries in the map of a small volume.
+// Marks sector 0, the live places, and the sectors of the entries in the map of a small volume. (Beside mark_all: callers choose by the
+// length of their map.)
 pub fn mark_few(marks: &mut [u8], map: &[u32], places: &[u32])
     requires marks_len { length marks.old ≡ small_used_bytes }
     requires marks_value { marks.old ≡ replicate (length marks.old) 0 }

@@ -1,29 +1,19 @@
--- The numbers up to i rise.
-use Prim.Native.Nat.{◌-◌}
-use mathlib.Core.Path.{◌≡◌, sym, ◌∙◌, ap}
-use native.Mathlib.Omega.{arith}
-use lib.ListN.{length}
-use Rattle.layout.specs.Bounded.{all_below}
-use Rattle.block_numbers.proofs.BlockLaws.{rises, rises_none, rises_more, rises_not}
+-- Each block and the next, against the definition.
+use Rattle.std.proofs.Common.{◌≡◌, ℕ, ◌+◌, ◌-◌, ◌≤◌, Bool, true, false, List, length, sym, ap, ◌∙◌, add-one, rules, arith, ltb}
+use Rattle.std.specs.List.{IsAllAdjacentAnswer}
+use Rattle.std.proofs.lemmas.List.Sorted.{answers_always}
+use Rattle.layout.specs.Bounded.{at, all_below}
+use Rattle.laws.proofs.Bounded.{all_below_is}
+use Rattle.block_numbers.proofs.BlockLaws.{rises, rises_not}
 use Rattle.block_numbers.proofs.ascending.Goals as goal
 
-pub overflow_sub-last : goal.overflow_sub-last
-overflow_sub-last c = omega arith
+next : (xs : List ℕ) (k : ℕ) → ltb (at xs k) (at xs (k + 1)) ≡ rises xs k
+next xs k = ap (λ (j : ℕ). ltb (at xs k) (at xs j)) (add-one k)
 
-pub loop-i-init : goal.loop-i-init
-loop-i-init c = (omega arith, rises_none c.args.blocks.now)
-
-pub overflow_add-i : goal.overflow_add-i
-overflow_add-i c = omega arith
-
-pub returns-then-blocks-i : goal.returns-then-blocks-i
-returns-then-blocks-i c =
-    rises_not c.args.blocks.now c.loop-i.i _ c.loop-i-test.true c.if-blocks-i.true
-
-pub loop-i-preserved : goal.loop-i-preserved
-loop-i-preserved c =
-    (omega arith, rises_more c.args.blocks.now c.loop-i.i c.loop-i.invariant.1 c.if-blocks-i.false)
+either : (xs : List ℕ) (r : Bool) → 1 ≤ length xs → IsAllAdjacentAnswer (λ x y b. b ≡ ltb x y) xs r → r ≡ all_below (rises xs) (length xs - 1)
+either xs true some h = sym (all_below_is (rises xs) (length xs - 1) (λ k b. sym (h k 0 (omega arith) ∙ next xs k)))
+either xs false some h = rises_not xs h.0 (length xs - 1) (omega arith) (sym (h.2 0 ∙ next xs h.0))
 
 pub returns : goal.returns
 returns c =
-    sym (ap (all_below (rises c.args.blocks.now)) (let e : length c.args.blocks.now - 1 ≡ c.loop-i.i = omega arith in e) ∙ c.loop-i.invariant.1)
+    either c.args.blocks.now c.is_sorted_by.result c.requires (c.is_sorted_by.ensures.cases ltb (answers_always _ _ _ (λ f a r g h. search rules)))

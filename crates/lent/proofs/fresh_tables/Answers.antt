@@ -9,10 +9,12 @@ use Rattle.lent.proofs.fresh_tables.Goals as goal
 
 pub mark_first-requires : goal.mark_first-requires
 mark_first-requires c = record {
-  used_value = c.zero_bytes.ensures ∙ ap (λ (x : ℕ). replicate x 0) (sym c.zero_bytes.auto.bytes);
+  used_value = c.fill-2.ensures.after (λ y e. e) ∙ ap (λ (x : ℕ). replicate x 0) (sym c.fill-2.ensures.len);
   count_bound = omega arith;
 }
 
 pub returns : goal.returns
 returns c =
-    fresh_tables c.args.l _ _ _ _ (length c.args.map.now) c.args.pieces c.requires.pieces_value c.zero_words.ensures (c.count_up.ensures ∙ ap (λ (x : ℕ). list_from suc 0 x) c.requires.places_len) (c.count_up-2.ensures ∙ ap (λ (x : ℕ). list_from suc 0 x) c.requires.numbers_len) c.mark_first.ensures
+    fresh_tables c.args.l _ _ _ _ (length c.args.map.now) c.args.pieces c.requires.pieces_value (c.fill.ensures.after (λ y e. e))
+    (c.count_up.ensures ∙ ap (λ (x : ℕ). list_from suc 0 x) c.requires.places_len) (c.count_up-2.ensures ∙ ap (λ (x : ℕ). list_from suc 0 x) c.requires.numbers_len)
+    c.mark_first.ensures
