@@ -12,7 +12,7 @@ ghost use Rattle.signed.specs.Signed.{Listed, stepped, marked_above};
 use geometry::Geometry;
 
 // What was read of an image: where the list of its signed sectors begins, and the newest closing one with its number, 0 where there
-// is none.
+// is none, as `newest_closing` and `closed_up_to` say in the clause.
 #[derive(Clone, Copy)]
 pub struct Signed {
     pub from: usize,
@@ -67,15 +67,12 @@ pub fn read_signed(
     let mut from = sectors.len();
     let mut tail: u32 = 0;
     let mut highest: u32 = 0;
-    let mut k: u32 = 0;
-    'sectors: while k < g.n {
+    'sectors: for k in 0..g.n {
         let s = images::sector(image, k as usize);
         if !map_sector::has_mark(s) {
-            k += 1;
             continue 'sectors;
         }
         if !map_sector::marked_valid(s, g) {
-            k += 1;
             continue 'sectors;
         }
         from -= 1;
@@ -85,7 +82,6 @@ pub fn read_signed(
             tail = k;
             highest = number;
         }
-        k += 1;
     }
     Signed {
         from,
@@ -100,9 +96,7 @@ pub fn mark_above(sectors: &[u16], numbers: &[u32], c: u32, above: &mut [u8])
     requires by_index { (i : ℕ) → i < length sectors.now → at sectors.now i < 8 * length above.old }
     ensures { bit_at above.new ≡ stepped (marked_above c) sectors.now numbers.now numbers.now (bit_at above.old) }
 {
-    let mut i = sectors.len();
-    'listed: while 0 < i {
-        i -= 1;
+    'listed: for i in (0..sectors.len()).rev() {
         if numbers[i] <= c {
             continue 'listed;
         }

@@ -103,10 +103,8 @@ pub fn read_targets(
     let s = images::sector(image, k as usize);
     let holder = map_sector::number_of(s);
     let count = map_sector::branch_count(s) as usize;
-    let mut i = 0;
-    while i < count {
+    for i in 0..count {
         let target = map_sector::branch_at(s, i);
         read_target(waiting, tree, taken, image, g, holder, target);
-        i += 1;
     }
 }
