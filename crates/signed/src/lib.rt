@@ -20,7 +20,7 @@ pub struct Signed {
     pub number: u32,
 }
 
-// The number of a sector where it is closing, and 0 where it is not.
+// The number of a sector where it is closing, and 0 where it is not: 0 is below every number, so that one test serves for both.
 fn closing_number(s: &[u8]) -> u32
     requires { length s.now ≡ sector_bytes }
     ensures { result ≡ cond (eqb (at (words_of s.now) 5) 1) (at (words_of s.now) 2) 0 }
@@ -47,6 +47,7 @@ fn list(s: &[u8], k: u32, i: usize, sectors: &mut [u16], numbers: &mut [u32], pi
 }
 
 // Reads the image once, and lists its signed sectors with their numbers and pieces at the ends of three arrays, the last sector first.
+// They are three, as `Listed` says in the clause: a struct of two, four and one bytes would take eight.
 // Most sectors have no mark, and are passed over without a call.
 pub fn read_signed(
     image: &[u8],
