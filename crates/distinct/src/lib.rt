@@ -129,8 +129,8 @@ fn groups_distinct(xs: &[u32], heads: &[u32], next: &[u16], stamps: &mut [u16]) 
 }
 
 // Whether the numbers are all different, by other residues and then by chains: never more than four steps for one. Its tables are half
-// a megabyte. It is called from two places, and with the residues it is too long to be merged into them, so that the compiler keeps
-// the tables out of its callers' frames.
+// a megabyte, and it is never merged into its callers, so that the compiler keeps the tables out of their frames.
+#[inline(never)]
 fn words_distinct(xs: &[u32]) -> bool
     requires { length xs.now ≤ most_sectors }
     ensures { result ≡ distinct xs.now }
