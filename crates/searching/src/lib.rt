@@ -39,10 +39,10 @@ fn used_run(used: &[u8], n: u32, k: u32, steps: u32) -> u32
     ensures { (0 < result) × (result ≤ steps) × (k + result ≤ n) × ((j : ℕ) → j < result → bit_at used.now (k + j) ≡ true) }
 {
     let room = steps.min(n - k);
-    if 64 <= room && k % 64 == 0 && bits::word_at(used, (k / 64) as usize) == bits::FULL {
+    if k % 64 == 0 && 64 <= room && bits::word_at(used, (k / 64) as usize) == bits::FULL {
         return 64;
     }
-    if 8 <= room && k % 8 == 0 && used[(k / 8) as usize] == u8::MAX {
+    if k % 8 == 0 && 8 <= room && used[(k / 8) as usize] == u8::MAX {
         return 8;
     }
     1
