@@ -178,12 +178,6 @@ known_none xs is_used n size e position =
           absurd (omega arith),
     )
 
-pub none_before : (is_used : ℕ → Bool) (size position : ℕ) → UsedAt is_used size position (position + 0 * size)
-none_before is_used size position k b p =
-    let start = zero-mul size in
-    let low = mod-le k size in
-    absurd (omega arith)
-
 pub known_more : (xs : List ℕ) (is_used : ℕ → Bool) (n size position track k x : ℕ) → position < length xs → k ≡ position + track * size → UsedAt is_used size position k
     → (x ≡ 255 → n ≤ k) × (x < 255 → x ≤ track) → Known xs is_used n size → Known (set xs position x) is_used n size
 known_more xs is_used n size position track k x inside there here says before q =
