@@ -1,14 +1,14 @@
 -- Distinct numbers as lists in which no two indices have one number, and the map of residues.
-use Prim.Native.Nat.{ℕ, zero, suc, ◌+◌, ◌%◌, ◌≤◌, ◌<◌}
-use mathlib.Core.Path.{◌≡◌, refl, sym, ◌∙◌, ap, subst}
+use Prim.Native.Nat.{ℕ, zero, suc, ◌%◌, ◌≤◌, ◌<◌}
+use mathlib.Core.Path.{◌≡◌, refl, sym, subst}
 use mathlib.Core.Logic.{⊎_elim}
 use mathlib.Core.Bool.{true, false}
 use mathlib.Core.List.{List, [], ◌∷◌}
 use native.Mathlib.Nat.{not-suc-le-zero, le_of_suc-le-suc}
 use native.Mathlib.Omega.{arith}
 use lib.ListN.{length}
-use Rattle.layout.specs.Bounded.{at, elem, distinct, updated}
-use Rattle.laws.proofs.Bounded.{bool?, eq?, clash, updated_here, updated_other, elem_cons, elem_here, elem_there, distinct_head, distinct_rest, distinct_cons, not_elem}
+use Rattle.layout.specs.Bounded.{at, elem, distinct}
+use Rattle.laws.proofs.Bounded.{bool?, clash, elem_cons, elem_here, elem_there, distinct_head, distinct_rest, distinct_cons, not_elem}
 
 elem_at : (k : ℕ) (xs : List ℕ) → elem k xs ≡ true → (i : ℕ) × (i < length xs) × (at xs i ≡ k)
 unfolding elem
@@ -57,26 +57,6 @@ module _ {A : Type 0} (mark : A) (m : ℕ) (xs : List ℕ) where
   pub record Residues (seen : ℕ → A) (i : ℕ) : Type 0 where
     pub marked : (j : ℕ) → j < i → seen (residue j) ≡ mark
     pub differ : Differ xs i
-
-  pub residues_none : (seen : ℕ → A) → Residues seen 0
-  residues_none seen = record { marked = λ j g. absurd (not-suc-le-zero g); differ = λ j k h g. absurd (not-suc-le-zero g) }
-
-  pub residues_more : (seen after : ℕ → A) (i : ℕ) → Residues seen i → (seen (residue i) ≡ mark → ⊥) → after ≡ updated seen (residue i) mark
-      → Residues after (i + 1)
-  residues_more seen after i r free u =
-      let k = residue i in
-      record {
-        marked = λ j h.
-            ap (λ (f : ℕ → A). f (residue j)) u
-            ∙ ⊎_elim (λ (z : residue j ≡ k). ap (updated seen k mark) z ∙ updated_here seen k mark)
-            (λ (z : residue j ≡ k → ⊥).
-            updated_other seen k (residue j) mark z
-            ∙ ⊎_elim (λ (y : j ≡ i). absurd (z (ap residue y))) (λ (y : j ≡ i → ⊥). r.marked j (omega arith)) (eq? j i))
-            (eq? (residue j) k);
-        differ = λ j l h g f.
-            ⊎_elim (λ (y : l ≡ i). free (ap (λ (x : ℕ). seen (x % m)) (sym (f ∙ ap (at xs) y)) ∙ r.marked j (omega arith)))
-            (λ (y : l ≡ i → ⊥). r.differ j l h (omega arith) f) (eq? l i);
-      }
 
   pub residues_distinct : (seen : ℕ → A) (i : ℕ) → Residues seen i → length xs ≤ i → distinct xs ≡ true
   residues_distinct seen i r h = differ_distinct xs (λ j k a b. r.differ j k a (omega arith))

@@ -2,7 +2,8 @@
 // are; otherwise they are chained by their upper 15 bits, and the lower 17 of each chain's numbers are stamped in a table.
 #![tactic(auto)]
 
-ghost use Rattle.std.specs.Prelude.{◌≡◌, true, false, ℕ, ◌+◌, ◌*◌, ◌≤◌, ◌<◌, length};
+ghost use Rattle.std.specs.Prelude.{◌≡◌, Bool, true, false, ℕ, ◌+◌, ◌*◌, ◌≤◌, ◌<◌, length};
+ghost use Rattle.std.specs.Fn.{FnReturnsAt};
 ghost use Rattle.geometry.specs.Geometry.{most_sectors};
 ghost use Rattle.layout.specs.Bounded.{at, distinct};
 ghost use Rattle.distinct.specs.Chains.{groups, rests, group_of, last_in, Back, Linked, Apart};
@@ -20,6 +21,8 @@ const FEW: usize = 256;
 
 const FEW_RESIDUES: usize = 1_024;
 
+const FEW_BYTES: usize = FEW_RESIDUES / 8;
+
 // Up to so many are some. These, and more, are told apart by the lower 16 bits.
 const SOME: usize = 4_096;
 
@@ -27,77 +30,50 @@ const LOWER: u32 = 65_536;
 
 const RESIDUES: usize = LOWER as usize;
 
+const BYTES: usize = RESIDUES / 8;
+
 // The greatest prime below, by which numbers that agree in these bits hardly ever agree. It is tried of no more numbers than so many: for
 // others the tables of the chains are cleared soon enough.
 const PRIME: usize = 65_521;
 
 const TRIED_AGAIN: usize = 16_384;
 
-// Whether no two numbers agree modulo m, by a bit for each residue: then they are all different. If two do, they may be different all the
-// same.
-fn residues_apart(xs: &[u32], m: usize, seen: &mut [u8]) -> bool
-    requires m_nonzero { 0 < m }
-    requires m_bound { m ≤ 8 * length seen.old }
+// Whether no two numbers agree modulo M, by a bit for each residue: then they are all different. If two do, they may be different all the
+// same. The fewer bytes the bits take, the sooner they are cleared.
+fn residues_apart<const M: usize, const MAP: usize>(xs: &[u32]) -> bool
+    requires m_nonzero { 0 < M }
+    requires m_bound { M ≤ 8 * MAP }
+    requires map_bound { MAP ≤ most_sectors }
     ensures { result ≡ true → distinct xs.now ≡ true }
 {
-    let mut i = 0;
-    while i < xs.len() {
-        let residue = xs[i] as usize % m;
-        if bits::is_set(seen, residue) {
+    let mut seen = [0u8; MAP];
+    for x in xs {
+        let residue = *x as usize % M;
+        if bits::is_set(&seen, residue) {
             return false;
         }
-        bits::set_bit(seen, residue);
-        i += 1;
+        bits::set_bit(&mut seen, residue);
     }
     true
 }
 
-// The same for a few numbers: the map is cleared soon.
-fn few_apart(xs: &[u32]) -> bool
+// The same by the lower 16 bits, and by a byte for each residue: each number takes less time, and the table is cleared later.
+fn bytes_apart(xs: &[u32]) -> bool
     ensures { result ≡ true → distinct xs.now ≡ true }
 {
-    let mut seen = [0u8; FEW_RESIDUES / 8];
-    residues_apart(xs, FEW_RESIDUES, &mut seen)
-}
-
-// The same for some.
-fn some_apart(xs: &[u32]) -> bool
-    ensures { result ≡ true → distinct xs.now ≡ true }
-{
-    let mut seen = [0u8; RESIDUES / 8];
-    residues_apart(xs, RESIDUES, &mut seen)
-}
-
-// The same modulo the prime.
-fn again_apart(xs: &[u32]) -> bool
-    ensures { result ≡ true → distinct xs.now ≡ true }
-{
-    if TRIED_AGAIN < xs.len() {
-        return false;
-    }
-    let mut seen = [0u8; RESIDUES / 8];
-    residues_apart(xs, PRIME, &mut seen)
-}
-
-// The same as for some, in bytes: each number takes less time, and the table is cleared later.
-fn many_apart(xs: &[u32]) -> bool
-    ensures { result ≡ true → distinct xs.now ≡ true }
-{
-    let mut seen = [0u8; RESIDUES];
-    let mut i = 0;
-    while i < xs.len() {
-        let residue = (xs[i] % LOWER) as usize;
-        if seen[residue] == 1 {
+    let mut seen = [false; RESIDUES];
+    for x in xs {
+        let residue = (*x % LOWER) as usize;
+        if seen[residue] {
             return false;
         }
-        seen[residue] = 1;
-        i += 1;
+        seen[residue] = true;
     }
     true
 }
 
 // Chains the numbers by group: a group's head is one more than the index of its last number, and next leads from each number to the
-// one before it in its group; 0 stands for none.
+// one before it in its group; 0 stands for none, since a link is two bytes and an Option would be four.
 fn link(xs: &[u32], heads: &mut [u32], next: &mut [u16])
     requires xs_len_bound { length xs.now ≤ most_sectors }
     requires heads_len { length heads.old ≡ groups }
@@ -105,12 +81,10 @@ fn link(xs: &[u32], heads: &mut [u32], next: &mut [u16])
     requires xs_in_bounds { length xs.now ≤ length next.old }
     ensures { Linked xs.now heads.new next.new }
 {
-    let mut i = 0;
-    while i < xs.len() {
-        let g = (xs[i] / RESTS) as usize;
+    for (i, x) in xs.iter().enumerate() {
+        let g = (*x / RESTS) as usize;
         next[i] = heads[g] as u16;
         heads[g] = (i + 1) as u32;
-        i += 1;
     }
 }
 
@@ -146,24 +120,22 @@ fn groups_distinct(xs: &[u32], heads: &[u32], next: &[u16], stamps: &mut [u16]) 
     requires by_index { (k : ℕ) → at stamps.old k ≤ 0 }
     ensures { result ≡ distinct xs.now }
 {
-    let mut g: u16 = 0;
-    while g < GROUPS {
+    for g in 0..GROUPS {
         if !chain_distinct(xs, next, stamps, heads[g as usize], g) {
             return false;
         }
-        g += 1;
     }
     true
 }
 
 // Whether the numbers are all different, by other residues and then by chains: never more than four steps for one. Its tables are half
-// a megabyte. It is called from two places, and with the residues it is too long to be merged into them, so that the compiler keeps
-// the tables out of its callers' frames.
+// a megabyte, and it is never merged into its callers, so that the compiler keeps the tables out of their frames.
+#[inline(never)]
 fn words_distinct(xs: &[u32]) -> bool
     requires { length xs.now ≤ most_sectors }
     ensures { result ≡ distinct xs.now }
 {
-    if again_apart(xs) {
+    if xs.len() <= TRIED_AGAIN && residues_apart::<PRIME, BYTES>(xs) {
         return true;
     }
     let mut heads = [0u32; GROUPS as usize];
@@ -173,34 +145,14 @@ fn words_distinct(xs: &[u32]) -> bool
     groups_distinct(xs, &heads, &next, &mut stamps)
 }
 
-// The answer for a few numbers.
-fn few_distinct(xs: &[u32]) -> bool
-    requires { length xs.now ≤ most_sectors }
+// The answer by a first test, which says true of no numbers but such as are all different, and otherwise by the others.
+fn distinct_by<F: Fn(&[u32]) -> bool>(xs: &[u32], apart: F) -> bool
+    requires few { length xs.now ≤ most_sectors }
+    requires callable { F.IsAlwaysCallable apart }
+    requires sure { (r : Bool) → FnReturnsAt F.Fn apart xs.now r → r ≡ true → distinct xs.now ≡ true }
     ensures { result ≡ distinct xs.now }
 {
-    if few_apart(xs) {
-        return true;
-    }
-    some_distinct(xs)
-}
-
-// For some.
-fn some_distinct(xs: &[u32]) -> bool
-    requires { length xs.now ≤ most_sectors }
-    ensures { result ≡ distinct xs.now }
-{
-    if some_apart(xs) {
-        return true;
-    }
-    words_distinct(xs)
-}
-
-// For more.
-fn many_distinct(xs: &[u32]) -> bool
-    requires { length xs.now ≤ most_sectors }
-    ensures { result ≡ distinct xs.now }
-{
-    if many_apart(xs) {
+    if apart(xs) {
         return true;
     }
     words_distinct(xs)
@@ -211,11 +163,11 @@ pub fn numbers_distinct(xs: &[u32]) -> bool
     requires { length xs.now ≤ most_sectors }
     ensures { result ≡ distinct xs.now }
 {
-    if xs.len() <= FEW {
-        return few_distinct(xs);
+    if xs.len() <= FEW && residues_apart::<FEW_RESIDUES, FEW_BYTES>(xs) {
+        return true;
     }
     if xs.len() <= SOME {
-        return some_distinct(xs);
+        return distinct_by(xs, residues_apart::<RESIDUES, BYTES>);
     }
-    many_distinct(xs)
+    distinct_by(xs, bytes_apart)
 }

@@ -34,10 +34,7 @@ fn own_positions(d: Drive) -> u32
     if d.tracks == 1 {
         return d.sectors;
     }
-    if d.switch < d.sectors {
-        return d.switch;
-    }
-    d.sectors
+    d.switch.min(d.sectors)
 }
 
 // The delay from a start to sector 0.
@@ -126,10 +123,7 @@ fn find_place(used: &[u8], known: &mut [u8], n: u32, d: Drive, first: u32, start
 fn charge(j: usize, allowance: u32, skipped: u32) -> u32
     ensures { result ≡ cond (ltb j allowance) skipped 0 }
 {
-    if j < (allowance as usize) {
-        return skipped;
-    }
-    0
+    if j < (allowance as usize) { skipped } else { 0 }
 }
 
 // The first sector of the track that a sector lies on.
@@ -165,16 +159,14 @@ pub fn find_places(
     let mut start = head;
     let mut first = first_of(d, head);
     let mut total = 0;
-    let mut j = 0;
-    while j < count {
+    for (j, place) in places[..count].iter_mut().enumerate() {
         let found = find_place(used, known, n, d, first, start);
         let k = found.sector;
         bits::set_bit(used, k as usize);
-        places[j] = k;
+        *place = k;
         total += charge(j, allowance, found.skipped);
         first = found.first;
         start = searching::around(first, first + size, k + 1);
-        j += 1;
     }
     total
 }

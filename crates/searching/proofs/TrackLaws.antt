@@ -2,8 +2,9 @@
 use Prim.Native.Nat.{ℕ, ◌+◌, ◌*◌, ◌-◌, ◌/◌, ◌%◌, ◌^◌, ◌≤◌, ◌<◌}
 use mathlib.Core.Path.{◌≡◌, refl, sym, ◌∙◌, ap, ap₂}
 use mathlib.Core.Logic.{⊎_elim}
-use mathlib.Core.Bool.{Bool, true, cond}
+use mathlib.Core.Bool.{Bool, true, false, cond}
 use mathlib.Core.List.{List}
+use Rattle.std.specs.Prelude.{Option, None, Some, MatchOption}
 use native.Mathlib.Nat.{mod-lt, mod-eq_of_lt, mod_self, mod-add-mod, add-mod_right, add-mul-mod_self_right, add-mul, zero-mul, mod-le, mul-le-mul_right}
 use native.Mathlib.Omega.{arith}
 use lib.ListN.{length, replicate, set}
@@ -15,21 +16,13 @@ use Rattle.volume.specs.Tables.{bit_at}
 use Rattle.laws.proofs.Bounded.{lt?, eq?, cond_true, cond_false, all_below_at}
 use Rattle.laws.proofs.Filling.{zeros_get}
 use Rattle.bits.proofs.WordLaws.{bit, word_full}
-use Rattle.searching.specs.Searching.{turned, AllPassed, UsedAt, NoneWithin, Known}
+use Rattle.searching.specs.Searching.{turned, AllPassed, UsedAt, LowestFree, NoneWithin, Known}
 
 -- Sectors from k on that can be skipped at once: they are used, and neither the steps nor the sectors end before they do.
 abbrev pub Run : ℕ → ℕ → (ℕ → Bool) → ℕ → ℕ → Type 0
 Run n steps is_used k run = (0 < run) × (run ≤ steps) × (k + run ≤ n) × ((j : ℕ) → j < run → is_used (k + j) ≡ true)
 
--- One used sector, or the sectors of a full word.
-pub run_one : (n steps : ℕ) (is_used : ℕ → Bool) (k : ℕ) → k < n → 0 < steps → is_used k ≡ true → Run n steps is_used k 1
-run_one n steps is_used k h some e = (
-  omega arith,
-  some,
-  omega arith,
-  λ j b. let here : k + j ≡ k = omega arith in ap is_used here ∙ e,
-)
-
+-- The sectors of a full byte or word.
 pub run_byte : (n steps : ℕ) (us : List ℕ) (k : ℕ) → k < n → k % 8 ≡ 0 → 8 ≤ n - k → 8 ≤ steps → at us (k / 8) ≡ 255 → Run n steps (bit_at us) k 8
 unfolding bit_at all_below
 run_byte n steps us k h start inside some full = (
@@ -111,9 +104,6 @@ module _ (first size start : ℕ) (low : first ≤ start) (high : start < first 
 pub run_more : (n k : ℕ) → k ≤ n → (k ≡ n → ⊥) → k < n
 run_more n k h d = ⊎_elim (λ (l : k < n). l) (λ (l : n ≤ k). absurd (d (omega arith))) (lt? k n)
 
-pub some_left : (n skipped : ℕ) → skipped ≤ n → (skipped ≡ n → ⊥) → 0 < n - skipped
-some_left n skipped h d = let l = run_more n skipped h d in omega arith
-
 -- Sectors at one position: the next one is a track further on.
 pub at_position : (size position track k : ℕ) → position < size → k ≡ position + track * size → k % size ≡ position
 at_position size position track k h e = ap (λ (x : ℕ). x % size) e ∙ add-mul-mod_self_right position track size ∙ mod-eq_of_lt h
@@ -188,12 +178,6 @@ known_none xs is_used n size e position =
           absurd (omega arith),
     )
 
-pub none_before : (is_used : ℕ → Bool) (size position : ℕ) → UsedAt is_used size position (position + 0 * size)
-none_before is_used size position k b p =
-    let start = zero-mul size in
-    let low = mod-le k size in
-    absurd (omega arith)
-
 pub known_more : (xs : List ℕ) (is_used : ℕ → Bool) (n size position track k x : ℕ) → position < length xs → k ≡ position + track * size → UsedAt is_used size position k
     → (x ≡ 255 → n ≤ k) × (x < 255 → x ≤ track) → Known xs is_used n size → Known (set xs position x) is_used n size
 known_more xs is_used n size position track k x inside there here says before q =
@@ -214,6 +198,14 @@ known_more xs is_used n size position track k x inside there here says before q 
 pub full_passed : (xs : List ℕ) (is_used : ℕ → Bool) (n size from end : ℕ) → ((j : ℕ) → from ≤ j → j < end → at xs j ≡ 255) → Known xs is_used n size
     → (j : ℕ) → j < end - from → UsedAt is_used size (from + j) n
 full_passed xs is_used n size from end full known j h = (known (from + j)).0 (full (from + j) (omega arith) (omega arith))
+
+-- A sector where a search at a position ended, as one of n or none.
+pub lowest_found : (is_used : ℕ → Bool) (n size position sector : ℕ) (found : Option ℕ) → MatchOption found (n ≤ sector) (λ k. (k ≡ sector) × (k < n)) → sector % size ≡ position
+    → UsedAt is_used size position sector → (sector < n → is_used sector ≡ false)
+    → MatchOption found (UsedAt is_used size position n) (λ k. (k < n) × LowestFree is_used size position k)
+lowest_found is_used n size position sector None past there used free = λ q b p. used q (omega arith) p
+lowest_found is_used n size position sector (Some k) (e, b) there used free =
+    rw e (let h : sector < n = omega arith in (h, (free h, there, used)))
 
 more_used : (is_used is_used' : ℕ → Bool) (place k : ℕ) → is_used' ≡ updated is_used place true → is_used k ≡ true → is_used' k ≡ true
 more_used is_used is_used' place k e u =

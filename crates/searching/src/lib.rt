@@ -3,13 +3,13 @@
 // look at each sector once or twice, and at the positions that pass by.
 #![tactic(auto)]
 
-ghost use Rattle.std.specs.Prelude.{◌≡◌, true, false, cond, ℕ, ◌+◌, ◌*◌, ◌%◌, ◌≤◌, ◌<◌, length, ltb};
+ghost use Rattle.std.specs.Prelude.{◌≡◌, true, false, cond, MatchOption, ℕ, ◌+◌, ◌*◌, ◌%◌, ◌≤◌, ◌<◌, length, ltb};
 ghost use Rattle.geometry.specs.Geometry.{most_sectors};
 ghost use Rattle.layout.specs.Bounded.{at};
 ghost use Rattle.volume.specs.Tables.{bit_at};
 ghost use Rattle.searching.specs.Searching.{turned, AllPassed, UsedAt, LowestFree, NoneWithin, all_tracks, Known};
 
-// What a byte says of a position at which no track has a free sector.
+// What a byte says of a position at which no track has a free sector. A byte and no Option, since `Known`, a clause of callers, says so.
 const ALL_TRACKS: u8 = 255;
 
 // How far a search went: the sector where it ended, and the positions that it passed.
@@ -29,30 +29,8 @@ pub fn around(first: u32, end: u32, k: u32) -> u32
     first
 }
 
-// How many sectors from k on can be skipped at once: those of a whole byte that starts at k and is full, else k alone.
-fn byte_run(used: &[u8], n: u32, k: u32, steps: u32) -> u32
-    requires k_lt_n { k < n }
-    requires steps_nonzero { 0 < steps }
-    requires n_bound { n ≤ 8 * length used.now }
-    requires k_value { bit_at used.now k ≡ true }
-    ensures { (0 < result) × (result ≤ steps) × (k + result ≤ n) × ((j : ℕ) → j < result → bit_at used.now (k + j) ≡ true) }
-{
-    if k % 8 != 0 {
-        return 1;
-    }
-    if n - k < 8 {
-        return 1;
-    }
-    if steps < 8 {
-        return 1;
-    }
-    if used[(k / 8) as usize] != 255 {
-        return 1;
-    }
-    8
-}
-
-// The same of a word of 64 sectors, else of a byte.
+// How many sectors from k on can be skipped at once: those of a whole word of the map that starts at k and is full, else those of such
+// a byte, else k alone.
 fn used_run(used: &[u8], n: u32, k: u32, steps: u32) -> u32
     requires k_lt_n { k < n }
     requires steps_nonzero { 0 < steps }
@@ -60,19 +38,14 @@ fn used_run(used: &[u8], n: u32, k: u32, steps: u32) -> u32
     requires k_value { bit_at used.now k ≡ true }
     ensures { (0 < result) × (result ≤ steps) × (k + result ≤ n) × ((j : ℕ) → j < result → bit_at used.now (k + j) ≡ true) }
 {
-    if k % 64 != 0 {
-        return byte_run(used, n, k, steps);
+    let room = steps.min(n - k);
+    if k % 64 == 0 && 64 <= room && bits::word_at(used, (k / 64) as usize) == bits::FULL {
+        return 64;
     }
-    if n - k < 64 {
-        return byte_run(used, n, k, steps);
+    if k % 8 == 0 && 8 <= room && used[(k / 8) as usize] == u8::MAX {
+        return 8;
     }
-    if steps < 64 {
-        return byte_run(used, n, k, steps);
-    }
-    if bits::word_at(used, (k / 64) as usize) != bits::FULL {
-        return byte_run(used, n, k, steps);
-    }
-    64
+    1
 }
 
 // Along one track, of size sectors from first on: upwards from start and around, to a free sector or over so many positions.
@@ -87,18 +60,12 @@ pub fn search_track(used: &[u8], first: u32, size: u32, start: u32, steps: u32) 
     let end = first + size;
     let mut k = start;
     let mut skipped = 0;
-    let reached = loop {
-        if skipped == steps {
-            break Reached { sector: k, skipped };
-        }
-        if !bits::is_set(used, k as usize) {
-            break Reached { sector: k, skipped };
-        }
+    while skipped < steps && bits::is_set(used, k as usize) {
         let run = used_run(used, end, k, steps - skipped);
         k = around(first, end, k + run);
         skipped += run;
-    };
-    reached
+    }
+    Reached { sector: k, skipped }
 }
 
 // The lowest free sector at a position, whatever its track, and how many tracks come before it; the same past the last track, where
@@ -114,23 +81,14 @@ fn lowest_at(used: &[u8], n: u32, size: u32, position: u32, known: u32) -> Reach
 {
     let mut k = position + known * size;
     let mut track = known;
-    let reached = loop {
-        if n <= k {
-            break Reached {
-                sector: k,
-                skipped: track,
-            };
-        }
-        if !bits::is_set(used, k as usize) {
-            break Reached {
-                sector: k,
-                skipped: track,
-            };
-        }
+    while k < n && bits::is_set(used, k as usize) {
         k += size;
         track += 1;
-    };
-    reached
+    }
+    Reached {
+        sector: k,
+        skipped: track,
+    }
 }
 
 // What is then known of the position, in a byte: that no track has a free sector, or how many have none, up to 254.
@@ -140,43 +98,37 @@ fn noted(lowest: Reached, n: u32) -> u8
     if n <= lowest.sector {
         return ALL_TRACKS;
     }
-    if lowest.skipped < 254 {
-        return lowest.skipped as u8;
-    }
-    254
+    lowest.skipped.min(254) as u8
 }
 
-// The lowest free sector at a position, by what is known of it where something is kept; n or above where none is free.
-fn look_at(used: &[u8], known: &mut [u8], n: u32, size: u32, position: u32) -> u32
+// The sector where a search ended, if it is one of n.
+fn below(sector: u32, n: u32) -> Option<u32>
+    ensures { MatchOption result (n ≤ sector) (λ k. (k ≡ sector) × (k < n)) }
+{
+    (sector < n).then_some(sector)
+}
+
+// The lowest free sector at a position, by what is known of it where something is kept.
+fn look_at(used: &[u8], known: &mut [u8], n: u32, size: u32, position: u32) -> Option<u32>
     requires position_lt_size { position < size }
     requires size_le_most_sectors { size ≤ most_sectors }
     requires n_le_most_sectors { n ≤ most_sectors }
     requires n_bound { n ≤ 8 * length used.now }
     requires known { Known known.old (bit_at used.now) n size }
-    ensures { (result < n → LowestFree (bit_at used.now) size position result) × (n ≤ result → UsedAt (bit_at used.now) size position n) × Known known.new (bit_at used.now) n size }
+    ensures found { MatchOption result (UsedAt (bit_at used.now) size position n) (λ k. (k < n) × LowestFree (bit_at used.now) size position k) }
+    ensures known { Known known.new (bit_at used.now) n size }
 {
     if known.len() <= position as usize {
         let lowest = lowest_at(used, n, size, position, 0);
-        return lowest.sector;
+        return below(lowest.sector, n);
     }
     let before = known[position as usize];
     if before == ALL_TRACKS {
-        return n;
+        return None;
     }
     let lowest = lowest_at(used, n, size, position, before as u32);
     known[position as usize] = noted(lowest, n);
-    lowest.sector
-}
-
-// So many steps on, or the end of the track where that is nearer.
-fn nearer(end: u32, position: u32, steps: u32) -> u32
-    requires { position ≤ end }
-    ensures { (position ≤ result) × (result ≤ end) × (result ≤ position + steps) }
-{
-    if end - position < steps {
-        return end;
-    }
-    position + steps
+    below(lowest.sector, n)
 }
 
 // The first position from one on, over so many, that is not known to be without a free sector on any track.
@@ -185,24 +137,16 @@ fn full_until(known: &[u8], size: u32, position: u32, steps: u32) -> u32
     requires size_le_most_sectors { size ≤ most_sectors }
     ensures { (position ≤ result) × (result ≤ size) × (result ≤ position + steps) × ((j : ℕ) → position ≤ j → j < result → at known.now j ≡ all_tracks) }
 {
-    let end = nearer(size, position, steps);
-    let mut k = position;
-    let found = loop {
-        if k == end {
-            break k;
+    let end = position + steps.min(size - position);
+    for k in position..end {
+        if known.len() <= k as usize || known[k as usize] != ALL_TRACKS {
+            return k;
         }
-        if known.len() <= k as usize {
-            break k;
-        }
-        if known[k as usize] != ALL_TRACKS {
-            break k;
-        }
-        k += 1;
-    };
-    found
+    }
+    end
 }
 
-// At every track, position by position over one revolution; n or above where none is free.
+// At every track, position by position over one revolution; n or above where none is free, as its clause says.
 pub fn search_tracks(used: &[u8], known: &mut [u8], n: u32, size: u32, position: u32) -> Reached
     requires position_lt_size { position < size }
     requires size_le_most_sectors { size ≤ most_sectors }
@@ -213,19 +157,17 @@ pub fn search_tracks(used: &[u8], known: &mut [u8], n: u32, size: u32, position:
 {
     let mut at = position;
     let mut skipped = 0;
-    let reached = loop {
+    loop {
         let run = full_until(known, size, at, size - skipped) - at;
         at = around(0, size, at + run);
         skipped += run;
         if skipped == size {
-            break Reached { sector: n, skipped };
+            return Reached { sector: n, skipped };
         }
-        let k = look_at(used, known, n, size, at);
-        if k < n {
-            break Reached { sector: k, skipped };
+        if let Some(k) = look_at(used, known, n, size, at) {
+            return Reached { sector: k, skipped };
         }
         at = around(0, size, at + 1);
         skipped += 1;
-    };
-    reached
+    }
 }

@@ -12,7 +12,7 @@ ghost use Rattle.signed.specs.Signed.{Listed, stepped, marked_above};
 use geometry::Geometry;
 
 // What was read of an image: where the list of its signed sectors begins, and the newest closing one with its number, 0 where there
-// is none.
+// is none, as `newest_closing` and `closed_up_to` say in the clause.
 #[derive(Clone, Copy)]
 pub struct Signed {
     pub from: usize,
@@ -20,7 +20,7 @@ pub struct Signed {
     pub number: u32,
 }
 
-// The number of a sector where it is closing, and 0 where it is not.
+// The number of a sector where it is closing, and 0 where it is not: 0 is below every number, so that one test serves for both.
 fn closing_number(s: &[u8]) -> u32
     requires { length s.now ≡ sector_bytes }
     ensures { result ≡ cond (eqb (at (words_of s.now) 5) 1) (at (words_of s.now) 2) 0 }
@@ -47,6 +47,7 @@ fn list(s: &[u8], k: u32, i: usize, sectors: &mut [u16], numbers: &mut [u32], pi
 }
 
 // Reads the image once, and lists its signed sectors with their numbers and pieces at the ends of three arrays, the last sector first.
+// They are three, as `Listed` says in the clause: a struct of two, four and one bytes would take eight.
 // Most sectors have no mark, and are passed over without a call.
 pub fn read_signed(
     image: &[u8],
@@ -67,15 +68,12 @@ pub fn read_signed(
     let mut from = sectors.len();
     let mut tail: u32 = 0;
     let mut highest: u32 = 0;
-    let mut k: u32 = 0;
-    'sectors: while k < g.n {
+    'sectors: for k in 0..g.n {
         let s = images::sector(image, k as usize);
         if !map_sector::has_mark(s) {
-            k += 1;
             continue 'sectors;
         }
         if !map_sector::marked_valid(s, g) {
-            k += 1;
             continue 'sectors;
         }
         from -= 1;
@@ -85,7 +83,6 @@ pub fn read_signed(
             tail = k;
             highest = number;
         }
-        k += 1;
     }
     Signed {
         from,
@@ -100,9 +97,7 @@ pub fn mark_above(sectors: &[u16], numbers: &[u32], c: u32, above: &mut [u8])
     requires by_index { (i : ℕ) → i < length sectors.now → at sectors.now i < 8 * length above.old }
     ensures { bit_at above.new ≡ stepped (marked_above c) sectors.now numbers.now numbers.now (bit_at above.old) }
 {
-    let mut i = sectors.len();
-    'listed: while 0 < i {
-        i -= 1;
+    'listed: for i in (0..sectors.len()).rev() {
         if numbers[i] <= c {
             continue 'listed;
         }

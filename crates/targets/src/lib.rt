@@ -14,6 +14,8 @@ ghost use Rattle.targets.specs.Waiting.{walk_of, may_wait, does_wait, Waits, Put
 
 use geometry::Geometry;
 
+// What waits and what is taken of each piece stands in arrays with 0 for none, as `walk_of` says in the clauses.
+
 // Whether a target waits if it is signed: it is lower in number than the holder, of a piece not done, and newer than what waits for the piece.
 fn may_wait(tree: &[u64], taken: &[u32], holder: u32, number: u32, p: usize) -> bool
     requires tree_len { length tree.now ≡ tree_length }
@@ -103,10 +105,8 @@ pub fn read_targets(
     let s = images::sector(image, k as usize);
     let holder = map_sector::number_of(s);
     let count = map_sector::branch_count(s) as usize;
-    let mut i = 0;
-    while i < count {
+    for i in 0..count {
         let target = map_sector::branch_at(s, i);
         read_target(waiting, tree, taken, image, g, holder, target);
-        i += 1;
     }
 }

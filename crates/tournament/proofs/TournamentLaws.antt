@@ -1,5 +1,5 @@
 -- A match played, and what it leaves of the others; the greatest entry comes first; entries struck out.
-use Prim.Native.Nat.{ℕ, zero, suc, ◌+◌, ◌*◌, ◌-◌, ◌/◌, ◌%◌, ◌≤◌, ◌<◌}
+use Prim.Native.Nat.{ℕ, zero, suc, ◌+◌, ◌*◌, ◌-◌, ◌/◌, ◌%◌, ◌≤◌, ◌<◌, max}
 use mathlib.Core.Path.{◌≡◌, refl, sym, ◌∙◌, ap, subst}
 use mathlib.Core.Logic.{◌⊎◌, inl, inr, ⊎_elim}
 use mathlib.Core.Bool.{Bool, true, false, cond}
@@ -13,6 +13,11 @@ use borrow.Author.Tests.{lt-ltb, le-ltb, eq-eqb, ne_eqb}
 use Rattle.layout.specs.Bounded.{at, best, updated}
 use Rattle.laws.proofs.Bounded.{lt?, eq?, cond_true, cond_false, best_most, best_below}
 use Rattle.tournament.specs.Tournament.{greater, ranked, key_at, first_struck, below, Played, Tournament, Replayed, Keyed}
+
+-- The greater of two is their maximum.
+pub max_greater : (a b : ℕ) → max a b ≡ greater a b
+unfolding greater
+max_greater a b = ⊎_elim (λ (z : a < b). rw (lt-ltb a b z) (omega arith)) (λ (z : b ≤ a). rw (le-ltb a b z) (omega arith)) (lt? a b)
 
 -- The greater of two.
 pub greater_is : (a b : ℕ) → ((a < b) × (greater a b ≡ b)) ⊎ ((b ≤ a) × (greater a b ≡ a))

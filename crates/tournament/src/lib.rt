@@ -15,15 +15,6 @@ pub const TREE: usize = 2 * Geometry::MOST_PIECES;
 // What puts the lowest of equal keys first is below this.
 const RANKS: u64 = Geometry::MOST_PIECES as u64;
 
-fn greater(a: u64, b: u64) -> u64
-    ensures { result ≡ greater a b }
-{
-    if a < b {
-        return b;
-    }
-    a
-}
-
 // The place that meets place i in a match.
 fn other(i: usize) -> usize
     requires { i < tree_length }
@@ -38,7 +29,7 @@ fn play(tree: &mut [u64], k: usize)
     requires k_lt_most_pieces { k < most_pieces }
     ensures { tree.new ≡ set tree.old k (greater (at tree.old (2 * k)) (at tree.old (2 * k + 1))) }
 {
-    tree[k] = greater(tree[2 * k], tree[2 * k + 1]);
+    tree[k] = tree[2 * k].max(tree[2 * k + 1]);
 }
 
 // Plays the matches of entry q anew, up to place 1. The winner so far is kept at hand: it need not be read again.
@@ -52,7 +43,7 @@ fn replay(tree: &mut [u64], n: usize, q: usize)
     let mut i = n + q;
     let mut won = tree[i];
     while 1 < i {
-        won = greater(won, tree[other(i)]);
+        won = won.max(tree[other(i)]);
         i /= 2;
         tree[i] = won;
     }
@@ -64,9 +55,7 @@ pub fn play_all(tree: &mut [u64], n: usize)
     requires n_le_most_pieces { n ≤ most_pieces }
     ensures { Replayed n tree.old tree.new }
 {
-    let mut k = n;
-    while 1 < k {
-        k -= 1;
+    for k in (1..n).rev() {
         play(tree, k);
     }
 }
@@ -87,10 +76,8 @@ pub fn start(tree: &mut [u64], n: usize)
     requires n_le_most_pieces { n ≤ most_pieces }
     ensures { Keyed n (λ _. 0) tree.new }
 {
-    let mut q = 0;
-    while q < n {
+    for q in 0..n {
         enter(tree, n, q, 0);
-        q += 1;
     }
     play_all(tree, n);
 }

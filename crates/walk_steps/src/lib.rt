@@ -55,11 +55,8 @@ fn walk_steps(waiting: &mut [u32], tree: &mut [u64], taken: &mut [u32], image: &
     requires waits { Waits (pieces_for g.l) (image_view g (sector_at image.now)) waiting.old tree.old taken.old }
     ensures { walk_of waiting.new taken.new ≡ walked_for (pieces_for g.l) (image_view g (sector_at image.now)) (walk_of waiting.old taken.old) (pieces_for g.l) }
 {
-    let pieces = taken.len();
-    let mut step = 0;
-    while step < pieces {
+    for _step in 0..taken.len() {
         walk_step(waiting, tree, taken, image, g);
-        step += 1;
     }
 }
 
@@ -85,7 +82,7 @@ fn walk_waiting(
     walk_steps(waiting, tree, taken, image, g);
 }
 
-// The sector that a walk from the tail takes for each piece, 0 for none.
+// The sector that a walk from the tail takes for each piece, 0 for none, as its clause says.
 pub fn walk_from(taken: &mut [u32], image: &[u8], g: Geometry, tail: u32)
     requires g_value { geometry_fits g ≡ true }
     requires image_len { length image.now ≡ sector_bytes * g.n }

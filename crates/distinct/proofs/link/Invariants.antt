@@ -1,11 +1,6 @@
 -- The numbers below i are chained.
-use Prim.Native.Nat.{◌-◌}
-use lib.ListN.{length}
 use Rattle.distinct.proofs.Chaining.{Linking}
 use Rattle.distinct.proofs.link.Given as goal
 
 abbrev pub invariant-loop-i : goal.invariant-loop-i
 invariant-loop-i l = Linking l.xs l.initial.next l.heads l.next l.i
-
-abbrev pub decreases-loop-i : goal.decreases-loop-i
-decreases-loop-i l = length l.xs - l.i

@@ -1,5 +1,4 @@
 -- The residues met so far are marked, and no two agree.
-use Prim.Native.Nat.{◌-◌}
 use mathlib.Core.Path.{◌≡◌}
 use mathlib.Core.Bool.{true}
 use lib.ListN.{length}
@@ -7,8 +6,5 @@ use Rattle.volume.specs.Tables.{bit_at}
 use Rattle.distinct.proofs.Equal.{Residues}
 use Rattle.distinct.proofs.residues_apart.Given as goal
 
-abbrev pub invariant-loop-i : goal.invariant-loop-i
-invariant-loop-i l = (length l.seen ≡ length l.initial.seen) × Residues true l.m l.xs (bit_at l.seen) l.i
-
-abbrev pub decreases-loop-i : goal.decreases-loop-i
-decreases-loop-i l = length l.xs - l.i
+abbrev pub invariant-loop-x : goal.invariant-loop-x
+invariant-loop-x g l = (length l.seen ≡ g.row.MAP) × Residues true g.row.M l.xs (bit_at l.seen) l.x-index

@@ -1,14 +1,11 @@
 -- Residues that are all different decide; otherwise the chains do, in tables that start with zeros.
 use Prim.Native.Nat.{ℕ}
-use mathlib.Core.Path.{sym, ◌∙◌}
+use mathlib.Core.Path.{◌∙◌}
 use native.Mathlib.Omega.{arith}
 use lib.ListN.{length-replicate}
 use Rattle.laws.proofs.Filling.{zeros_get}
 use Rattle.distinct.specs.Chains.{groups, rests}
 use Rattle.distinct.proofs.words_distinct.Goals as goal
-
-pub returns-then-again_apart : goal.returns-then-again_apart
-returns-then-again_apart c = sym (c.again_apart.ensures c.if-again_apart.true)
 
 pub link-requires : goal.link-requires
 link-requires c =

@@ -1,5 +1,5 @@
 -- After j places the copy marks them, and the next search starts after the last.
-use Prim.Native.Nat.{◌*◌, ◌-◌, ◌≤◌, ◌<◌}
+use Prim.Native.Nat.{◌*◌, ◌≤◌, ◌<◌}
 use mathlib.Core.Path.{◌≡◌}
 use lib.ListN.{length}
 use Rattle.tracks.specs.Placing.{track_of, least_delay, place_of, skipped_by}
@@ -12,10 +12,7 @@ use Rattle.placing.proofs.find_places.Given as goal
 
 abbrev pub invariant-loop-j : goal.invariant-loop-j
 invariant-loop-j l =
-    (l.j ≤ l.count) × (l.start < l.n) × (l.first ≡ track_of l.d l.start * l.d.sectors) × (length l.used ≡ length l.initial.used) × (length l.known ≡ length l.initial.known)
+    (l.start < l.n) × (l.first ≡ track_of l.d l.start * l.d.sectors) × (length l.used ≡ length l.initial.used) × (length l.known ≡ length l.initial.known)
     × Known l.known (bit_at l.used) l.n l.d.sectors × Placed l.d l.n (bit_at l.initial.used) l.head l.j (bit_at l.used) l.start
-    × Filled (place_of (least_delay l.d) l.n (bit_at l.initial.used) l.head) l.initial.places l.j l.places
+    × Filled (place_of (least_delay l.d) l.n (bit_at l.initial.used) l.head) l.initial.place-items l.j l.place-items
     × (l.total ≡ skipped_by (least_delay l.d) l.n (bit_at l.initial.used) l.head (made l.j l.allowance)) × (l.total ≤ 65791 * l.j)
-
-abbrev pub decreases-loop-j : goal.decreases-loop-j
-decreases-loop-j l = l.count - l.j

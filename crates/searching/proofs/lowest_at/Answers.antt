@@ -3,11 +3,8 @@ use Prim.Native.Nat.{◌*◌, ◌≤◌, ◌<◌}
 use mathlib.Core.Path.{refl, ◌∙◌, sym}
 use native.Mathlib.Nat.{mul-le-mul, le-mul_of_pos_right}
 use native.Mathlib.Omega.{arith}
-use borrow.Author.Tests.{not-true, not-false}
 use Rattle.volume.specs.Tables.{bit_at}
 use Rattle.searching.proofs.TrackLaws.{at_next}
-use mathlib.Core.Path.{ap}
-use mathlib.Core.Bool.{not}
 use Rattle.searching.proofs.lowest_at.Goals as goal
 
 pub overflow_mul-k : goal.overflow_mul-k
@@ -42,12 +39,12 @@ loop-k-smaller c =
 
 pub loop-k-preserved : goal.loop-k-preserved
 loop-k-preserved c =
-    at_next (bit_at c.args.used.now) c.args.size c.args.position c.loop-k.track c.loop-k.k c.requires.position_lt_size c.loop-k.invariant.0 (sym c.is_set.ensures ∙ not-false c.is_set.result (ap not c.if-not-is_set.false)) c.loop-k.invariant.1
+    at_next (bit_at c.args.used.now) c.args.size c.args.position c.loop-k.track c.loop-k.k c.requires.position_lt_size c.loop-k.invariant.0 (sym c.is_set.ensures ∙ c.if-is_set.true) c.loop-k.invariant.1
 
-pub returns-then-n-k : goal.returns-then-n-k
-returns-then-n-k c =
+pub returns-after-loop-k : goal.returns-after-loop-k
+returns-after-loop-k c =
     (c.loop-k.invariant.0, c.loop-k.invariant.1, λ h. absurd (omega arith))
 
-pub returns-then-not-is_set : goal.returns-then-not-is_set
-returns-then-not-is_set c =
-    (c.loop-k.invariant.0, c.loop-k.invariant.1, λ h. sym c.is_set.ensures ∙ not-true c.is_set.result (ap not c.if-not-is_set.true))
+pub returns-else-is_set : goal.returns-else-is_set
+returns-else-is_set c =
+    (c.loop-k.invariant.0, c.loop-k.invariant.1, λ h. sym c.is_set.ensures ∙ c.if-is_set.false)

@@ -2,11 +2,8 @@
 use Prim.Native.Nat.{◌-◌}
 use mathlib.Core.Path.{◌∙◌, sym}
 use native.Mathlib.Omega.{arith}
-use borrow.Author.Tests.{not-true, not-false}
 use Rattle.volume.specs.Tables.{bit_at}
-use Rattle.searching.proofs.TrackLaws.{turned_none, turned_inside, run_turned, run_passed, some_left}
-use mathlib.Core.Path.{ap}
-use mathlib.Core.Bool.{not}
+use Rattle.searching.proofs.TrackLaws.{turned_none, turned_inside, run_turned, run_passed}
 use Rattle.searching.proofs.search_track.Goals as goal
 
 pub overflow_add-end : goal.overflow_add-end
@@ -33,9 +30,9 @@ pub used_run-run-requires : goal.used_run-run-requires
 used_run-run-requires c =
     let inside = (turned_inside c.args.first c.args.size c.args.start c.requires.first_le_start c.requires.start_bound c.loop-skipped.skipped).1 in record {
       k_lt_n = omega arith;
-      steps_nonzero = some_left _ _ c.loop-skipped.invariant.1 c.if-skipped-steps.false;
+      steps_nonzero = omega arith;
       n_bound = c.requires.size_bound_2;
-      k_value = sym c.is_set.ensures ∙ not-false c.is_set.result (ap not c.if-not-is_set.false);
+      k_value = sym c.is_set.ensures ∙ c.if-is_set.true;
     }
 
 pub overflow_add-k : goal.overflow_add-k
@@ -58,10 +55,10 @@ loop-skipped-preserved c = (
       c.used_run-run.result (c.args.steps - c.loop-skipped.skipped) c.loop-skipped.invariant.0 c.used_run-run.ensures c.loop-skipped.invariant.2,
 )
 
-pub returns-then-skipped-steps : goal.returns-then-skipped-steps
-returns-then-skipped-steps c =
+pub returns-after-loop-skipped : goal.returns-after-loop-skipped
+returns-after-loop-skipped c =
     (c.loop-skipped.invariant.0, c.loop-skipped.invariant.1, c.loop-skipped.invariant.2, λ h. absurd (omega arith))
 
-pub returns-then-not-is_set : goal.returns-then-not-is_set
-returns-then-not-is_set c =
-    (c.loop-skipped.invariant.0, c.loop-skipped.invariant.1, c.loop-skipped.invariant.2, λ h. sym c.is_set.ensures ∙ not-true c.is_set.result (ap not c.if-not-is_set.true))
+pub returns-else-is_set : goal.returns-else-is_set
+returns-else-is_set c =
+    (c.loop-skipped.invariant.0, c.loop-skipped.invariant.1, c.loop-skipped.invariant.2, λ h. sym c.is_set.ensures ∙ c.if-is_set.false)

@@ -37,8 +37,8 @@ pub overflow_add-skipped : goal.overflow_add-skipped
 overflow_add-skipped c =
     omega arith
 
-pub look_at-k-requires : goal.look_at-k-requires
-look_at-k-requires c =
+pub look_at-requires : goal.look_at-requires
+look_at-requires c =
     let run = c.full_until.result - c.loop-skipped.at in
     let next = next_position c.args.size c.args.position c.loop-skipped.skipped c.loop-skipped.at run c.around-at.result c.loop-skipped.invariant.0 c.loop-skipped.invariant.1 (omega arith) c.around-at.ensures in record {
       position_lt_size = next.1;
@@ -77,9 +77,9 @@ loop-skipped-preserved c =
       then.0,
       then.1,
       omega arith,
-      c.look_at-k.auto.known ∙ c.loop-skipped.invariant.3,
-      none_more u c.args.n c.args.size c.args.position (c.loop-skipped.skipped + run) c.around-at.result 1 next.0 (omega arith) passed (one_more u c.args.n c.args.size c.around-at.result (c.look_at-k.ensures.1 c.if-k-n.false)),
-      c.look_at-k.ensures.2,
+      c.look_at.auto.known ∙ c.loop-skipped.invariant.3,
+      none_more u c.args.n c.args.size c.args.position (c.loop-skipped.skipped + run) c.around-at.result 1 next.0 (omega arith) passed (one_more u c.args.n c.args.size c.around-at.result c.in_default.ensures.found),
+      c.look_at.ensures.known,
     )
 
 pub shape_of-known-then-skipped-size : goal.shape_of-known-then-skipped-size
@@ -94,20 +94,21 @@ returns-then-skipped-size c =
     c.loop-skipped.invariant.5) in
     (omega arith, passed, λ h. absurd (omega arith), λ h. c.if-skipped-size.true, c.loop-skipped.invariant.5)
 
-pub shape_of-known-then-k-n : goal.shape_of-known-then-k-n
-shape_of-known-then-k-n c = c.look_at-k.auto.known ∙ c.loop-skipped.invariant.3
+pub shape_of-known-in-Some : goal.shape_of-known-in-Some
+shape_of-known-in-Some c = c.look_at.auto.known ∙ c.loop-skipped.invariant.3
 
-pub returns-then-k-n : goal.returns-then-k-n
-returns-then-k-n c =
+pub returns-in-Some : goal.returns-in-Some
+returns-in-Some c =
     let run = c.full_until.result - c.loop-skipped.at in
     let next = next_position c.args.size c.args.position c.loop-skipped.skipped c.loop-skipped.at run c.around-at.result c.loop-skipped.invariant.0 c.loop-skipped.invariant.1 (omega arith) c.around-at.ensures in
     let u = bit_at c.args.used.now in
     let passed = none_more u c.args.n c.args.size c.args.position c.loop-skipped.skipped c.loop-skipped.at run c.loop-skipped.invariant.0 (omega arith)
     c.loop-skipped.invariant.4 (full_passed c.loop-skipped.known u c.args.n c.args.size c.loop-skipped.at c.full_until.result c.full_until.ensures.3
-    c.loop-skipped.invariant.5) in (
+    c.loop-skipped.invariant.5) in
+    let inside = c.in-Some.ensures.found.0 in (
       omega arith,
       passed,
-      λ h. subst (λ (x : ℕ). LowestFree u c.args.size x c.look_at-k.result) next.0 (c.look_at-k.ensures.0 h),
+      λ _. subst (λ (x : ℕ). LowestFree u c.args.size x c.in-Some.k) next.0 c.in-Some.ensures.found.1,
       λ h. absurd (omega arith),
-      c.look_at-k.ensures.2,
+      c.look_at.ensures.known,
     )

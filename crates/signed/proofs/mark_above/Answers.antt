@@ -11,14 +11,13 @@ use Rattle.signed.proofs.mark_above.Goals as goal
 
 pub listed-init : goal.listed-init
 listed-init c =
-    (omega arith, refl, stepped_none (marked_above c.args.c) c.args.sectors.now c.args.numbers.now c.args.numbers.now (bit_at c.args.above.now))
+    (refl, stepped_none (marked_above c.args.c) c.args.sectors.now c.args.numbers.now c.args.numbers.now (bit_at c.args.above.now))
 
 pub listed-preserved-then-numbers-i : goal.listed-preserved-then-numbers-i
 listed-preserved-then-numbers-i c = (
-  omega arith,
-  c.listed.invariant.1,
-  stepped_more (marked_above c.args.c) c.args.sectors.now c.args.numbers.now c.args.numbers.now c.listed.i (bit_at c.args.above.now) (bit_at c.listed.above) _ c.listed-test.true c.listed.invariant.0 c.requires.numbers_len c.requires.numbers_len
-      c.listed.invariant.2 (marked_not c.args.c (at c.args.sectors.now (c.listed.i - 1)) (at c.args.numbers.now (c.listed.i - 1)) (at c.args.numbers.now (c.listed.i - 1)) _ c.if-numbers-i.true),
+  c.listed.invariant.0,
+  stepped_more (marked_above c.args.c) c.args.sectors.now c.args.numbers.now c.args.numbers.now c.listed.i (bit_at c.args.above.now) (bit_at c.listed.above) _ c.listed-test.true c.listed.auto.i c.requires.numbers_len c.requires.numbers_len
+      c.listed.invariant.1 (marked_not c.args.c (at c.args.sectors.now (c.listed.i - 1)) (at c.args.numbers.now (c.listed.i - 1)) (at c.args.numbers.now (c.listed.i - 1)) _ c.if-numbers-i.true),
 )
 
 pub overflow_cast-sectors : goal.overflow_cast-sectors
@@ -33,16 +32,15 @@ set_bit-requires c =
 
 pub listed-preserved : goal.listed-preserved
 listed-preserved c = (
-  omega arith,
-  c.set_bit.auto.used ∙ c.listed.invariant.1,
-  stepped_more (marked_above c.args.c) c.args.sectors.now c.args.numbers.now c.args.numbers.now c.listed.i (bit_at c.args.above.now) (bit_at c.listed.above) _ c.listed-test.true c.listed.invariant.0 c.requires.numbers_len c.requires.numbers_len
-      c.listed.invariant.2 (marked_so c.args.c (at c.args.sectors.now (c.listed.i - 1)) (at c.args.numbers.now (c.listed.i - 1)) (at c.args.numbers.now (c.listed.i - 1)) _ _ c.if-numbers-i.false c.set_bit.ensures),
+  c.set_bit.auto.used ∙ c.listed.invariant.0,
+  stepped_more (marked_above c.args.c) c.args.sectors.now c.args.numbers.now c.args.numbers.now c.listed.i (bit_at c.args.above.now) (bit_at c.listed.above) _ c.listed-test.true c.listed.auto.i c.requires.numbers_len c.requires.numbers_len
+      c.listed.invariant.1 (marked_so c.args.c (at c.args.sectors.now (c.listed.i - 1)) (at c.args.numbers.now (c.listed.i - 1)) (at c.args.numbers.now (c.listed.i - 1)) _ _ c.if-numbers-i.false c.set_bit.ensures),
 )
 
 pub shape_of-above : goal.shape_of-above
 shape_of-above c =
-    c.listed.invariant.1
+    c.listed.invariant.0
 
 pub returns : goal.returns
 returns c =
-    stepped_whole (marked_above c.args.c) c.args.sectors.now c.args.numbers.now c.args.numbers.now c.listed.i (bit_at c.args.above.now) _ (omega arith) c.listed.invariant.2
+    stepped_whole (marked_above c.args.c) c.args.sectors.now c.args.numbers.now c.args.numbers.now c.listed.i (bit_at c.args.above.now) _ (omega arith) c.listed.invariant.1

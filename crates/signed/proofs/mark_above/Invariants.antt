@@ -1,5 +1,4 @@
 -- Those from index i on are marked.
-use Prim.Native.Nat.{◌≤◌}
 use mathlib.Core.Path.{◌≡◌}
 use lib.ListN.{length}
 use Rattle.volume.specs.Tables.{bit_at}
@@ -9,7 +8,4 @@ use Rattle.signed.proofs.mark_above.Given as goal
 
 abbrev pub invariant-listed : goal.invariant-listed
 invariant-listed l =
-    (l.i ≤ length l.sectors) × (length l.above ≡ length l.initial.above) × Stepped (marked_above l.c) l.sectors l.numbers l.numbers l.i (bit_at l.initial.above) (bit_at l.above)
-
-abbrev pub decreases-listed : goal.decreases-listed
-decreases-listed l = l.i
+    (length l.above ≡ length l.initial.above) × Stepped (marked_above l.c) l.sectors l.numbers l.numbers l.i (bit_at l.initial.above) (bit_at l.above)

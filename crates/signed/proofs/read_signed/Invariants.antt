@@ -1,5 +1,4 @@
 -- The sectors below k are listed, and the newest closing one of them is known.
-use Prim.Native.Nat.{◌-◌, ◌≤◌}
 use lib.ListN.{length}
 use Rattle.volume.specs.Tables.{sector_at}
 use Rattle.volume.specs.Recover.{image_view, closing_number}
@@ -9,8 +8,5 @@ use Rattle.signed.proofs.read_signed.Given as goal
 
 abbrev pub invariant-sectors : goal.invariant-sectors
 invariant-sectors l =
-    (l.k ≤ l.g.n) × Listing (image_view l.g (sector_at l.image)) (length l.initial.sectors) l.sectors l.numbers l.pieces l.from l.k
+    Listing (image_view l.g (sector_at l.image)) (length l.initial.sectors) l.sectors l.numbers l.pieces l.from l.k
     × Newest (λ j. closing_number (image_view l.g (sector_at l.image) j)) l.k l.tail l.highest
-
-abbrev pub decreases-sectors : goal.decreases-sectors
-decreases-sectors l = l.g.n - l.k

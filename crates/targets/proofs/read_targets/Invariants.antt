@@ -1,5 +1,4 @@
 -- What is read from i on, from where the loop is, is what is read from the start.
-use Prim.Native.Nat.{◌-◌, ◌≤◌}
 use mathlib.Core.Path.{◌≡◌}
 use lib.ListN.{length}
 use Rattle.volume.specs.Tables.{sector_at}
@@ -11,9 +10,5 @@ use Rattle.targets.proofs.read_targets.Given as goal
 
 abbrev pub invariant-loop-i : goal.invariant-loop-i
 invariant-loop-i l =
-    (l.i ≤ l.count) × (length l.waiting ≡ length l.initial.waiting) × (length l.tree ≡ length l.initial.tree) × Held l.g l.image l.k l.s l.holder l.count
+    (length l.waiting ≡ length l.initial.waiting) × (length l.tree ≡ length l.initial.tree) × Held l.g l.image l.k l.s l.holder l.count
     × Waits (pieces_for l.g.l) (image_view l.g (sector_at l.image)) l.waiting l.tree l.taken × Reading l.g l.image l.k (walk_of l.initial.waiting l.taken) (walk_of l.waiting l.taken) l.i
-
-abbrev pub decreases-loop-i : goal.decreases-loop-i
-decreases-loop-i l =
-    l.count - l.i

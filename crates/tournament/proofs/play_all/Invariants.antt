@@ -4,6 +4,3 @@ use Rattle.tournament.proofs.play_all.Given as goal
 
 abbrev pub invariant-loop-k : goal.invariant-loop-k
 invariant-loop-k l = Descended l.n l.initial.tree l.tree l.k
-
-abbrev pub decreases-loop-k : goal.decreases-loop-k
-decreases-loop-k l = l.k

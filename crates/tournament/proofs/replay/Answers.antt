@@ -1,7 +1,7 @@
 -- Every match is played but the one of place i, and its entry is at hand.
 use mathlib.Core.Path.{refl, sym, ◌∙◌}
 use native.Mathlib.Omega.{arith}
-use Rattle.tournament.proofs.TournamentLaws.{climbed_on, climbed_up, other_below}
+use Rattle.tournament.proofs.TournamentLaws.{climbed_on, climbed_up, other_below, max_greater}
 use Rattle.tournament.proofs.replay.Goals as goal
 
 pub loop-i-init : goal.loop-i-init
@@ -23,7 +23,7 @@ bounds-tree-i-in-loop-i c =
 
 pub loop-i-preserved : goal.loop-i-preserved
 loop-i-preserved c =
-    climbed_on c.args.n c.args.tree.now c.loop-i.tree c.loop-i.i c.loop-i.won c.other.result c.greater-won.result c.requires.n_le_most_pieces c.loop-i-test.true c.loop-i.invariant c.other.ensures c.greater-won.ensures
+    climbed_on c.args.n c.args.tree.now c.loop-i.tree c.loop-i.i c.loop-i.won c.other.result c.max-won.result c.requires.n_le_most_pieces c.loop-i-test.true c.loop-i.invariant c.other.ensures (c.max-won.ensures ∙ max_greater _ _)
 
 pub shape_of-tree : goal.shape_of-tree
 shape_of-tree c =
