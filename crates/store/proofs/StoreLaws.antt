@@ -1,6 +1,6 @@
 -- A member as the code makes it is the member of the definition.
 use Prim.Native.Nat.{ℕ, suc, ◌+◌, ◌*◌, ◌-◌, ◌≤◌, ◌<◌}
-use mathlib.Core.Path.{◌≡◌, refl, sym, ◌∙◌, ap}
+use mathlib.Core.Path.{◌≡◌, refl, sym, ◌∙◌, ap, subst}
 use mathlib.Core.Logic.{⊎_elim}
 use mathlib.Core.Bool.{Bool, true, false, cond}
 use mathlib.Core.List.{List, [], ◌∷◌, ◌++◌}
@@ -9,7 +9,7 @@ use native.Mathlib.Numerals.{add-one}
 use native.Mathlib.Omega.{arith}
 use lib.ListN.{length, get_or, take}
 use lib.Dec.{eqb}
-use borrow.Author.Tests.{eq-eqb, ne_eqb}
+use borrow.Author.Tests.{eq-eqb}
 use Rattle.state.specs.declared.State.{State}
 use Rattle.geometry.specs.Geometry.{pieces_for, piece_of}
 use Rattle.layout.specs.Bounded.{at, always, is_zero, count_below, updated, updates}
@@ -17,7 +17,7 @@ use Rattle.layout.specs.MapSector.{encoded}
 use Rattle.volume.specs.Tables.{tables_of, piece_entries}
 use Rattle.volume.specs.Store.{Store, applied, stores_below}
 use Rattle.volume.specs.Commit.{rank, member_place, changed_entries, committed_tables, member, member_store}
-use Rattle.laws.proofs.Bounded.{lt?, clash, cond_true, cond_false, count_hit, count_miss}
+use Rattle.laws.proofs.Bounded.{lt?, eq?, clash, count_hit, count_miss}
 use Rattle.laws.proofs.Stores.{below_length}
 use Rattle.std.specs.Prelude.{Option, Some, None}
 use Rattle.power.specs.Power.{powered}
@@ -45,19 +45,22 @@ module _ (l number p members j count : ℕ) (branches taken entries : List ℕ) 
         entries = entries;
       })
 
-  pub first_member : j ≡ 0 → encoded l (record { number = number + 1 + j; piece = p; closing = eqb (j + 1) members; branches = branches; entries = entries }) ≡ made
-  first_member z =
-      same_sector l p (number + 1 + j) (suc (number + j)) (eqb (j + 1) members) (eqb (suc j) members) branches _ entries (omega arith)
-      (ap (λ (x : ℕ). eqb x members) (add-one j)) (sym (cond_true (is_zero j) branches (at taken (count + (j - 1)) ∷ []) (eq-eqb j 0 z)))
+  listed_are : cond (is_zero j) branches (at taken (count + j - 1) ∷ []) ≡ cond (is_zero j) branches (at taken (count + (j - 1)) ∷ [])
+  listed_are =
+      ⊎_elim (λ (z : j ≡ 0). rw (eq-eqb j 0 z) refl)
+      (λ (z : j ≡ 0 → ⊥). ap (λ (x : ℕ). cond (is_zero j) branches (at taken x ∷ [])) (let d : j ≡ 0 → ⊥ = z in let e : count + j - 1 ≡ count + (j - 1) = omega arith in e))
+      (eq? j 0)
 
-  pub later_member : (j ≡ 0 → ⊥)
-      → encoded l (record { number = number + 1 + j; piece = p; closing = eqb (j + 1) members; branches = at taken (count + j - 1) ∷ []; entries = entries })
-      ≡ made
-  later_member d =
-      same_sector l p (number + 1 + j) (suc (number + j)) (eqb (j + 1) members) (eqb (suc j) members) (at taken (count + j - 1) ∷ []) _ entries (omega arith)
-      (ap (λ (x : ℕ). eqb x members) (add-one j))
-      (ap (λ (x : ℕ). at taken x ∷ []) (let e : count + j - 1 ≡ count + (j - 1) = omega arith in e)
-      ∙ sym (cond_false (is_zero j) branches (at taken (count + (j - 1)) ∷ []) (ne_eqb j 0 d)))
+  pub listed_member : (listed : List ℕ) → listed ≡ cond (is_zero j) branches (at taken (count + j - 1) ∷ [])
+      → encoded l (record { number = number + 1 + j; piece = p; closing = eqb (j + 1) members; branches = listed; entries = entries }) ≡ made
+  listed_member listed e =
+      same_sector l p (number + 1 + j) (suc (number + j)) (eqb (j + 1) members) (eqb (suc j) members) listed _ entries (omega arith)
+      (ap (λ (x : ℕ). eqb x members) (add-one j)) (e ∙ listed_are)
+
+-- No more branches than there is room for.
+pub few_listed : (branches listed : List ℕ) (first : Bool) (last : ℕ) → length branches ≤ 24 → listed ≡ cond first branches (last ∷ []) → length listed ≤ 24
+few_listed branches listed true last h e = subst (λ (xs : List ℕ). length xs ≤ 24) (sym e) h
+few_listed branches listed false last h e = subst (λ (xs : List ℕ). length xs ≤ 24) (sym e) (omega arith)
 
 module _ (s : State) (map blocks news taken branches : List ℕ) (written : List Bool) (count members : ℕ) where
   abbrev pub stores : ℕ → Store

@@ -40,6 +40,18 @@ fn store_data(
     Some(left)
 }
 
+// The first member has the listed branches; each after it has one, to the member before.
+fn branches_of<'a>(branches: &'a [u32], taken: &'a [u32], place: usize, j: u32) -> &'a [u32]
+    requires j_le_place { j ≤ place }
+    requires place_in_bounds { place ≤ length taken.now }
+    ensures { result.now ≡ cond (is_zero j) branches.now (at taken.now (place - 1) ∷ []) }
+{
+    if j == 0 {
+        return branches;
+    }
+    &taken[place - 1..place]
+}
+
 // The j-th member, of piece p. Each after the first has one branch, to the member before; the last one closes. The piece's
 // blocks stand from `from` on; answers where they end.
 fn store_member(
@@ -74,15 +86,9 @@ fn store_member(
     let closing = j + 1 == members;
     let place = (count as usize) + (j as usize);
     let k = taken[place] as usize;
-    if j == 0 {
-        return images::store_map(
-            image, k, l, number, p, closing, branches, map, blocks, news, from,
-        );
-    }
-    let last = taken[place - 1];
-    let before = [last];
+    let listed = branches_of(branches, taken, place, j);
     images::store_map(
-        image, k, l, number, p, closing, &before, map, blocks, news, from,
+        image, k, l, number, p, closing, listed, map, blocks, news, from,
     )
 }
 
