@@ -16,7 +16,7 @@ ghost use Rattle.listing.specs.Listing.{NoneOlder, Taken};
 
 use geometry::Geometry;
 
-// The number of piece q where it is a candidate: untouched and older than bound; 0 where it is not.
+// The number of piece q where it is a candidate: untouched and older than bound; otherwise 0, the tournament's key for none.
 fn older_key(numbers: &[u32], touched: &[bool], bound: u32, q: usize) -> u32
     requires q_in_bounds { q < length numbers.now }
     requires numbers_in_bounds { length numbers.now ≤ length touched.now }
@@ -215,7 +215,8 @@ fn list_newest(
     count
 }
 
-// The first of the listed branches, no more of them than decide for a fold. How many they are.
+// The first of the listed branches, no more of them than decide for a fold. How many they are: the array is the caller's, since there
+// is no heap.
 pub fn list_branches(
     image: &[u8],
     g: Geometry,

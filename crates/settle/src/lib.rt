@@ -11,7 +11,7 @@ ghost use Rattle.pieces.specs.Arrays.{flagged, without, plan_of, change_of, Sett
 
 use state::State;
 
-// Frees the sector of an entry, if it has one.
+// Frees the sector of an entry, if it has one: 0 is the image's word for none.
 fn free_entry(used: &mut [u8], entry: u32)
     requires { is_empty entry ≡ false → sector_of entry < 8 * length used.old }
     ensures { bit_at used.new ≡ (λ k. bit_at used.old k && not (not (is_empty entry) && eqb k (sector_of entry))) }
