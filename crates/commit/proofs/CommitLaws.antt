@@ -19,13 +19,13 @@ use Rattle.layout.specs.MapSector.{encoded}
 use Rattle.volume.specs.Tables.{Tables, memory, sector_at, tables_of, named_by, used_by, piece_entries}
 use Rattle.volume.specs.Store.{Store, applied, stores_below, after, Action, performed}
 use Rattle.volume.specs.Commit.{Change, Plan, rank, member_place, changed_entries, committed_tables, member, data_store, member_store, commit_stores, bill, plan_action}
-use Rattle.power.specs.declared.allowance.Power.TheVariants.{Left, Failed}
+use Rattle.std.specs.Prelude.{Some, None}
 use Rattle.power.specs.Power.{powered}
 use Rattle.pieces.specs.Arrays.{flagged, plan_of, change_of, block_store, Settling}
 use Rattle.commit.specs.Commit.{change_with}
 use Rattle.power.proofs.Performing.{memory_left, call_cut, call_whole}
 
-module _ (s : State) (allowance : ℕ) (im mp pl nu us im' : List ℕ) (blocks bytes news taken branches written : List ℕ) (count members skipped : ℕ)
+module _ (s : State) (allowance : ℕ) (im mp pl nu us im' : List ℕ) (blocks bytes news taken branches : List ℕ) (written : List Bool) (count members skipped : ℕ)
     (e1 : length im' ≡ length im) where
   abbrev action : Action
   action = plan_action s (tables_of mp pl nu us) (plan_of branches written members count taken skipped) (change_with blocks bytes news count)
@@ -44,7 +44,7 @@ module _ (s : State) (allowance : ℕ) (im mp pl nu us im' : List ℕ) (blocks b
     unfolding memory
     image_is = i ∙ ap (λ (xs : List Store). applied (take allowance xs) (sector_at im)) stores_are
 
-    pub carried_cut : (x : Answer) (y : State) → x ≡ PowerFailed (record { stores = allowance; skipped = skipped }) → y ≡ cut_state s → Failed ≡ powered (length made) allowance
+    pub carried_cut : (x : Answer) (y : State) → x ≡ PowerFailed (record { stores = allowance; skipped = skipped }) → y ≡ cut_state s → None ≡ powered (length made) allowance
         → after (record { answer = x; state = y }) (memory im' mp pl nu us) ≡ performed allowance action (memory im mp pl nu us)
     unfolding plan_action
     carried_cut x y p q e =
@@ -54,7 +54,7 @@ module _ (s : State) (allowance : ℕ) (im mp pl nu us im' : List ℕ) (blocks b
 
     pub carried_whole : (mp' pl' nu' us' : List ℕ) (r : Outcome) (left : ℕ) → length mp' ≡ length mp → length pl' ≡ length pl → length nu' ≡ length nu
         → length us' ≡ length us → Settling s.geometry s.number blocks news taken count written
-        → members ≡ count_below (flagged written) (pieces_for s.geometry.l) → 1 ≤ members → Left left ≡ powered (length made) allowance
+        → members ≡ count_below (flagged written) (pieces_for s.geometry.l) → 1 ≤ members → Some left ≡ powered (length made) allowance
         → (r.answer ≡ Accepted (record { stores = allowance - left; skipped = skipped }))
         × (r.state ≡ committed_state s (at taken (length taken - 1)) (s.number + members))
         × (tables_of mp' pl' nu' us' ≡ committed_tables s (tables_of mp pl nu us) (plan_of [] written 0 count taken 0) (change_of blocks news count))
@@ -68,7 +68,7 @@ module _ (s : State) (allowance : ℕ) (im mp pl nu us im' : List ℕ) (blocks b
         (memory_left im mp pl nu us im' mp' pl' nu' us' (sector_at im') action.tables e1 e2 e3 e4 e5 refl w.2)
 
 -- The last sector taken is the last member's.
-pub some_taken : (g : Geometry) (number : ℕ) (blocks news taken written : List ℕ) (count members : ℕ) → Settling g number blocks news taken count written
+pub some_taken : (g : Geometry) (number : ℕ) (blocks news taken : List ℕ) (written : List Bool) (count members : ℕ) → Settling g number blocks news taken count written
     → members ≡ count_below (flagged written) (pieces_for g.l) → 1 ≤ members → 1 ≤ length taken
 some_taken g number blocks news taken written count members s m one = let all = s.taken_all in omega arith
 

@@ -18,7 +18,6 @@ ghost use Rattle.commit.specs.Commit.{change_with, change_by};
 
 use answer::{Answer, Cost};
 use geometry::Geometry;
-use power::allowance::Power;
 use state::{Outcome, State};
 
 // The last member's sector is the new tail.
@@ -40,7 +39,7 @@ fn finish(
     news: &[u32],
     taken: &[u32],
     count: u32,
-    written: &[u8],
+    written: &[bool],
     members: u32,
     stores: u32,
     skipped: u32,
@@ -90,7 +89,7 @@ fn carry_out(
     taken: &[u32],
     count: u32,
     branches: &[u32],
-    written: &[u8],
+    written: &[bool],
     members: u32,
     skipped: u32,
     allowance: u32,
@@ -113,14 +112,14 @@ fn carry_out(
         s, image, map, blocks, bytes, news, taken, count, branches, written, members, allowance,
     );
     match power {
-        Power::Failed => Outcome {
+        None => Outcome {
             answer: Answer::PowerFailed(Cost {
                 stores: allowance,
                 skipped,
             }),
             state: s.cut(),
         },
-        Power::Left(left) => finish(
+        Some(left) => finish(
             s,
             map,
             places,
@@ -157,7 +156,7 @@ pub fn commit(
     requires bytes_len { length bytes.now ≡ sector_bytes * count }
     ensures { after result (memory image.new map.new places.new numbers.new used.new) ≡ performed allowance (commit_action base s (tables_of map.old places.old numbers.old used.old) (view_of s.geometry (sector_at image.old)) head (change_by blocks.now bytes.now count)) (memory image.old map.old places.old numbers.old used.old) }
 {
-    let mut written = [0u8; Geometry::MOST_PIECES];
+    let mut written = [false; Geometry::MOST_PIECES];
     let mut branches = [0u32; Geometry::FOLDING_BRANCHES];
     let mut taken = [0u32; Geometry::COMMIT_SECTORS];
     let mut news = [0u32; Geometry::COMMIT_BLOCKS];

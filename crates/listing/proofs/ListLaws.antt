@@ -7,7 +7,7 @@ use mathlib.Core.List.{List, [], ◌∷◌, ◌++◌, append_assoc, append-nil}
 use native.Mathlib.Nat.{not-suc-le-zero}
 use native.Mathlib.Numerals.{add-one}
 use native.Mathlib.Omega.{arith}
-use lib.ListN.{length, set, take, drop, replicate, get_or-eq_default}
+use lib.ListN.{length, get_or, set, take, drop, replicate, get_or-eq_default}
 use lib.Seq.{set_split, take-append-add, take_at, take_all, take-suc, get_or-take, length-take-le}
 use lib.Dec.{eqb, ltb, leb}
 use borrow.Author.Tests.{eq-eqb, ne_eqb, lt-ltb, le-ltb, leb-true}
@@ -26,10 +26,10 @@ use Rattle.tournament.specs.Tournament.{key_at, below, Keyed}
 use Rattle.tournament.proofs.TournamentLaws.{keyed_first, keyed_below}
 use Rattle.laws.proofs.Sectors.{sector_length}
 use Rattle.map_sector.proofs.Branches.{branch_room_lem}
-use Rattle.listing.specs.Listing.{Taken}
+use Rattle.listing.specs.Listing.{NoneOlder, Taken}
 
 -- The key of a candidate.
-module _ (nu touched : List ℕ) (bound : ℕ) where
+module _ (nu : List ℕ) (touched : List Bool) (bound : ℕ) where
   abbrev pub key : ℕ → ℕ
   key = older_key (tables_of [] [] nu []) (unflagged (length nu) touched) bound
 
@@ -37,17 +37,21 @@ module _ (nu touched : List ℕ) (bound : ℕ) where
   unfolding unflagged
   remains q h = tabled_at false (length nu) (λ r. not (flagged touched r)) q h
 
-  pub key_touched : (q : ℕ) → q < length nu → at touched q ≡ 1 → 0 ≡ key q
-  unfolding older_key flagged
-  key_touched q h e = rw (remains q h, eq-eqb (at touched q) 1 e) refl
+  pub key_is : (q : ℕ) → q < length nu → key q ≡ cond (not (flagged touched q) && ltb (at nu q) bound) (at nu q) 0
+  unfolding older_key
+  key_is q h = ap (λ (b : Bool). cond (b && ltb (at nu q) bound) (at nu q) 0) (remains q h)
 
-  pub key_older : (q : ℕ) → q < length nu → (at touched q ≡ 1 → ⊥) → at nu q < bound → at nu q ≡ key q
-  unfolding older_key flagged
-  key_older q h d e = rw (remains q h, ne_eqb (at touched q) 1 d, lt-ltb (at nu q) bound e) refl
+  pub key_touched : (q : ℕ) → q < length nu → get_or touched q false ≡ true → 0 ≡ key q
+  unfolding flagged
+  key_touched q h e = sym (key_is q h ∙ rw e refl)
 
-  pub key_newer : (q : ℕ) → q < length nu → (at touched q ≡ 1 → ⊥) → bound ≤ at nu q → 0 ≡ key q
-  unfolding older_key flagged
-  key_newer q h d e = rw (remains q h, ne_eqb (at touched q) 1 d, le-ltb (at nu q) bound e) refl
+  pub key_older : (q : ℕ) → q < length nu → get_or touched q false ≡ false → at nu q < bound → at nu q ≡ key q
+  unfolding flagged
+  key_older q h d e = sym (key_is q h ∙ rw (d, lt-ltb (at nu q) bound e) refl)
+
+  pub key_newer : (q : ℕ) → q < length nu → get_or touched q false ≡ false → bound ≤ at nu q → 0 ≡ key q
+  unfolding flagged
+  key_newer q h d e = sym (key_is q h ∙ rw (d, le-ltb (at nu q) bound e) refl)
 
   -- A candidate is older than the bound; with its number as the bound those below it are left.
   key_under : (q : ℕ) → (key q ≡ 0 → ⊥) → key q < bound
@@ -60,7 +64,7 @@ module _ (nu touched : List ℕ) (bound : ℕ) where
       either true (inr h) d = absurd (d (rw (le-ltb (at nu q) bound h) refl))
       either false h d = absurd (d refl)
 
-pub key_below : (nu touched : List ℕ) (bound bound' : ℕ) → bound' ≤ bound → below bound' (key nu touched bound) ≡ key nu touched bound'
+pub key_below : (nu : List ℕ) (touched : List Bool) (bound bound' : ℕ) → bound' ≤ bound → below bound' (key nu touched bound) ≡ key nu touched bound'
 unfolding older_key below
 key_below nu touched bound bound' h = fun_ext (λ q. either q (unflagged (length nu) touched q) (lt? (at nu q) bound) (lt? (at nu q) bound'))
   where
@@ -78,7 +82,7 @@ key_below nu touched bound bound' h = fun_ext (λ q. either q (unflagged (length
     either q false k m = zero_out (ltb 0 bound')
 
 -- The candidates in a tournament.
-module _ (nu touched : List ℕ) (bound : ℕ) (tree : List ℕ) (s : Keyed (length nu) (key nu touched bound) tree) where
+module _ (nu : List ℕ) (touched : List Bool) (bound : ℕ) (tree : List ℕ) (s : Keyed (length nu) (key nu touched bound) tree) where
   pub newest_first_lem : (r : ℕ) → 0 < length nu → r ≡ best (key_at (length nu) tree) (length nu) → r ≡ best (key nu touched bound) (length nu)
   newest_first_lem r h e = e ∙ keyed_first (length nu) (key nu touched bound) tree s h
 
@@ -98,7 +102,7 @@ list_more bs count place h =
     ∙ take-append-add (take count bs) (place ∷ drop (suc count) bs) 1
 
 -- What one branch reaches.
-module _ (reached pl nu : List ℕ) (p b bound : ℕ) (only : (q : ℕ) → at pl q ≡ b → (q ≡ p) × (q < length pl)) where
+module _ (reached : List Bool) (pl nu : List ℕ) (p b bound : ℕ) (only : (q : ℕ) → at pl q ≡ b → (q ≡ p) × (q < length pl)) where
   abbrev then : ℕ → Bool
   then q = flagged reached q || (eqb (at pl q) b && ltb (at nu q) bound)
 
@@ -127,7 +131,7 @@ module _ (reached pl nu : List ℕ) (p b bound : ℕ) (only : (q : ℕ) → at p
       rw (eq-eqb (at pl q) b e, le-ltb (at nu q) bound (subst (λ (x : ℕ). bound ≤ at nu x) (sym w.0) h)) (same (flagged reached q)))
       (λ (f : at pl q ≡ b → ⊥). away q f) (eq? (at pl q) b))
 
-  pub reach_one : at pl p ≡ b → at nu p < bound → p < length reached → flagged (set reached p 1) ≡ then
+  pub reach_one : at pl p ≡ b → at nu p < bound → p < length reached → flagged (set reached p true) ≡ then
   reach_one e h k =
       flag_set reached p k
       ∙ fun_ext (λ q.
@@ -229,6 +233,10 @@ module _ (before : ℕ → Bool) (pl nu bs : List ℕ) (bound : ℕ) where
       either false true false false = refl
       either false false y z = refl
 
+  pub reached_whole : (i n : ℕ) (f : ℕ → Bool) → f ≡ reached_by i → i ≡ n → f ≡ (λ q. before q || (elem (at pl q) (take n bs) && ltb (at nu q) bound))
+  unfolding reached_by
+  reached_whole i n f e h = subst (λ (x : ℕ). f ≡ (λ q. before q || (elem (at pl q) (take x bs) && ltb (at nu q) bound))) h e
+
 -- One step of the listing.
 module _ (pieces : ℕ) (t : Tables) (view : View) (remaining : ℕ → Bool) where
   pub listing_ends : (steps bound : ℕ) (reached : ℕ → Bool) → older_key t remaining bound (best (older_key t remaining bound) pieces) ≡ 0
@@ -282,7 +290,7 @@ module _ (pieces : ℕ) (t : Tables) (view : View) (remaining : ℕ → Bool) wh
       either false x xs = refl
 
 -- The whole listing: what is listed so far, and what is listed from here on.
-module _ (g : Geometry) (image : ℕ → List ℕ) (pl nu touched : List ℕ) (number : ℕ) where
+module _ (g : Geometry) (image : ℕ → List ℕ) (pl nu : List ℕ) (touched : List Bool) (number : ℕ) where
   abbrev pub listed_from : ℕ → ℕ → (ℕ → Bool) → List ℕ
   listed_from steps bound reached =
       listing (length nu) (tables_of [] pl nu []) (view_of g image) (unflagged (length nu) touched) steps bound reached
@@ -294,9 +302,9 @@ module _ (g : Geometry) (image : ℕ → List ℕ) (pl nu touched : List ℕ) (n
   unfolding older_key
   any_places bound = refl
 
-  pub listing_starts : (flags branches : List ℕ) (size : ℕ) → flags ≡ replicate size 0 → Listing (take 0 branches) (length nu) (number + 1) (flagged flags)
+  pub listing_starts : (flags : List Bool) (branches : List ℕ) (size : ℕ) → flags ≡ replicate size false → Listing (take 0 branches) (length nu - 0) (number + 1) (flagged flags)
   unfolding Listing
-  listing_starts flags branches size e = rw (add-one, none_flagged flags size e) refl
+  listing_starts flags branches size e = rw (add-one, none_flagged flags size e, let z : length nu - 0 ≡ length nu = omega arith in z) refl
 
   pub listing_more : (done done' : List ℕ) (steps bound bound' q place : ℕ) (reached reached' : ℕ → Bool) (known : Bool)
       → Listing done steps bound reached → 0 < steps → q ≡ best (key nu touched bound) (length nu) → bound' ≡ key nu touched bound q
@@ -334,15 +342,14 @@ module _ (g : Geometry) (image : ℕ → List ℕ) (pl nu touched : List ℕ) (n
       (ap (take 25) (s ∙ ap (λ (xs : List ℕ). take count branches ++ xs) e ∙ append-nil (take count branches))
       ∙ take_all 25 (take count branches) (omega arith))
 
-  pub listing_no_more : (branches : List ℕ) (count steps bound : ℕ) (reached : ℕ → Bool) (q bound' : ℕ) → count ≤ 25 → length branches ≡ 25
-      → Listing (take count branches) steps bound reached → q ≡ best (key nu touched bound) (length nu) → bound' ≡ key nu touched bound q → bound' ≡ 0
+  pub listing_no_more : (branches : List ℕ) (count steps bound : ℕ) (reached : ℕ → Bool) → count ≤ 25 → length branches ≡ 25
+      → Listing (take count branches) steps bound reached → NoneOlder nu touched bound
       → take count branches ≡ take 25 (listed_from (length nu) (suc number) (λ _. false))
   unfolding Listing
-  listing_no_more branches count steps bound reached q bound' h len s e f z =
-      let here = any_places bound in
+  listing_no_more branches count steps bound reached h len s none =
       all_of_it branches count (listed_from steps bound reached) h (omega arith)
       (listing_ends (length nu) (tables_of [] pl nu []) (view_of g image) (unflagged (length nu) touched) steps bound reached
-      (subst (λ (x : ℕ → ℕ). x (best x (length nu)) ≡ 0) here (ap (key nu touched bound) (sym e) ∙ sym f ∙ z)))
+      (subst (λ (x : ℕ → ℕ). x (best x (length nu)) ≡ 0) (any_places bound) none))
       s
 
   pub listing_done : (branches : List ℕ) (count steps bound : ℕ) (reached : ℕ → Bool) → count ≤ 25 → length branches ≡ 25
@@ -361,20 +368,16 @@ only_there g image pl n b p live len low e q f =
     (sym (live.piece q (omega arith)) ∙ ap (λ (x : ℕ). at (words_of (image x)) 4) f ∙ sym e, h))
     (λ (h : length pl ≤ q). let z = get_or-eq_default pl 0 {n = q} h in absurd (omega arith)) (lt? q (length pl))
 
-pub reach_there : (reached pl nu : List ℕ) (b b' bound : ℕ) (f : ℕ → Bool) → b ≡ b'
+pub reach_there : (reached : List Bool) (pl nu : List ℕ) (b b' bound : ℕ) (f : ℕ → Bool) → b ≡ b'
     → f ≡ (λ q. flagged reached q || (eqb (at pl q) b && ltb (at nu q) bound)) → f ≡ (λ q. flagged reached q || (eqb (at pl q) b' && ltb (at nu q) bound))
 reach_there reached pl nu b b' bound f e r = subst (λ (x : ℕ). f ≡ (λ q. flagged reached q || (eqb (at pl q) x && ltb (at nu q) bound))) e r
 
 -- All branches of a listed sector.
-pub reached_all : (g : Geometry) (bytes s : List ℕ) (before f : ℕ → Bool) (pl nu : List ℕ) (bound i count : ℕ) → s ≡ bytes
-    → valid g bytes (words_of bytes) ≡ true → count ≡ at (words_of s) 6 → i ≡ count → f ≡ reached_by before pl nu (branch_words (words_of s)) bound i
+pub reached_all : (g : Geometry) (bytes : List ℕ) (before f : ℕ → Bool) (pl nu : List ℕ) (bound : ℕ) → valid g bytes (words_of bytes) ≡ true
+    → f ≡ (λ r. before r || (elem (at pl r) (take (at (words_of bytes) 6) (branch_words (words_of bytes))) && ltb (at nu r) bound))
     → f ≡ (λ r. before r || (elem (at pl r) (branches_in (decoded g bytes)) && ltb (at nu r) bound))
-unfolding reached_by
-reached_all g bytes s before f pl nu bound i count e v u h r =
-    let same : take i (branch_words (words_of s)) ≡ branches_in (decoded g bytes)
-    = ap (λ (x : ℕ). take x (branch_words (words_of s))) (h ∙ u) ∙ ap (λ (x : List ℕ). take (at (words_of x) 6) (branch_words (words_of x))) e
-    ∙ sym (branches_view g bytes v) in
-    r ∙ fun_ext (λ q. ap (λ (xs : List ℕ). before q || (elem (at pl q) xs && ltb (at nu q) bound)) same)
+reached_all g bytes before f pl nu bound v h =
+    h ∙ fun_ext (λ q. ap (λ (xs : List ℕ). before q || (elem (at pl q) xs && ltb (at nu q) bound)) (sym (branches_view g bytes v)))
 
 -- A sector of the image, and a word of it.
 module _ (n : ℕ) (im s : List ℕ) (place : ℕ) (len : length im ≡ 512 * n) (inside : place < n) (is : s ≡ sector_at im place) where
@@ -413,35 +416,31 @@ module _ (g : Geometry) (im s : List ℕ) (place : ℕ) (len : length im ≡ 512
       (there, omega arith, omega arith)
 
 -- The newest candidate is taken: the older ones are left, or there is none.
-module _ (nu touched : List ℕ) (bound : ℕ) (tree : List ℕ) (s : Keyed (length nu) (key nu touched bound) tree) (some : 0 < length nu) (q number : ℕ)
+module _ (nu : List ℕ) (touched : List Bool) (bound : ℕ) (tree : List ℕ) (s : Keyed (length nu) (key nu touched bound) tree) (some : 0 < length nu) (q number : ℕ)
     (first : (q ≡ best (key_at (length nu) tree) (length nu)) × (q < length nu)) (is : number ≡ key nu touched bound q) where
   pub taken_one : (tree' : List ℕ) → (number ≡ 0 → ⊥) → Keyed (length nu) (below number (key_at (length nu) tree)) tree' → Taken nu touched bound tree' q number
   taken_one tree' d k =
       record {
         newest = newest_first_lem nu touched bound tree s q some first.0;
         inside = first.1;
+        some = d;
         key = is;
-        older = λ e. older_left nu touched bound tree s q number tree' is d k;
+        older = older_left nu touched bound tree s q number tree' is d k;
       }
 
-  pub taken_none : number ≡ 0 → Taken nu touched bound tree q number
-  taken_none z =
-      record {
-        newest = newest_first_lem nu touched bound tree s q some first.0;
-        inside = first.1;
-        key = is;
-        older = λ e. absurd (e z);
-      }
+  pub taken_none : number ≡ 0 → NoneOlder nu touched bound
+  taken_none z = ap (key nu touched bound) (sym (newest_first_lem nu touched bound tree s q some first.0)) ∙ sym is ∙ z
 
 -- One step: the newest candidate is listed unless it is reached, and all of its branches are reached.
-pub listing_next : (g : Geometry) (image : ℕ → List ℕ) (pl nu touched : List ℕ) (number : ℕ) (done done' : List ℕ) (steps bound bound' q : ℕ)
-    (tree reached reached' : List ℕ) (i count : ℕ) → Live g image (at pl) (length nu)
-    → Listing g image pl nu touched number done steps bound (flagged reached) → 0 < steps → Taken nu touched bound tree q bound' → (bound' ≡ 0 → ⊥)
-    → done' ≡ done ++ cond (eqb (at reached q) 1) [] (at pl q ∷ []) → count ≡ at (words_of (image (at pl q))) 6 → i ≡ count
-    → flagged reached' ≡ reached_by (flagged reached) pl nu (branch_words (words_of (image (at pl q)))) bound' i
-    → Listing g image pl nu touched number done' (steps - 1) bound' (flagged reached')
+pub listing_next : (g : Geometry) (image : ℕ → List ℕ) (pl nu : List ℕ) (touched : List Bool) (number : ℕ) (done done' : List ℕ) (i bound bound' q : ℕ)
+    (tree : List ℕ) (reached reached' : List Bool) → Live g image (at pl) (length nu)
+    → Listing g image pl nu touched number done (length nu - i) bound (flagged reached) → i < length nu → Taken nu touched bound tree q bound'
+    → done' ≡ done ++ cond (get_or reached q false) [] (at pl q ∷ [])
+    → flagged reached' ≡ (λ r. flagged reached r || (elem (at pl r) (take (at (words_of (image (at pl q))) 6) (branch_words (words_of (image (at pl q))))) && ltb (at nu r) bound'))
+    → Listing g image pl nu touched number done' (length nu - (i + 1)) bound' (flagged reached')
 unfolding flagged
-listing_next g image pl nu touched number done done' steps bound bound' q tree reached reached' i count live s h t d e u z r =
-    listing_more g image pl nu touched number done done' steps bound bound' q (at pl q) (flagged reached) (flagged reached') (eqb (at reached q) 1) s h
-    t.newest t.key d refl refl e
-    (reached_all g (image (at pl q)) (image (at pl q)) (flagged reached) (flagged reached') pl nu bound' i count refl (live.signed q t.inside) u z r)
+listing_next g image pl nu touched number done done' i bound bound' q tree reached reached' live s h t e r =
+    subst (λ (k : ℕ). Listing g image pl nu touched number done' k bound' (flagged reached')) (let k : length nu - i - 1 ≡ length nu - (i + 1) = omega arith in k)
+    (listing_more g image pl nu touched number done done' (length nu - i) bound bound' q (at pl q) (flagged reached) (flagged reached') (get_or reached q false) s
+    (omega arith) t.newest t.key t.some refl refl e
+    (reached_all g (image (at pl q)) (flagged reached) (flagged reached') pl nu bound' (live.signed q t.inside) r))

@@ -2,9 +2,9 @@
 // from a listed one.
 #![tactic(auto)]
 
-ghost use Rattle.std.specs.Prelude.{◌≡◌, true, false, cond, ◌&&◌, ◌||◌, [], ◌∷◌, ◌++◌, ℕ, suc, ◌+◌, ◌*◌, ◌≤◌, ◌<◌, length, take, eqb, ltb};
+ghost use Rattle.std.specs.Prelude.{◌≡◌, true, false, cond, ◌&&◌, ◌||◌, [], ◌∷◌, ◌++◌, ℕ, suc, ◌+◌, ◌*◌, ◌≤◌, ◌<◌, length, take, eqb, ltb, MatchOption};
 ghost use Rattle.geometry.specs.Geometry.{sector_bytes, folding_branches, most_pieces};
-ghost use Rattle.layout.specs.Bounded.{at};
+ghost use Rattle.layout.specs.Bounded.{at, elem};
 ghost use Rattle.layout.specs.Word.{words_of};
 ghost use Rattle.layout.specs.MapSector.{valid, branch_words};
 ghost use Rattle.volume.specs.Tables.{sector_at, tables_of};
@@ -12,42 +12,38 @@ ghost use Rattle.volume.specs.Commit.{older_key, listing};
 ghost use Rattle.volume.specs.Calls.{view_of};
 ghost use Rattle.pieces.specs.Arrays.{flagged, unflagged, Live};
 ghost use Rattle.tournament.specs.Tournament.{tree_length, Keyed};
-ghost use Rattle.listing.specs.Listing.{Taken};
+ghost use Rattle.listing.specs.Listing.{NoneOlder, Taken};
 
 use geometry::Geometry;
 
-// The number of piece q where it is a candidate: untouched and older than bound; 0 where it is not.
-fn older_key(numbers: &[u32], touched: &[u8], bound: u32, q: usize) -> u32
+// The number of piece q where it is a candidate: untouched and older than bound; otherwise 0, the tournament's key for none.
+fn older_key(numbers: &[u32], touched: &[bool], bound: u32, q: usize) -> u32
     requires q_in_bounds { q < length numbers.now }
     requires numbers_in_bounds { length numbers.now ≤ length touched.now }
     ensures { result ≡ older_key (tables_of [] [] numbers.now []) (unflagged (length numbers.now) touched.now) bound q }
 {
-    if touched[q] == 1 {
-        return 0;
-    }
     let number = numbers[q];
-    if number < bound {
-        return number;
+    if !touched[q] && number < bound {
+        number
+    } else {
+        0
     }
-    0
 }
 
 // Enters every piece with its key, so that the newest candidate is the first of the tournament.
-fn enter_all(tree: &mut [u64], numbers: &[u32], touched: &[u8], bound: u32)
+fn enter_all(tree: &mut [u64], numbers: &[u32], touched: &[bool], bound: u32)
     requires tree_len { length tree.old ≡ tree_length }
     requires numbers_len_bound { length numbers.now ≤ most_pieces }
     requires numbers_in_bounds { length numbers.now ≤ length touched.now }
     ensures { Keyed (length numbers.now) (older_key (tables_of [] [] numbers.now []) (unflagged (length numbers.now) touched.now) bound) tree.new }
 {
-    let mut q = 0;
-    while q < numbers.len() {
+    for q in 0..numbers.len() {
         tournament::enter(
             tree,
             numbers.len(),
             q,
             older_key(numbers, touched, bound, q),
         );
-        q += 1;
     }
     tournament::play_all(tree, numbers.len());
 }
@@ -65,47 +61,41 @@ fn list_place(branches: &mut [u32], count: usize, place: u32, known: bool) -> us
 }
 
 // A branch to sector b, which says piece p: the live sector there is reached, if it is older than bound.
-fn reach(reached: &mut [u8], places: &[u32], numbers: &[u32], p: u32, b: u32, bound: u32)
+fn reach(reached: &mut [bool], places: &[u32], numbers: &[u32], p: u32, b: u32, bound: u32)
     requires places_len { length places.now ≡ length numbers.now }
     requires places_in_bounds { length places.now ≤ length reached.old }
     requires by_index { (q : ℕ) → at places.now q ≡ b → (q ≡ p) × (q < length places.now) }
     ensures { flagged reached.new ≡ (λ q. flagged reached.old q || (eqb (at places.now q) b && ltb (at numbers.now q) bound)) }
 {
     let q = p as usize;
-    if places.len() <= q {
-        return;
+    if q < places.len() && places[q] == b && numbers[q] < bound {
+        reached[q] = true;
     }
-    if places[q] != b {
-        return;
-    }
-    if bound <= numbers[q] {
-        return;
-    }
-    reached[q] = 1;
 }
 
-// The newest candidate and its number; number 0: none is left.
+// The newest candidate and its number.
 #[derive(Clone, Copy)]
 struct Newest {
     piece: usize,
     number: u32,
 }
 
-// Takes the newest candidate. The older ones stay in the tournament.
-fn take_newest(tree: &mut [u64], numbers: &[u32], touched: &[u8], bound: u32) -> Newest
+// Takes the newest candidate, if one is left. The older ones stay in the tournament.
+fn take_newest(tree: &mut [u64], numbers: &[u32], touched: &[bool], bound: u32) -> Option<Newest>
     requires tree_len { length tree.old ≡ tree_length }
     requires numbers_len_bound { length numbers.now ≤ most_pieces }
     requires numbers_in_bounds { length numbers.now ≤ length touched.now }
     requires numbers_nonzero { 0 < length numbers.now }
     requires keyed { Keyed (length numbers.now) (older_key (tables_of [] [] numbers.now []) (unflagged (length numbers.now) touched.now) bound) tree.old }
-    ensures { Taken numbers.now touched.now bound tree.new result.piece result.number }
+    ensures { MatchOption result (NoneOlder numbers.now touched.now bound) (λ next. Taken numbers.now touched.now bound tree.new next.piece next.number) }
 {
     let piece = tournament::first(tree, numbers.len());
     let number = older_key(numbers, touched, bound, piece);
-    if number != 0 {
-        tournament::keep_below(tree, numbers.len(), number);
+    if number == 0 {
+        return None;
     }
-    Newest { piece, number }
+    tournament::keep_below(tree, numbers.len(), number);
+    Some(Newest { piece, number })
 }
 
 // How many branches a signed sector has: no more than there is room for.
@@ -140,7 +130,7 @@ fn piece_at(image: &[u8], g: Geometry, place: u32) -> u32
 
 // What branch i of a signed sector reaches.
 fn reach_branch(
-    reached: &mut [u8],
+    reached: &mut [bool],
     image: &[u8],
     g: Geometry,
     places: &[u32],
@@ -162,13 +152,36 @@ fn reach_branch(
     reach(reached, places, numbers, piece_at(image, g, b), b, bound);
 }
 
+// What all branches of a signed sector reach.
+fn reach_branches(
+    reached: &mut [bool],
+    image: &[u8],
+    g: Geometry,
+    places: &[u32],
+    numbers: &[u32],
+    place: u32,
+    bound: u32,
+)
+    requires image_len { length image.now ≡ sector_bytes * g.n }
+    requires places_len { length places.now ≡ length numbers.now }
+    requires places_in_bounds { length places.now ≤ length reached.old }
+    requires live { Live g (sector_at image.now) (at places.now) (length numbers.now) }
+    requires place_lt_n { place < g.n }
+    requires place_value { valid g (sector_at image.now place) (words_of (sector_at image.now place)) ≡ true }
+    ensures { flagged reached.new ≡ (λ q. flagged reached.old q || (elem (at places.now q) (take (at (words_of (sector_at image.now place)) 6) (branch_words (words_of (sector_at image.now place)))) && ltb (at numbers.now q) bound)) }
+{
+    for i in 0..branches_at(image, g, place) {
+        reach_branch(reached, image, g, places, numbers, place, i, bound);
+    }
+}
+
 // The branches, once every candidate is entered: the newest is the first, and those not older than bound are struck out.
 fn list_newest(
     image: &[u8],
     g: Geometry,
     places: &[u32],
     numbers: &[u32],
-    touched: &[u8],
+    touched: &[bool],
     number: u32,
     tree: &mut [u64],
     branches: &mut [u32],
@@ -184,43 +197,32 @@ fn list_newest(
     requires keyed { Keyed (length numbers.now) (older_key (tables_of [] [] numbers.now []) (unflagged (length numbers.now) touched.now) (number + 1)) tree.old }
     ensures { take result branches.new ≡ take folding_branches (listing (length numbers.now) (tables_of [] places.now numbers.now []) (view_of g (sector_at image.now)) (unflagged (length numbers.now) touched.now) (length numbers.now) (suc number) (λ _. false)) × (result ≤ folding_branches) }
 {
-    let mut reached = [0u8; Geometry::MOST_PIECES];
+    let mut reached = [false; Geometry::MOST_PIECES];
     let mut count = 0;
     let mut bound = number + 1;
-    let mut steps = numbers.len();
-    'newest: while 0 < steps {
+    for _step in 0..numbers.len() {
         if count == Geometry::FOLDING_BRANCHES {
-            break 'newest;
+            break;
         }
-        let next = take_newest(tree, numbers, touched, bound);
-        if next.number == 0 {
-            break 'newest;
-        }
+        let Some(next) = take_newest(tree, numbers, touched, bound) else {
+            break;
+        };
+        let place = places[next.piece];
+        count = list_place(branches, count, place, reached[next.piece]);
         bound = next.number;
-        let q = next.piece;
-        let place = places[q];
-        count = list_place(branches, count, place, reached[q] == 1);
-        let branch_count = branches_at(image, g, place);
-        steps -= 1;
-        let mut i = 0;
-        'branch: loop {
-            if i == branch_count {
-                continue 'newest;
-            }
-            reach_branch(&mut reached, image, g, places, numbers, place, i, bound);
-            i += 1;
-        }
+        reach_branches(&mut reached, image, g, places, numbers, place, bound);
     }
     count
 }
 
-// The first of the listed branches, no more of them than decide for a fold. How many they are.
+// The first of the listed branches, no more of them than decide for a fold. How many they are: the array is the caller's, since there
+// is no heap.
 pub fn list_branches(
     image: &[u8],
     g: Geometry,
     places: &[u32],
     numbers: &[u32],
-    touched: &[u8],
+    touched: &[bool],
     number: u32,
     branches: &mut [u32],
 ) -> usize

@@ -21,27 +21,23 @@ use Rattle.tracks.specs.Placing.{Choice, least_delay, place_of, skipped_by}
 use Rattle.volume.specs.Rules.{base}
 use Rattle.power.specs.Power.{made}
 use Rattle.volume.specs.Commit.{touches, older_key, listing, branches_for, planned}
-use Rattle.laws.proofs.Bounded.{bool?, lt?, clash, tabled_at, tabled_past, list_from_at, length_list_from, any_below_none, count_le}
+use Rattle.laws.proofs.Bounded.{bool?, lt?, clash, tabled_at, tabled_past, length_list_from, any_below_none, count_le}
 use Rattle.pieces.specs.Arrays.{flagged, unflagged, change_of, Live, Planning}
 use Rattle.plan.specs.Untouched.{Untouched}
 
 -- A copy of the used map in a longer one.
-pub copied : (us marks xs : List ℕ) (m : ℕ) → marks ≡ replicate m 0 → xs ≡ list_from (at us) 0 (length us) ++ drop (length us) marks → bit_at xs ≡ bit_at us
+pub copied : (us front marks : List ℕ) (m : ℕ) → marks ≡ replicate m 0 → front ≡ us → bit_at (front ++ drop (length us) marks) ≡ bit_at us
 unfolding bit_at
-copied us marks xs m z e =
+copied us front marks m z e =
     fun_ext (λ k. ap (λ (x : ℕ). eqb (x / 2 ^ (k % 8) % 2) 1) (byte (k / 8)))
   where
-    byte : (k : ℕ) → get_or xs k 0 ≡ get_or us k 0
+    byte : (k : ℕ) → get_or (front ++ drop (length us) marks) k 0 ≡ get_or us k 0
     byte k =
-        let len = length_list_from (at us) 0 (length us) in
-        ap (λ (ys : List ℕ). get_or ys k 0) e
-        ∙ ⊎_elim (λ (h : k < length us).
-        get_or-append (list_from (at us) 0 (length us)) (drop (length us) marks) 0 k (omega arith)
-        ∙ list_from_at (at us) 0 (length us) k 0 h ∙ ap (at us) (let q : 0 + k ≡ k = omega arith in q))
+        ap (λ (ys : List ℕ). get_or (ys ++ drop (length us) marks) k 0) e
+        ∙ ⊎_elim (λ (h : k < length us). get_or-append us (drop (length us) marks) 0 k h)
         (λ (h : length us ≤ k).
-        ap (λ (j : ℕ). get_or (list_from (at us) 0 (length us) ++ drop (length us) marks) j 0)
-        (let q : k ≡ length (list_from (at us) 0 (length us)) + (k - length us) = omega arith in q)
-        ∙ get_or-append-add (list_from (at us) 0 (length us)) (drop (length us) marks) (k - length us) 0
+        ap (λ (j : ℕ). get_or (us ++ drop (length us) marks) j 0) (let q : k ≡ length us + (k - length us) = omega arith in q)
+        ∙ get_or-append-add us (drop (length us) marks) (k - length us) 0
         ∙ ap (λ (ys : List ℕ). get_or (drop (length us) ys) (k - length us) 0) z
         ∙ get_or-drop (length us) (replicate m 0) (k - length us) 0 ∙ zeros_get m (length us + (k - length us))
         ∙ sym (get_or-eq_default us 0 {n = k} h))
@@ -85,7 +81,7 @@ touches_past blocks l q inside h =
     either : (a b : ℕ) → a < b → eqb a b ≡ false
     either a b k = ⊎_elim (λ (e : eqb a b ≡ true). let z = eqb-true a b e in absurd (omega arith)) (λ (e : eqb a b ≡ false). e) (bool? (eqb a b))
 
-module _ (s : State) (pl nu us blocks : List ℕ) (view : View) (head count : ℕ) (touched written bs taken : List ℕ) (listed first members pieces : ℕ)
+module _ (s : State) (pl nu us blocks : List ℕ) (view : View) (head count : ℕ) (touched written : List Bool) (bs taken : List ℕ) (listed first members pieces : ℕ)
     (inside : (i : ℕ) → i < length blocks → at blocks i < s.geometry.l) (pieces-is : pieces ≡ pieces_for s.geometry.l)
     (lens : length nu ≡ pieces_for s.geometry.l) (untouched : Untouched s pl nu view blocks touched bs listed)
     (first-is : first ≡ cond (ltb 24 listed) 0 listed)
@@ -158,16 +154,16 @@ pub counted_few : (f : ℕ → Bool) (pieces members most : ℕ) → members ≡
 counted_few f pieces members most e m = let h = count_le f pieces in omega arith
 
 -- The flags are as many as pieces there can be, and blocks below L have one.
-pub flags_room : (n : ℕ) (written : List ℕ) → written ≡ replicate 256 0 → n ≡ length written → n ≡ 256
-flags_room n written w e = e ∙ ap length w ∙ length-replicate {A = ℕ} 256 0
+pub flags_room : (n : ℕ) (written : List Bool) → written ≡ replicate 256 false → n ≡ length written → n ≡ 256
+flags_room n written w e = e ∙ ap length w ∙ length-replicate 256 false
 
-pub touchable : (g : Geometry) (written blocks : List ℕ) → geometry_fits g ≡ true → ((i : ℕ) → i < length blocks → at blocks i < g.l)
-    → written ≡ replicate 256 0
-    → (written ≡ replicate (length written) 0) × ((i : ℕ) → i < length blocks → piece_of (at blocks i) < length written)
+pub touchable : (g : Geometry) (written : List Bool) (blocks : List ℕ) → geometry_fits g ≡ true → ((i : ℕ) → i < length blocks → at blocks i < g.l)
+    → written ≡ replicate 256 false
+    → (written ≡ replicate (length written) false) × ((i : ℕ) → i < length blocks → piece_of (at blocks i) < length written)
 touchable g written blocks f inside w =
     let most = (fits g f).most in
     let len = flags_room (length written) written w refl in
-    (w ∙ ap (λ (x : ℕ). replicate x 0) (sym len), λ i h. let z = inside i h in let q : piece_of (at blocks i) < length written = omega arith in q)
+    (w ∙ ap (λ (x : ℕ). replicate x false) (sym len), λ i h. let z = inside i h in let q : piece_of (at blocks i) < length written = omega arith in q)
 
 pub live_for : (g : Geometry) (image : ℕ → List ℕ) (place : ℕ → ℕ) (n m : ℕ) → m ≡ n → Live g image place n → Live g image place m
 live_for g image place n m e live = subst (Live g image place) (sym e) live

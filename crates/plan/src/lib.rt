@@ -2,9 +2,8 @@
 // no table is touched.
 #![tactic(auto)]
 
-ghost use Rattle.std.specs.Prelude.{◌≡◌, true, cond, ◌||◌, [], ℕ, ◌+◌, ◌*◌, ◌≤◌, ◌<◌, length, take, replicate, ltb};
-ghost use Rattle.geometry.specs.Geometry.{sector_bytes, pieces_for, used_bytes, geometry_fits, drive_fits, branch_room, folding_branches, most_pieces, commit_blocks, commit_sectors};
-ghost use Rattle.geometry.specs.SizeClasses.{small_sectors};
+ghost use Rattle.std.specs.Prelude.{◌≡◌, true, false, cond, ◌||◌, [], ℕ, ◌+◌, ◌*◌, ◌≤◌, ◌<◌, length, take, replicate, ltb};
+ghost use Rattle.geometry.specs.Geometry.{sector_bytes, pieces_for, most_sectors, used_bytes, geometry_fits, drive_fits, branch_room, folding_branches, most_pieces, commit_blocks, commit_sectors};
 ghost use Rattle.layout.specs.Bounded.{at, list_from, count_below};
 ghost use Rattle.volume.specs.Tables.{bit_at, sector_at, tables_of};
 ghost use Rattle.tracks.specs.Placing.{least_delay, place_of, skipped_by};
@@ -39,15 +38,11 @@ fn copy_used(used: &[u8], marks: &mut [u8])
     requires marks_value { marks.old ≡ replicate (length marks.old) 0 }
     ensures { bit_at marks.new ≡ bit_at used.now }
 {
-    let mut i = 0;
-    while i < used.len() {
-        marks[i] = used[i];
-        i += 1;
-    }
+    marks[..used.len()].copy_from_slice(used);
 }
 
 // With more branches listed than there is room for, every piece is written and the first member has none.
-fn fold(written: &mut [u8], pieces: u32, listed: usize) -> usize
+fn fold(written: &mut [bool], pieces: u32, listed: usize) -> usize
     requires { pieces ≤ length written.old }
     ensures { (result ≡ cond (ltb branch_room listed) 0 listed) × (flagged written.new ≡ cond (ltb branch_room listed) (λ q. ltb q pieces || flagged written.old q) (flagged written.old)) }
 {
@@ -85,8 +80,8 @@ fn take_in(
     placing::find_places(marks, known, g.n, d, head, count, taken, allowance)
 }
 
-// On one track nothing is kept of its positions.
-fn take_on_one(
+// The same, with so many positions of a track kept.
+fn take_on<const KEPT: usize>(
     used: &[u8],
     g: Geometry,
     d: Drive,
@@ -96,6 +91,7 @@ fn take_on_one(
     allowance: u32,
     marks: &mut [u8],
 ) -> u32
+    requires kept_le_most_sectors { KEPT ≤ most_sectors }
     requires g_value { geometry_fits g ≡ true }
     requires d_value { drive_fits g.n d ≡ true }
     requires used_len { length used.now ≡ used_bytes g.n }
@@ -106,62 +102,12 @@ fn take_on_one(
     requires marks_value { marks.old ≡ replicate (length marks.old) 0 }
     ensures { (take count taken.new ≡ list_from (place_of (least_delay d) g.n (bit_at used.now) head) 0 count) × (result ≡ skipped_by (least_delay d) g.n (bit_at used.now) head (made count allowance)) }
 {
-    let mut known = [0u8; 1];
+    let mut known = [0u8; KEPT];
     take_in(used, g, d, head, count, taken, allowance, marks, &mut known)
 }
 
-// The same on several tracks of a small volume.
-fn take_on_few(
-    used: &[u8],
-    g: Geometry,
-    d: Drive,
-    head: u32,
-    count: usize,
-    taken: &mut [u32],
-    allowance: u32,
-    marks: &mut [u8],
-) -> u32
-    requires g_value { geometry_fits g ≡ true }
-    requires d_value { drive_fits g.n d ≡ true }
-    requires used_len { length used.now ≡ used_bytes g.n }
-    requires head_lt_n { head < g.n }
-    requires count_in_bounds { count ≤ length taken.old }
-    requires count_le_commit_sectors { count ≤ commit_sectors }
-    requires used_in_bounds { length used.now ≤ length marks.old }
-    requires marks_value { marks.old ≡ replicate (length marks.old) 0 }
-    ensures { (take count taken.new ≡ list_from (place_of (least_delay d) g.n (bit_at used.now) head) 0 count) × (result ≡ skipped_by (least_delay d) g.n (bit_at used.now) head (made count allowance)) }
-{
-    let mut known = [0u8; placing::SMALL_KEPT_POSITIONS];
-    take_in(used, g, d, head, count, taken, allowance, marks, &mut known)
-}
-
-// The same on several tracks of a volume of any size.
-fn take_on_any(
-    used: &[u8],
-    g: Geometry,
-    d: Drive,
-    head: u32,
-    count: usize,
-    taken: &mut [u32],
-    allowance: u32,
-    marks: &mut [u8],
-) -> u32
-    requires g_value { geometry_fits g ≡ true }
-    requires d_value { drive_fits g.n d ≡ true }
-    requires used_len { length used.now ≡ used_bytes g.n }
-    requires head_lt_n { head < g.n }
-    requires count_in_bounds { count ≤ length taken.old }
-    requires count_le_commit_sectors { count ≤ commit_sectors }
-    requires used_in_bounds { length used.now ≤ length marks.old }
-    requires marks_value { marks.old ≡ replicate (length marks.old) 0 }
-    ensures { (take count taken.new ≡ list_from (place_of (least_delay d) g.n (bit_at used.now) head) 0 count) × (result ≡ skipped_by (least_delay d) g.n (bit_at used.now) head (made count allowance)) }
-{
-    let mut known = [0u8; placing::KEPT_POSITIONS];
-    take_in(used, g, d, head, count, taken, allowance, marks, &mut known)
-}
-
-// The same of a small volume, in a copy that is cleared sooner.
-fn take_few(
+// The same in a copy of so many bytes: the one of a small volume is cleared sooner. On one track nothing is kept of its positions.
+fn take_within<const BYTES: usize, const KEPT: usize>(
     used: &[u8],
     g: Geometry,
     d: Drive,
@@ -170,45 +116,22 @@ fn take_few(
     taken: &mut [u32],
     allowance: u32,
 ) -> u32
-    requires n_le_small_sectors { g.n ≤ small_sectors }
+    requires bytes_le_most_sectors { BYTES ≤ most_sectors }
+    requires kept_le_most_sectors { KEPT ≤ most_sectors }
     requires g_value { geometry_fits g ≡ true }
     requires d_value { drive_fits g.n d ≡ true }
     requires used_len { length used.now ≡ used_bytes g.n }
+    requires used_le_bytes { length used.now ≤ BYTES }
     requires head_lt_n { head < g.n }
     requires count_in_bounds { count ≤ length taken.old }
     requires count_le_commit_sectors { count ≤ commit_sectors }
     ensures { (take count taken.new ≡ list_from (place_of (least_delay d) g.n (bit_at used.now) head) 0 count) × (result ≡ skipped_by (least_delay d) g.n (bit_at used.now) head (made count allowance)) }
 {
-    let mut marks = [0u8; Geometry::SMALL_USED_BYTES];
+    let mut marks = [0u8; BYTES];
     if d.tracks == 1 {
-        return take_on_one(used, g, d, head, count, taken, allowance, &mut marks);
+        return take_on::<1>(used, g, d, head, count, taken, allowance, &mut marks);
     }
-    take_on_few(used, g, d, head, count, taken, allowance, &mut marks)
-}
-
-// The same for a volume of any size.
-fn take_any(
-    used: &[u8],
-    g: Geometry,
-    d: Drive,
-    head: u32,
-    count: usize,
-    taken: &mut [u32],
-    allowance: u32,
-) -> u32
-    requires g_value { geometry_fits g ≡ true }
-    requires d_value { drive_fits g.n d ≡ true }
-    requires used_len { length used.now ≡ used_bytes g.n }
-    requires head_lt_n { head < g.n }
-    requires count_in_bounds { count ≤ length taken.old }
-    requires count_le_commit_sectors { count ≤ commit_sectors }
-    ensures { (take count taken.new ≡ list_from (place_of (least_delay d) g.n (bit_at used.now) head) 0 count) × (result ≡ skipped_by (least_delay d) g.n (bit_at used.now) head (made count allowance)) }
-{
-    let mut marks = [0u8; Geometry::MOST_USED_BYTES];
-    if d.tracks == 1 {
-        return take_on_one(used, g, d, head, count, taken, allowance, &mut marks);
-    }
-    take_on_any(used, g, d, head, count, taken, allowance, &mut marks)
+    take_on::<KEPT>(used, g, d, head, count, taken, allowance, &mut marks)
 }
 
 // The same, by the size of the volume.
@@ -230,9 +153,13 @@ fn take_sectors(
     ensures { (take count taken.new ≡ list_from (place_of (least_delay d) g.n (bit_at used.now) head) 0 count) × (result ≡ skipped_by (least_delay d) g.n (bit_at used.now) head (made count allowance)) }
 {
     if g.n <= Geometry::SMALL {
-        return take_few(used, g, d, head, count, taken, allowance);
+        return take_within::<{ Geometry::SMALL_USED_BYTES }, { placing::SMALL_KEPT_POSITIONS }>(
+            used, g, d, head, count, taken, allowance,
+        );
     }
-    take_any(used, g, d, head, count, taken, allowance)
+    take_within::<{ Geometry::MOST_USED_BYTES }, { placing::KEPT_POSITIONS }>(
+        used, g, d, head, count, taken, allowance,
+    )
 }
 
 // Flags the pieces of the named blocks, and lists the branches to the others.
@@ -242,7 +169,7 @@ fn list_untouched(
     places: &[u32],
     numbers: &[u32],
     blocks: &[u32],
-    written: &mut [u8],
+    written: &mut [bool],
     branches: &mut [u32],
 ) -> usize
     requires geometry_value { geometry_fits s.geometry ≡ true }
@@ -252,7 +179,7 @@ fn list_untouched(
     requires number_le_greatest { s.number ≤ base.greatest }
     requires by_index { (i : ℕ) → i < length blocks.now → at blocks.now i < s.geometry.l }
     requires live { Live s.geometry (sector_at image.now) (at places.now) (pieces_for s.geometry.l) }
-    requires written_value { written.old ≡ replicate most_pieces 0 }
+    requires written_value { written.old ≡ replicate most_pieces false }
     requires branches_len { length branches.old ≡ folding_branches }
     ensures { Untouched s places.now numbers.now (view_of s.geometry (sector_at image.now)) blocks.now written.new branches.new result }
 {
@@ -263,7 +190,7 @@ fn list_untouched(
 }
 
 // Counts the members, once it is known how many branches are listed.
-fn count_members(written: &mut [u8], pieces: u32, listed: usize) -> Sizes
+fn count_members(written: &mut [bool], pieces: u32, listed: usize) -> Sizes
     requires pieces_le_most_pieces { pieces ≤ most_pieces }
     requires pieces_in_bounds { pieces ≤ length written.old }
     ensures { (result.branches ≡ cond (ltb branch_room listed) 0 listed) × (flagged written.new ≡ cond (ltb branch_room listed) (λ q. ltb q pieces || flagged written.old q) (flagged written.old)) × (result.members ≡ count_below (flagged written.new) pieces) × (result.members ≤ most_pieces) }
@@ -285,7 +212,7 @@ pub fn plan(
     head: u32,
     blocks: &[u32],
     count: u32,
-    written: &mut [u8],
+    written: &mut [bool],
     branches: &mut [u32],
     taken: &mut [u32],
     allowance: u32,
@@ -301,7 +228,7 @@ pub fn plan(
     requires count_le_commit_blocks { count ≤ commit_blocks }
     requires by_index { (i : ℕ) → i < length blocks.now → at blocks.now i < s.geometry.l }
     requires live { Live s.geometry (sector_at image.now) (at places.now) (pieces_for s.geometry.l) }
-    requires written_value { written.old ≡ replicate most_pieces 0 }
+    requires written_value { written.old ≡ replicate most_pieces false }
     requires branches_len { length branches.old ≡ folding_branches }
     requires taken_len { length taken.old ≡ commit_sectors }
     ensures { Planning (planned base s (tables_of [] places.now numbers.now used.now) (view_of s.geometry (sector_at image.now)) head (change_of blocks.now [] count)) result.branches result.members branches.new written.new count taken.new result.skipped allowance }

@@ -11,7 +11,7 @@ ghost use Rattle.pieces.specs.Arrays.{flagged, without, plan_of, change_of, Sett
 
 use state::State;
 
-// Frees the sector of an entry, if it has one.
+// Frees the sector of an entry, if it has one: 0 is the image's word for none.
 fn free_entry(used: &mut [u8], entry: u32)
     requires { is_empty entry ≡ false → sector_of entry < 8 * length used.old }
     ensures { bit_at used.new ≡ (λ k. bit_at used.old k && not (not (is_empty entry) && eqb k (sector_of entry))) }
@@ -28,28 +28,22 @@ fn free_blocks(used: &mut [u8], map: &[u32], blocks: &[u32])
     requires by_index_2 { (b : ℕ) → b < length map.now → is_empty (at map.now b) ≡ false → sector_of (at map.now b) < 8 * length used.old }
     ensures { bit_at used.new ≡ without (bit_at used.old) (λ i. not (is_empty (at map.now (at blocks.now i)))) (λ i. sector_of (at map.now (at blocks.now i))) (length blocks.now) }
 {
-    let mut i = 0;
-    while i < blocks.len() {
-        let b = blocks[i] as usize;
-        free_entry(used, map[b]);
-        i += 1;
+    for b in blocks {
+        free_entry(used, map[*b as usize]);
     }
 }
 
 // Frees the places of the pieces that were written.
-fn free_places(used: &mut [u8], places: &[u32], written: &[u8])
+fn free_places(used: &mut [u8], places: &[u32], written: &[bool])
     requires places_in_bounds { length places.now ≤ length written.now }
     requires by_index { (p : ℕ) → p < length places.now → at places.now p < 8 * length used.old }
     ensures { bit_at used.new ≡ without (bit_at used.old) (flagged written.now) (at places.now) (length places.now) }
 {
-    let mut q = 0;
-    'pieces: while q < places.len() {
-        if written[q] != 1 {
-            q += 1;
-            continue 'pieces;
+    for (q, place) in places.iter().enumerate() {
+        if !written[q] {
+            continue;
         }
-        bits::clear_bit(used, places[q] as usize);
-        q += 1;
+        bits::clear_bit(used, *place as usize);
     }
 }
 
@@ -58,10 +52,8 @@ fn use_places(used: &mut [u8], taken: &[u32])
     requires { (i : ℕ) → i < length taken.now → at taken.now i < 8 * length used.old }
     ensures { bit_at used.new ≡ (λ k. bit_at used.old k || any_below (λ i. eqb k (at taken.now i)) (length taken.now)) }
 {
-    let mut i = 0;
-    while i < taken.len() {
-        bits::set_bit(used, taken[i] as usize);
-        i += 1;
+    for k in taken {
+        bits::set_bit(used, *k as usize);
     }
 }
 
@@ -72,7 +64,7 @@ fn change_used(
     places: &[u32],
     blocks: &[u32],
     taken: &[u32],
-    written: &[u8],
+    written: &[bool],
 )
     requires by_index { (i : ℕ) → i < length blocks.now → at blocks.now i < length map.now }
     requires by_index_2 { (b : ℕ) → b < length map.now → is_empty (at map.now b) ≡ false → sector_of (at map.now b) < 8 * length used.old }
@@ -92,11 +84,8 @@ fn change_map(map: &mut [u32], blocks: &[u32], news: &[u32])
     requires by_index { (i : ℕ) → i < length blocks.now → at blocks.now i < length map.old }
     ensures { at map.new ≡ updates (at map.old) (at blocks.now) (at news.now) (length blocks.now) }
 {
-    let mut i = 0;
-    while i < blocks.len() {
-        let b = blocks[i] as usize;
-        map[b] = news[i];
-        i += 1;
+    for (i, b) in blocks.iter().enumerate() {
+        map[*b as usize] = news[i];
     }
 }
 
@@ -104,7 +93,7 @@ fn change_map(map: &mut [u32], blocks: &[u32], news: &[u32])
 fn change_live(
     places: &mut [u32],
     numbers: &mut [u32],
-    written: &[u8],
+    written: &[bool],
     taken: &[u32],
     count: usize,
     number: u32,
@@ -118,17 +107,14 @@ fn change_live(
 {
     let mut next = number;
     let mut k = count;
-    let mut p = 0;
-    'pieces: while p < places.len() {
-        if written[p] != 1 {
-            p += 1;
-            continue 'pieces;
+    for p in 0..places.len() {
+        if !written[p] {
+            continue;
         }
         next += 1;
         places[p] = taken[k];
         numbers[p] = next;
         k += 1;
-        p += 1;
     }
 }
 
@@ -143,7 +129,7 @@ pub fn settle(
     news: &[u32],
     taken: &[u32],
     count: usize,
-    written: &[u8],
+    written: &[bool],
 )
     requires geometry_value { geometry_fits s.geometry ≡ true }
     requires map_len { length map.old ≡ s.geometry.l }

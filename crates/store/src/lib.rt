@@ -14,7 +14,6 @@ ghost use Rattle.piece_entries.specs.Cursor.{Cursor};
 ghost use Rattle.store.specs.Ready.{Ready};
 
 use geometry::Geometry;
-use power::allowance::Power;
 use state::State;
 
 // The data sectors, in block order.
@@ -25,7 +24,7 @@ fn store_data(
     bytes: &[u8],
     count: u32,
     allowance: u32,
-) -> Power
+) -> Option<u32>
     requires image_len { length image.old ≡ sector_bytes * n }
     requires bytes_len { length bytes.now ≡ sector_bytes * count }
     requires count_in_bounds { count ≤ length taken.now }
@@ -33,17 +32,24 @@ fn store_data(
     ensures { (result ≡ powered (count_below always count) allowance) × (sector_at image.new ≡ applied (take allowance (stores_below always (block_store taken.now bytes.now) count)) (sector_at image.old)) }
 {
     let mut left = allowance;
-    let mut i: u32 = 0;
-    while i < count {
-        if left == 0 {
-            return Power::Failed;
-        }
+    for i in 0..count {
+        left = left.checked_sub(1)?;
         let k = taken[i as usize] as usize;
         images::store_data(image, k, images::sector(bytes, i as usize));
-        left -= 1;
-        i += 1;
     }
-    Power::Left(left)
+    Some(left)
+}
+
+// The first member has the listed branches; each after it has one, to the member before.
+fn branches_of<'a>(branches: &'a [u32], taken: &'a [u32], place: usize, j: u32) -> &'a [u32]
+    requires j_le_place { j ≤ place }
+    requires place_in_bounds { place ≤ length taken.now }
+    ensures { result.now ≡ cond (is_zero j) branches.now (at taken.now (place - 1) ∷ []) }
+{
+    if j == 0 {
+        return branches;
+    }
+    &taken[place - 1..place]
 }
 
 // The j-th member, of piece p. Each after the first has one branch, to the member before; the last one closes. The piece's
@@ -80,15 +86,9 @@ fn store_member(
     let closing = j + 1 == members;
     let place = (count as usize) + (j as usize);
     let k = taken[place] as usize;
-    if j == 0 {
-        return images::store_map(
-            image, k, l, number, p, closing, branches, map, blocks, news, from,
-        );
-    }
-    let last = taken[place - 1];
-    let before = [last];
+    let listed = branches_of(branches, taken, place, j);
     images::store_map(
-        image, k, l, number, p, closing, &before, map, blocks, news, from,
+        image, k, l, number, p, closing, listed, map, blocks, news, from,
     )
 }
 
@@ -102,35 +102,28 @@ fn store_members(
     taken: &[u32],
     count: u32,
     branches: &[u32],
-    written: &[u8],
+    written: &[bool],
     members: u32,
     allowance: u32,
-) -> Power
+) -> Option<u32>
     requires image_len { length image.old ≡ sector_bytes * s.geometry.n }
     requires ready { Ready s map.now blocks.now news.now taken.now count branches.now written.now members }
     ensures { (result ≡ powered (count_below (flagged written.now) (pieces_for s.geometry.l)) allowance) × (sector_at image.new ≡ applied (take allowance (stores_below (flagged written.now) (member_store s (tables_of map.now [] [] []) (plan_of branches.now written.now members count taken.now 0) (change_of blocks.now news.now count)) (pieces_for s.geometry.l))) (sector_at image.old)) }
 {
-    let pieces = Geometry::pieces_for(s.geometry.l);
     let mut left = allowance;
-    let mut j: u32 = 0;
-    let mut from: usize = 0;
-    let mut p: u32 = 0;
-    'pieces: while p < pieces {
-        if written[p as usize] != 1 {
-            p += 1;
-            continue 'pieces;
+    let mut j = 0;
+    let mut from = 0;
+    for p in 0..Geometry::pieces_for(s.geometry.l) {
+        if !written[p as usize] {
+            continue;
         }
-        if left == 0 {
-            return Power::Failed;
-        }
+        left = left.checked_sub(1)?;
         from = store_member(
             s, image, map, blocks, news, taken, count, branches, members, p, j, from,
         );
-        left -= 1;
         j += 1;
-        p += 1;
     }
-    Power::Left(left)
+    Some(left)
 }
 
 // All stores of a commit.
@@ -144,20 +137,17 @@ pub fn store(
     taken: &[u32],
     count: u32,
     branches: &[u32],
-    written: &[u8],
+    written: &[bool],
     members: u32,
     allowance: u32,
-) -> Power
+) -> Option<u32>
     requires image_len { length image.old ≡ sector_bytes * s.geometry.n }
     requires ready { Ready s map.now blocks.now news.now taken.now count branches.now written.now members }
     requires bytes_len { length bytes.now ≡ sector_bytes * count }
     ensures { (result ≡ powered (length (stores_below always (block_store taken.now bytes.now) count ++ stores_below (flagged written.now) (member_store s (tables_of map.now [] [] []) (plan_of branches.now written.now members count taken.now 0) (change_of blocks.now news.now count)) (pieces_for s.geometry.l))) allowance) × (sector_at image.new ≡ applied (take allowance (stores_below always (block_store taken.now bytes.now) count ++ stores_below (flagged written.now) (member_store s (tables_of map.now [] [] []) (plan_of branches.now written.now members count taken.now 0) (change_of blocks.now news.now count)) (pieces_for s.geometry.l))) (sector_at image.old)) }
 {
-    let stored = store_data(image, s.geometry.n, taken, bytes, count, allowance);
-    match stored {
-        Power::Failed => Power::Failed,
-        Power::Left(left) => store_members(
-            s, image, map, blocks, news, taken, count, branches, written, members, left,
-        ),
-    }
+    let left = store_data(image, s.geometry.n, taken, bytes, count, allowance)?;
+    store_members(
+        s, image, map, blocks, news, taken, count, branches, written, members, left,
+    )
 }

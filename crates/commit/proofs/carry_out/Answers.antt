@@ -29,7 +29,7 @@ store-power-requires c =
 
 pub overflow_sub-allowance : goal.overflow_sub-allowance
 overflow_sub-allowance c =
-    let h = left_enough _ _ _ (sym c.in-Left.is ∙ c.store-power.ensures.0) in
+    let h = left_enough _ _ _ (sym c.in-Some.is ∙ c.store-power.ensures.0) in
     omega arith
 
 pub finish-requires : goal.finish-requires
@@ -45,16 +45,16 @@ finish-requires c = record {
   settling = c.requires.settling;
 }
 
-pub returns-in-Failed : goal.returns-in-Failed
-returns-in-Failed c =
+pub returns-in-None : goal.returns-in-None
+returns-in-None c =
     carried_cut c.args.s c.args.allowance c.args.image.now c.args.map.now c.args.places.now c.args.numbers.now c.args.used.now _ c.args.blocks.now
     c.args.bytes.now c.args.news.now c.args.taken.now c.args.branches.now c.args.written.now c.args.count c.args.members c.args.skipped c.store-power.auto.image
     c.store-power.ensures.1 _ c.cut.result refl c.cut.ensures
-    (sym c.in-Failed.is ∙ c.store-power.ensures.0)
+    (sym c.in-None.is ∙ c.store-power.ensures.0)
 
-pub returns-in-Left : goal.returns-in-Left
-returns-in-Left c =
+pub returns-in-Some : goal.returns-in-Some
+returns-in-Some c =
     carried_whole c.args.s c.args.allowance c.args.image.now c.args.map.now c.args.places.now c.args.numbers.now c.args.used.now _ c.args.blocks.now
     c.args.bytes.now c.args.news.now c.args.taken.now c.args.branches.now c.args.written.now c.args.count c.args.members c.args.skipped c.store-power.auto.image
     c.store-power.ensures.1 _ _ _ _ c.finish.result _ c.finish.auto.map c.finish.auto.places c.finish.auto.numbers c.finish.auto.used
-    c.requires.settling c.requires.members_value c.requires.le_members (sym c.in-Left.is ∙ c.store-power.ensures.0) c.finish.ensures
+    c.requires.settling c.requires.members_value c.requires.le_members (sym c.in-Some.is ∙ c.store-power.ensures.0) c.finish.ensures

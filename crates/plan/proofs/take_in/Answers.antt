@@ -3,12 +3,6 @@ use native.Mathlib.Omega.{arith}
 use Rattle.plan.proofs.PlanLaws.{few_sectors, taken_first, skipped_first}
 use Rattle.plan.proofs.take_in.Goals as goal
 
-pub copy_used-requires : goal.copy_used-requires
-copy_used-requires c = record {
-  used_in_bounds = c.requires.used_in_bounds;
-  marks_value = c.requires.marks_value;
-}
-
 pub find_places-requires : goal.find_places-requires
 find_places-requires c = record {
   d_value = c.requires.d_value;

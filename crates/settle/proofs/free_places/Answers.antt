@@ -1,6 +1,6 @@
 -- The places of the written pieces below q are free.
 use Prim.Native.Nat.{ℕ}
-use mathlib.Core.Path.{◌≡◌, refl, ◌∙◌, ap}
+use mathlib.Core.Path.{◌≡◌, ◌∙◌, ap}
 use mathlib.Core.Bool.{Bool}
 use native.Mathlib.Omega.{arith}
 use lib.ListN.{length}
@@ -11,28 +11,22 @@ use Rattle.store.proofs.StoreLaws.{is_flagged, not_flagged}
 use Rattle.settle.proofs.SettleLaws.{without_none, without_hit, without_miss}
 use Rattle.settle.proofs.free_places.Goals as goal
 
-pub pieces-init : goal.pieces-init
-pieces-init c =
-    (omega arith, refl, without_none _ _ _)
+pub loop-q-init : goal.loop-q-init
+loop-q-init c = without_none _ _ _
 
-pub pieces-preserved-then-written-q-ne1 : goal.pieces-preserved-then-written-q-ne1
-pieces-preserved-then-written-q-ne1 c =
-    (omega arith, c.pieces.invariant.1, without_miss _ _ _ c.pieces.q (bit_at c.pieces.used) (not_flagged _ c.pieces.q c.if-written-q-ne1.true) c.pieces.invariant.2)
-
-pub overflow_cast-places : goal.overflow_cast-places
-overflow_cast-places c =
-    let h = c.type_inv.places c.pieces.q in
-    omega arith
+pub loop-q-preserved-then-not-written-q : goal.loop-q-preserved-then-not-written-q
+loop-q-preserved-then-not-written-q c =
+    without_miss _ _ _ c.loop-q.q (bit_at c.loop-q.used) (not_flagged _ c.loop-q.q c.if-not-written-q.true) c.loop-q.invariant
 
 pub clear_bit-requires : goal.clear_bit-requires
 clear_bit-requires c =
-    let h = c.requires.by_index _ c.pieces-test.true in
+    let h = c.requires.by_index _ c.loop-q-test.true in
     omega arith
 
-pub pieces-preserved : goal.pieces-preserved
-pieces-preserved c =
-    (omega arith, c.clear_bit.auto.used ∙ c.pieces.invariant.1, without_hit _ _ _ c.pieces.q (bit_at c.pieces.used) _ (is_flagged _ c.pieces.q c.if-written-q-ne1.false) c.pieces.invariant.2 c.clear_bit.ensures)
+pub loop-q-preserved : goal.loop-q-preserved
+loop-q-preserved c =
+    without_hit _ _ _ c.loop-q.q (bit_at c.loop-q.used) _ (is_flagged _ c.loop-q.q c.if-not-written-q.false) c.loop-q.invariant c.clear_bit.ensures
 
 pub returns : goal.returns
 returns c =
-    c.pieces.invariant.2 ∙ ap {B = ℕ → Bool} (λ (x : ℕ). without (bit_at c.args.used.now) (flagged c.args.written.now) (at c.args.places.now) x) (let e : c.pieces.q ≡ length c.args.places.now = omega arith in e)
+    c.loop-q.invariant ∙ ap {B = ℕ → Bool} (λ (x : ℕ). without (bit_at c.args.used.now) (flagged c.args.written.now) (at c.args.places.now) x) (let e : c.loop-q.q ≡ length c.args.places.now = omega arith in e)

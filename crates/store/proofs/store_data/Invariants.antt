@@ -1,7 +1,4 @@
 -- The loop has made the stores below i, and so many are left.
-use Prim.Native.Nat.{◌-◌, ◌≤◌}
-use mathlib.Core.Path.{◌≡◌}
-use lib.ListN.{length}
 use Rattle.layout.specs.Bounded.{always}
 use Rattle.volume.specs.Tables.{sector_at}
 use Rattle.power.proofs.Storing.{Storing}
@@ -9,7 +6,4 @@ use Rattle.pieces.specs.Arrays.{block_store}
 use Rattle.store.proofs.store_data.Given as goal
 
 abbrev pub invariant-loop-i : goal.invariant-loop-i
-invariant-loop-i l = (l.i ≤ l.count) × (length l.image ≡ length l.initial.image) × Storing always (block_store l.taken l.bytes) (sector_at l.initial.image) l.allowance l.i l.left (sector_at l.image)
-
-abbrev pub decreases-loop-i : goal.decreases-loop-i
-decreases-loop-i l = l.count - l.i
+invariant-loop-i l = Storing always (block_store l.taken l.bytes) (sector_at l.initial.image) l.allowance l.i l.left (sector_at l.image)

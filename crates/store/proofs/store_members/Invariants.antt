@@ -1,7 +1,5 @@
 -- The loop has made the members of the pieces below p; the next one's rank is j, and its blocks stand from `from` on.
-use Prim.Native.Nat.{◌-◌, ◌≤◌}
 use mathlib.Core.Path.{◌≡◌}
-use lib.ListN.{length}
 use Rattle.layout.specs.Bounded.{count_below}
 use Rattle.volume.specs.Tables.{sector_at}
 use Rattle.power.proofs.Storing.{Storing}
@@ -10,10 +8,7 @@ use Rattle.piece_entries.specs.Cursor.{Cursor}
 use Rattle.store.proofs.StoreLaws.{stores}
 use Rattle.store.proofs.store_members.Given as goal
 
-abbrev pub invariant-pieces : goal.invariant-pieces
-invariant-pieces l =
-    (l.p ≤ l.pieces) × (length l.image ≡ length l.initial.image) × (l.j ≡ count_below (flagged l.written) l.p) × Cursor l.blocks l.p l.from × Storing (flagged l.written)
+abbrev pub invariant-loop-p : goal.invariant-loop-p
+invariant-loop-p l =
+    (l.j ≡ count_below (flagged l.written) l.p) × Cursor l.blocks l.p l.from × Storing (flagged l.written)
     (stores l.s l.map l.blocks l.news l.taken l.branches l.written l.count l.members) (sector_at l.initial.image) l.allowance l.p l.left (sector_at l.image)
-
-abbrev pub decreases-pieces : goal.decreases-pieces
-decreases-pieces l = l.pieces - l.p
