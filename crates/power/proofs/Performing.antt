@@ -4,6 +4,7 @@ use mathlib.Core.Path.{◌≡◌, refl, sym, ◌∙◌, ap}
 use mathlib.Core.Logic.{⊎_elim}
 use mathlib.Core.List.{List}
 use native.Mathlib.Omega.{arith}
+use Rattle.std.specs.Prelude.{Some, None}
 use lib.ListN.{length, take}
 use lib.Seq.{take_all}
 use lib.Dec.{ltb}
@@ -16,7 +17,6 @@ use Rattle.volume.specs.Tables.{Tables, Memory, memory, sector_at, tables_of}
 use Rattle.volume.specs.Store.{Store, applied, after, memory_with, Action, performed}
 use Rattle.laws.proofs.Bounded.{lt?, cond_true, cond_false}
 use Rattle.laws.proofs.Judged.{performed_cut, performed_whole}
-use Rattle.power.specs.declared.allowance.Power.TheVariants.{Left, Failed}
 use Rattle.power.specs.Power.{powered, made}
 use Rattle.power.proofs.Runs.{failed_short, left_enough}
 
@@ -36,7 +36,7 @@ memory_left im mp pl nu us im' mp' pl' nu' us' image t e1 e2 e3 e4 e5 i f =
 -- A storing call by the stores that it made, and the memory that it left.
 module _ (allowance : ℕ) (a : Action) (m m' : Memory) (image : ℕ → List ℕ) (made : image ≡ applied (take allowance a.stores) m.image) where
   pub call_cut : (x : Answer) (y : State) → x ≡ PowerFailed (a.cost allowance) → y ≡ a.cut_state
-      → Failed ≡ powered (length a.stores) allowance → m' ≡ memory_with m image a.cut_tables
+      → None ≡ powered (length a.stores) allowance → m' ≡ memory_with m image a.cut_tables
       → after (record { answer = x; state = y }) m' ≡ performed allowance a m
   call_cut x y p q e f =
       ap (λ (z : Answer). after (record { answer = z; state = y }) m') p
@@ -45,7 +45,7 @@ module _ (allowance : ℕ) (a : Action) (m m' : Memory) (image : ℕ → List �
       ∙ sym (performed_cut allowance a m (failed_short (length a.stores) allowance e))
 
   pub call_whole : (x : Answer) (y : State) (left : ℕ) → x ≡ a.answer (a.cost (allowance - left)) → y ≡ a.state
-      → Left left ≡ powered (length a.stores) allowance → m' ≡ memory_with m image a.tables
+      → Some left ≡ powered (length a.stores) allowance → m' ≡ memory_with m image a.tables
       → after (record { answer = x; state = y }) m' ≡ performed allowance a m
   call_whole x y left p q e f =
       let enough = left_enough (length a.stores) allowance left e in

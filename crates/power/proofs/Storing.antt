@@ -6,6 +6,7 @@ use mathlib.Core.Bool.{Bool, true, false}
 use mathlib.Core.List.{List, [], ◌∷◌, ◌++◌, append_assoc, append-nil}
 use native.Mathlib.Nat.{eq-or-lt_of_le, le_of_suc-le-suc}
 use native.Mathlib.Omega.{arith}
+use Rattle.std.specs.Prelude.{Some, None}
 use lib.ListN.{take}
 use lib.Seq.{take_at, take_all}
 use borrow.Author.Tests.{lt-ltb, le-ltb}
@@ -13,7 +14,6 @@ use Rattle.layout.specs.Bounded.{count_below, updated}
 use Rattle.volume.specs.Store.{Store, applied, stores_below}
 use Rattle.laws.proofs.Bounded.{bool?, count_hit, count_miss, count_before}
 use Rattle.laws.proofs.Stores.{below_hit, below_miss, below_length, applied_append}
-use Rattle.power.specs.declared.allowance.Power.TheVariants.{Left, Failed}
 use Rattle.power.specs.Power.{powered}
 
 pub positive : (x : ℕ) → (x ≡ 0 → ⊥) → 0 < x
@@ -69,7 +69,7 @@ module _ (which : ℕ → Bool) (store : ℕ → Store) (before : ℕ → List �
 
   -- A store is due, and none is allowed.
   pub storing_fails : (i n : ℕ) (image : ℕ → List ℕ) → i < n → which i ≡ true → Storing i 0 image
-      → (Failed ≡ powered (count_below which n) allowance) × (image ≡ applied (take allowance (stores_below which store n)) before)
+      → (None ≡ powered (count_below which n) allowance) × (image ≡ applied (take allowance (stores_below which store n)) before)
   unfolding powered
   storing_fails i n image h e s =
       let r = below_prefix which store i n (omega arith) in
@@ -84,12 +84,12 @@ module _ (which : ℕ → Bool) (store : ℕ → Store) (before : ℕ → List �
 
   -- All were made.
   pub storing_ends : (n left : ℕ) (image : ℕ → List ℕ) → Storing n left image
-      → (Left left ≡ powered (count_below which n) allowance) × (image ≡ applied (take allowance (stores_below which store n)) before)
+      → (Some left ≡ powered (count_below which n) allowance) × (image ≡ applied (take allowance (stores_below which store n)) before)
   unfolding powered
   storing_ends n left image s =
       let sp = s.spent in
       let len = below_length which store n in
       let rest : left ≡ allowance - count_below which n = omega arith in (
-        rw (le-ltb allowance (count_below which n) (omega arith)) (ap Left rest),
+        rw (le-ltb allowance (count_below which n) (omega arith)) (ap Some rest),
         s.made ∙ ap (λ (xs : List Store). applied xs before) (sym (take_all allowance (stores_below which store n) (omega arith))),
       )
