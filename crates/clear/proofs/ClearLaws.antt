@@ -14,8 +14,7 @@ use Rattle.layout.specs.Entry.{blank}
 use Rattle.volume.specs.Store.{Store, applied, stores_below}
 use Rattle.volume.specs.Format.{blank_store}
 use Rattle.volume.specs.Recover.{park_sector_cleared, is_blank}
-use Rattle.power.specs.declared.allowance.Power.{Power}
-use Rattle.power.specs.declared.allowance.Power.TheVariants.{Left, Failed}
+use Rattle.std.specs.Prelude.{Option, Some, None}
 use Rattle.power.specs.Power.{powered}
 use Rattle.volume.specs.Tables.{bit_at}
 use Rattle.laws.proofs.Bounded.{lt?, all_at, past_end}
@@ -24,28 +23,30 @@ use Rattle.power.proofs.Storing.{Storing, storing_starts, storing_skips}
 use Rattle.power.proofs.Runs.{first_fails, second_runs}
 
 module _ (done : Bool) (allowance : ℕ) (before : ℕ → List ℕ) where
-  abbrev pub Cleared : Power → (ℕ → List ℕ) → Type 0
+  abbrev pub Cleared : Option ℕ → (ℕ → List ℕ) → Type 0
   Cleared r image = (r ≡ powered (length (park_sector_cleared done)) allowance) × (image ≡ applied (take allowance (park_sector_cleared done)) before)
 
 take_none : {A : Type 0} (n : ℕ) → ◌≡◌ {A = List A} (take n []) []
 take_none zero = refl
 take_none (suc n) = refl
 
-pub park_done : (done : Bool) (allowance : ℕ) (before : ℕ → List ℕ) → done ≡ true → Cleared done allowance before (Left allowance) before
+pub park_done : (done : Bool) (allowance : ℕ) (before : ℕ → List ℕ) → done ≡ true → Cleared done allowance before (Some allowance) before
 unfolding powered applied
 park_done done allowance before e =
-    rw e (rw (le-ltb allowance 0 (omega arith)) (ap Left (let z : allowance ≡ allowance - 0 = omega arith in z)), ap (λ (xs : List Store). applied xs before) (sym (take_none allowance)))
+    rw e (rw (le-ltb allowance 0 (omega arith)) (ap Some (let z : allowance ≡ allowance - 0 = omega arith in z)), ap (λ (xs : List Store). applied xs before) (sym (take_none allowance)))
 
-pub park_fails : (done : Bool) (allowance : ℕ) (before : ℕ → List ℕ) → done ≡ false → allowance ≡ 0 → Cleared done allowance before Failed before
+pub park_fails : (done : Bool) (allowance : ℕ) (before : ℕ → List ℕ) (r : Option ℕ) → done ≡ false → (1 ≤ allowance → ⊥) → r ≡ None → Cleared done allowance before r before
 unfolding powered applied
-park_fails done allowance before e f = rw (e, f) (refl, refl)
+park_fails done allowance before r e f g =
+    let z : allowance ≡ 0 = omega arith in
+    rw (e, z) (g, refl)
 
-pub park_clears : (done : Bool) (allowance : ℕ) (before image : ℕ → List ℕ) → done ≡ false → (allowance ≡ 0 → ⊥) → image ≡ updated before 0 blank
-    → Cleared done allowance before (Left (allowance - 1)) image
+pub park_clears : (done : Bool) (allowance : ℕ) (before image : ℕ → List ℕ) (left : ℕ) → done ≡ false → (1 ≤ allowance) × (left ≡ allowance - 1)
+    → image ≡ updated before 0 blank → Cleared done allowance before (Some left) image
 unfolding powered applied
-park_clears done zero before image e f u = absurd (f refl)
-park_clears done (suc allowance) before image e f u = rw e (
-  rw (le-ltb (suc allowance) 1 (omega arith)) refl,
+park_clears done zero before image left e f u = absurd (omega (arith, f.0))
+park_clears done (suc allowance) before image left e f u = rw e (
+  ap Some f.1 ∙ sym (rw (le-ltb (suc allowance) 1 (omega arith)) refl),
   u ∙ ap (λ (xs : List Store). applied (blank_store 0 ∷ xs) before) (sym (take_none allowance)),
 )
 
@@ -61,12 +62,13 @@ module _ (n allowance : ℕ) (bits : ℕ → Bool) (before image : ℕ → List 
   abbrev first : List Store
   first = stores_below bits blank_store n
 
-  pub clear_fails : Failed ≡ powered (count_below bits n) allowance → image ≡ applied (take allowance first) before
-      → (Failed ≡ powered (length (first ++ park_sector_cleared over)) allowance) × (image ≡ applied (take allowance (first ++ park_sector_cleared over)) before)
-  clear_fails e i =
-      first_fails first (park_sector_cleared over) before image allowance (e ∙ ap (λ (k : ℕ). powered k allowance) (sym (below_length bits blank_store n))) i
+  pub clear_fails : (p : Option ℕ) → p ≡ powered (count_below bits n) allowance → (r : Option ℕ) → p ≡ None → r ≡ None → image ≡ applied (take allowance first) before
+      → (r ≡ powered (length (first ++ park_sector_cleared over)) allowance) × (image ≡ applied (take allowance (first ++ park_sector_cleared over)) before)
+  clear_fails p e r f g i =
+      let both = first_fails first (park_sector_cleared over) before image allowance (sym f ∙ e ∙ ap (λ (k : ℕ). powered k allowance) (sym (below_length bits blank_store n))) i in
+      (g ∙ both.0, both.1)
 
-  pub clear_runs : (mid : ℕ → List ℕ) (left : ℕ) (p : Power) → Left left ≡ powered (count_below bits n) allowance → mid ≡ applied (take allowance first) before
+  pub clear_runs : (mid : ℕ → List ℕ) (left : ℕ) (p : Option ℕ) → Some left ≡ powered (count_below bits n) allowance → mid ≡ applied (take allowance first) before
       → p ≡ powered (length (park_sector_cleared done)) left → image ≡ applied (take left (park_sector_cleared done)) mid
       → (p ≡ powered (length (first ++ park_sector_cleared over)) allowance) × (image ≡ applied (take allowance (first ++ park_sector_cleared over)) before)
   clear_runs mid left p e m f i =

@@ -10,60 +10,50 @@ ghost use Rattle.volume.specs.Format.{blank_store};
 ghost use Rattle.volume.specs.Recover.{park_sector_cleared, is_blank};
 ghost use Rattle.power.specs.Power.{powered};
 
-use power::allowance::Power;
-
 // Zeros over the marked sectors, ascending: each sector is looked at.
-fn clear_each(image: &mut [u8], n: u32, above: &[u8], allowance: u32) -> Power
+fn clear_each(image: &mut [u8], n: u32, above: &[u8], allowance: u32) -> Option<u32>
     requires n_in_bounds { sector_bytes * n ≤ length image.old }
     requires n_bound { n ≤ 8 * length above.now }
     ensures { (result ≡ powered (count_below (bit_at above.now) n) allowance) × (sector_at image.new ≡ applied (take allowance (stores_below (bit_at above.now) blank_store n)) (sector_at image.old)) }
 {
     let mut left = allowance;
-    let mut k: u32 = 0;
-    'sectors: while k < n {
+    for k in 0..n {
         if !bits::is_set(above, k as usize) {
-            k += 1;
-            continue 'sectors;
+            continue;
         }
-        if left == 0 {
-            return Power::Failed;
-        }
+        left = left.checked_sub(1)?;
         images::blank_sector(image, k as usize);
-        left -= 1;
-        k += 1;
     }
-    Power::Left(left)
+    Some(left)
 }
 
 // The same; where none is marked, as after most plugs, that is seen at once.
-fn clear_above(image: &mut [u8], n: u32, above: &[u8], allowance: u32) -> Power
+fn clear_above(image: &mut [u8], n: u32, above: &[u8], allowance: u32) -> Option<u32>
     requires n_in_bounds { sector_bytes * n ≤ length image.old }
     requires n_bound { n ≤ 8 * length above.now }
     ensures { (result ≡ powered (count_below (bit_at above.now) n) allowance) × (sector_at image.new ≡ applied (take allowance (stores_below (bit_at above.now) blank_store n)) (sector_at image.old)) }
 {
     if blocks::is_blank(above) {
-        return Power::Left(allowance);
+        return Some(allowance);
     }
     clear_each(image, n, above, allowance)
 }
 
 // Zeros over sector 0, unless that is done already.
-pub fn clear_park(image: &mut [u8], done: bool, allowance: u32) -> Power
+pub fn clear_park(image: &mut [u8], done: bool, allowance: u32) -> Option<u32>
     requires { sector_bytes ≤ length image.old }
     ensures { (result ≡ powered (length (park_sector_cleared done)) allowance) × (sector_at image.new ≡ applied (take allowance (park_sector_cleared done)) (sector_at image.old)) }
 {
     if done {
-        return Power::Left(allowance);
+        return Some(allowance);
     }
-    if allowance == 0 {
-        return Power::Failed;
-    }
+    let left = allowance.checked_sub(1)?;
     images::blank_sector(image, 0);
-    Power::Left(allowance - 1)
+    Some(left)
 }
 
 // Zeros over the uncommitted sectors, ascending, and finally over sector 0 unless it is zero by then.
-pub fn clear_all(image: &mut [u8], n: u32, above: &[u8], allowance: u32) -> Power
+pub fn clear_all(image: &mut [u8], n: u32, above: &[u8], allowance: u32) -> Option<u32>
     requires le_n { 1 ≤ n }
     requires image_len { length image.old ≡ sector_bytes * n }
     requires n_bound { n ≤ 8 * length above.now }
@@ -72,9 +62,6 @@ pub fn clear_all(image: &mut [u8], n: u32, above: &[u8], allowance: u32) -> Powe
     let blank = blocks::is_blank(images::sector(image, 0));
     let marked = bits::is_set(above, 0);
     let done = blank || marked;
-    let cleared = clear_above(image, n, above, allowance);
-    match cleared {
-        Power::Failed => Power::Failed,
-        Power::Left(left) => clear_park(image, done, left),
-    }
+    let left = clear_above(image, n, above, allowance)?;
+    clear_park(image, done, left)
 }

@@ -16,8 +16,7 @@ use Rattle.volume.specs.Store.{applied, stores_below}
 use Rattle.volume.specs.Format.{blank_store}
 use Rattle.laws.proofs.Bounded.{lt?, eq?}
 use Rattle.laws.proofs.Filling.{zeros_get}
-use Rattle.power.specs.declared.allowance.Power.{Power}
-use Rattle.power.specs.declared.allowance.Power.TheVariants.{Left, Failed}
+use Rattle.std.specs.Prelude.{Option, Some, None}
 use Rattle.power.specs.Power.{powered}
 use Rattle.power.proofs.Storing.{Storing, storing_starts, storing_stores, storing_fails, storing_ends}
 
@@ -95,17 +94,17 @@ module _ (before : ℕ → List ℕ) (allowance : ℕ) where
       subst (λ (left : ℕ). Storing always blank_store before allowance (suc c) left (blanked (suc c) before)) less
       (storing_stores always blank_store before allowance c (allowance - c) (blanked c before) (blanked (suc c) before) refl (omega arith) (stored c (omega arith)) (one_more c))
 
-  abbrev Done : ℕ → Power → (ℕ → List ℕ) → Type 0
+  abbrev Done : ℕ → Option ℕ → (ℕ → List ℕ) → Type 0
   Done n p image = (p ≡ powered (count_below always n) allowance) × (image ≡ applied (take allowance (stores_below always blank_store n)) before)
 
   -- `image` is what the code leaves.
-  pub blank_fails : (n : ℕ) (image : ℕ → List ℕ) → allowance < n → image ≡ blanked allowance before → Done n Failed image
+  pub blank_fails : (n : ℕ) (image : ℕ → List ℕ) → allowance < n → image ≡ blanked allowance before → Done n None image
   blank_fails n image h e =
       let spent : allowance - allowance ≡ 0 = omega arith in
-      subst (λ (x : ℕ → List ℕ). Done n Failed x) (sym e)
+      subst (λ (x : ℕ → List ℕ). Done n None x) (sym e)
       (storing_fails always blank_store before allowance allowance n (blanked allowance before) h refl
       (subst (λ (left : ℕ). Storing always blank_store before allowance allowance left (blanked allowance before)) spent (stored allowance (omega arith))))
 
-  pub blank_ends : (n : ℕ) (image : ℕ → List ℕ) → n ≤ allowance → image ≡ blanked n before → Done n (Left (allowance - n)) image
+  pub blank_ends : (n : ℕ) (image : ℕ → List ℕ) → n ≤ allowance → image ≡ blanked n before → Done n (Some (allowance - n)) image
   blank_ends n image h e =
-      subst (λ (x : ℕ → List ℕ). Done n (Left (allowance - n)) x) (sym e) (storing_ends always blank_store before allowance n (allowance - n) (blanked n before) (stored n h))
+      subst (λ (x : ℕ → List ℕ). Done n (Some (allowance - n)) x) (sym e) (storing_ends always blank_store before allowance n (allowance - n) (blanked n before) (stored n h))

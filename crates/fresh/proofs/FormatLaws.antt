@@ -26,8 +26,7 @@ use Rattle.volume.specs.Store.{applied, stores_below, After, after, performed, u
 use Rattle.volume.specs.Format.{blank_store, piece_store, format_stores, format_tables, format_action, volume_in, size_checks, format_of}
 use Rattle.laws.proofs.Stores.{below_length}
 use Rattle.piece_entries.proofs.EntryLaws.{piece_blank}
-use Rattle.power.specs.declared.allowance.Power.{Power}
-use Rattle.power.specs.declared.allowance.Power.TheVariants.{Left, Failed}
+use Rattle.std.specs.Prelude.{Option, Some, None}
 use Rattle.power.specs.Power.{powered}
 use Rattle.power.proofs.Performing.{memory_left, call_cut, call_whole}
 use Rattle.power.proofs.Runs.{first_fails, second_runs}
@@ -54,15 +53,15 @@ module _ (g : Geometry) (allowance : ℕ) (before image : ℕ → List ℕ) wher
   blanks : length (stores_below always blank_store g.n) ≡ count_below always g.n
   blanks = below_length always blank_store g.n
 
-  pub format_fails : Failed ≡ powered (count_below always g.n) allowance → image ≡ applied (take allowance (stores_below always blank_store g.n)) before
-      → (Failed ≡ powered (length (format_stores g)) allowance) × (image ≡ applied (take allowance (format_stores g)) before)
+  pub format_fails : None ≡ powered (count_below always g.n) allowance → image ≡ applied (take allowance (stores_below always blank_store g.n)) before
+      → (None ≡ powered (length (format_stores g)) allowance) × (image ≡ applied (take allowance (format_stores g)) before)
   unfolding format_stores
   format_fails e i =
       first_fails (stores_below always blank_store g.n) (stores_below always (piece_store g.l) (pieces_for g.l)) before image allowance
       (e ∙ ap (λ (k : ℕ). powered k allowance) (sym blanks)) i
 
-pub format_runs : (g : Geometry) (pieces allowance : ℕ) (before image mid : ℕ → List ℕ) (left : ℕ) (p : Power) → pieces ≡ pieces_for g.l
-    → Left left ≡ powered (count_below always g.n) allowance → mid ≡ applied (take allowance (stores_below always blank_store g.n)) before
+pub format_runs : (g : Geometry) (pieces allowance : ℕ) (before image mid : ℕ → List ℕ) (left : ℕ) (p : Option ℕ) → pieces ≡ pieces_for g.l
+    → Some left ≡ powered (count_below always g.n) allowance → mid ≡ applied (take allowance (stores_below always blank_store g.n)) before
     → p ≡ powered (count_below always pieces) left → image ≡ applied (take left (stores_below always (piece_store g.l) pieces)) mid
     → (p ≡ powered (length (format_stores g)) allowance) × (image ≡ applied (take allowance (format_stores g)) before)
 unfolding format_stores
@@ -80,7 +79,7 @@ module _ (settings : Settings) (g : Geometry) (allowance : ℕ) (im mp pl nu us 
   asked_performed = ap (λ (x : Geometry). performed allowance (format_action x settings.drive) (memory im mp pl nu us)) asked
 
   pub format_cut_lem : (x : Answer) (s : State) → x ≡ PowerFailed (stores_alone allowance) → s ≡ lost_state g settings.drive
-      → Failed ≡ powered (length (format_stores g)) allowance → tables_of mp' pl' nu' us' ≡ zero_tables
+      → None ≡ powered (length (format_stores g)) allowance → tables_of mp' pl' nu' us' ≡ zero_tables
       → after (record { answer = x; state = s }) (memory im' mp' pl' nu' us') ≡ performed allowance (format_action (geometry_of (length im / 512) settings) settings.drive) (memory im mp pl nu us)
   unfolding format_action memory
   format_cut_lem x s p q e t =
@@ -89,7 +88,7 @@ module _ (settings : Settings) (g : Geometry) (allowance : ℕ) (im mp pl nu us 
       ∙ asked_performed
 
   pub format_whole : (x : Answer) (s : State) (pieces left : ℕ) → pieces ≡ pieces_for g.l → x ≡ Accepted (stores_alone (allowance - left)) → s ≡ fresh_state g settings.drive pieces pieces
-      → Left left ≡ powered (length (format_stores g)) allowance → tables_of mp' pl' nu' us' ≡ format_tables g.l
+      → Some left ≡ powered (length (format_stores g)) allowance → tables_of mp' pl' nu' us' ≡ format_tables g.l
       → after (record { answer = x; state = s }) (memory im' mp' pl' nu' us') ≡ performed allowance (format_action (geometry_of (length im / 512) settings) settings.drive) (memory im mp pl nu us)
   unfolding format_action memory
   format_whole x s pieces left k p q e t =

@@ -12,7 +12,6 @@ ghost use Rattle.volume.specs.Format.{blank_store, piece_store};
 ghost use Rattle.power.specs.Power.{powered};
 
 use geometry::Geometry;
-use power::allowance::Power;
 
 // Zeros in the first sectors, so many of them, as one run of bytes.
 fn blank_first(image: &mut [u8], count: u32)
@@ -20,20 +19,16 @@ fn blank_first(image: &mut [u8], count: u32)
     ensures { sector_at image.new ≡ (λ k. cond (ltb k count) blank (sector_at image.old k)) }
 {
     let end = Geometry::SECTOR * (count as usize);
-    fill::zero_bytes(&mut image[0..end]);
+    image[..end].fill(0);
 }
 
 // Zeros in sectors 0 to n - 1, ascending: as many as the allowance has.
-pub fn blank_sectors(image: &mut [u8], n: u32, allowance: u32) -> Power
+pub fn blank_sectors(image: &mut [u8], n: u32, allowance: u32) -> Option<u32>
     requires { sector_bytes * n ≤ length image.old }
     ensures { (result ≡ powered (count_below always n) allowance) × (sector_at image.new ≡ applied (take allowance (stores_below always blank_store n)) (sector_at image.old)) }
 {
-    if allowance < n {
-        blank_first(image, allowance);
-        return Power::Failed;
-    }
-    blank_first(image, n);
-    Power::Left(allowance - n)
+    blank_first(image, n.min(allowance));
+    allowance.checked_sub(n)
 }
 
 // Piece p of an empty map, into sector p + 1 with number p + 1.
@@ -75,21 +70,16 @@ fn store_piece(image: &mut [u8], l: u32, pieces: u32, p: u32)
 }
 
 // The pieces of a fresh map, ascending; only the last one closes.
-pub fn store_pieces(image: &mut [u8], l: u32, pieces: u32, allowance: u32) -> Power
+pub fn store_pieces(image: &mut [u8], l: u32, pieces: u32, allowance: u32) -> Option<u32>
     requires pieces_value { pieces ≡ pieces_for l }
     requires pieces_le_most_pieces { pieces ≤ most_pieces }
     requires sector_bytes_in_bounds { sector_bytes * pieces + sector_bytes ≤ length image.old }
     ensures { (result ≡ powered (count_below always pieces) allowance) × (sector_at image.new ≡ applied (take allowance (stores_below always (piece_store l) pieces)) (sector_at image.old)) }
 {
     let mut left = allowance;
-    let mut p: u32 = 0;
-    while p < pieces {
-        if left == 0 {
-            return Power::Failed;
-        }
+    for p in 0..pieces {
+        left = left.checked_sub(1)?;
         store_piece(image, l, pieces, p);
-        left -= 1;
-        p += 1;
     }
-    Power::Left(left)
+    Some(left)
 }

@@ -16,8 +16,7 @@ use Rattle.state.specs.State.{fresh_state, lost_state}
 use Rattle.volume.specs.Tables.{memory, sector_at, tables_of, zero_tables}
 use Rattle.volume.specs.Store.{Store, applied, after, Action, performed}
 use Rattle.volume.specs.Recover.{Finding, found, missing, park_sector_cleared, is_blank, recovery_action, recovered}
-use Rattle.power.specs.declared.allowance.Power.{Power}
-use Rattle.power.specs.declared.allowance.Power.TheVariants.{Left, Failed}
+use Rattle.std.specs.Prelude.{Option, Some, None}
 use Rattle.power.specs.Power.{powered}
 use Rattle.power.proofs.Performing.{memory_left, call_cut, call_whole}
 
@@ -28,7 +27,7 @@ module _ (g : Geometry) (drive : Drive) (allowance : ℕ) (tail number : ℕ) (a
   action = recovery_action g drive (record { tables = tables_of mp pl nu us; tail = tail; number = number }) answer stores
 
   pub recovery_cut_lem : (mp' pl' nu' us' : List ℕ) (r : Outcome)
-      → length mp' ≡ length mp → length pl' ≡ length pl → length nu' ≡ length nu → length us' ≡ length us → Failed ≡ powered (length stores) allowance
+      → length mp' ≡ length mp → length pl' ≡ length pl → length nu' ≡ length nu → length us' ≡ length us → None ≡ powered (length stores) allowance
       → (r.answer ≡ PowerFailed (stores_alone allowance)) × (r.state ≡ lost_state g drive) × (tables_of mp' pl' nu' us' ≡ zero_tables)
       → after r (memory im' mp' pl' nu' us') ≡ performed allowance action (memory im mp pl nu us)
   unfolding memory
@@ -37,7 +36,7 @@ module _ (g : Geometry) (drive : Drive) (allowance : ℕ) (tail number : ℕ) (a
       (memory_left im mp pl nu us im' mp' pl' nu' us' (sector_at im') zero_tables e1 e2 e3 e4 e5 refl w.2)
 
   pub recovery_whole : (x : Answer) (s : State) (left : ℕ) → x ≡ answer (stores_alone (allowance - left)) → s ≡ fresh_state g drive tail number
-      → Left left ≡ powered (length stores) allowance
+      → Some left ≡ powered (length stores) allowance
       → after (record { answer = x; state = s }) (memory im' mp pl nu us) ≡ performed allowance action (memory im mp pl nu us)
   unfolding memory
   recovery_whole x s left p q e =
@@ -57,7 +56,7 @@ module _ (g : Geometry) (drive : Drive) (allowance : ℕ) (im mp pl nu us mp' pl
   recovered_any (missing loss) = rw (e2, e3, e4, e5) refl
 
 -- Whether sector 0 is blank, as it was read.
-pub first_cleared : (allowance : ℕ) (image image' : ℕ → List ℕ) (s : List ℕ) (blank : Bool) (left : Power) → blank ≡ is_blank s → s ≡ image 0
+pub first_cleared : (allowance : ℕ) (image image' : ℕ → List ℕ) (s : List ℕ) (blank : Bool) (left : Option ℕ) → blank ≡ is_blank s → s ≡ image 0
     → (left ≡ powered (length (park_sector_cleared blank)) allowance) × (image' ≡ applied (take allowance (park_sector_cleared blank)) image)
     → (left ≡ powered (length (park_sector_cleared (is_blank (image 0)))) allowance) × (image' ≡ applied (take allowance (park_sector_cleared (is_blank (image 0)))) image)
 first_cleared allowance image image' s blank left b e w =

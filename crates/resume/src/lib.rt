@@ -14,7 +14,6 @@ ghost use Rattle.power.specs.Power.{powered};
 
 use answer::Answer;
 use geometry::{Drive, Geometry};
-use power::allowance::Power;
 use state::{Outcome, State};
 
 // The power failed: nothing is known of the tables any more.
@@ -37,7 +36,7 @@ fn give_up(
 }
 
 // Clears sector 0, unless it is blank.
-fn clear_first(image: &mut [u8], allowance: u32) -> Power
+fn clear_first(image: &mut [u8], allowance: u32) -> Option<u32>
     requires { sector_bytes ≤ length image.old }
     ensures { (result ≡ powered (length (park_sector_cleared (is_blank (sector_at image.old 0)))) allowance) × (sector_at image.new ≡ applied (take allowance (park_sector_cleared (is_blank (sector_at image.old 0)))) (sector_at image.old)) }
 {
@@ -62,10 +61,9 @@ pub fn after_walk(
     requires { sector_bytes ≤ length image.old }
     ensures { after result (memory image.new map.new places.new numbers.new used.new) ≡ performed allowance (recovery_action g drive (record { tables = tables_of map.old places.old numbers.old used.old; tail = tail; number = number }) (Walked read) (park_sector_cleared (is_blank (sector_at image.old 0)))) (memory image.old map.old places.old numbers.old used.old) }
 {
-    let power = clear_first(image, allowance);
-    match power {
-        Power::Failed => give_up(map, places, numbers, used, g, drive, allowance),
-        Power::Left(left) => {
+    match clear_first(image, allowance) {
+        None => give_up(map, places, numbers, used, g, drive, allowance),
+        Some(left) => {
             let stores = allowance - left;
             Outcome {
                 answer: Answer::walked(read, stores),
@@ -94,10 +92,9 @@ pub fn after_scan(
     requires n_bound { g.n ≤ 8 * length above.now }
     ensures { after result (memory image.new map.new places.new numbers.new used.new) ≡ performed allowance (recovery_action g drive (record { tables = tables_of map.old places.old numbers.old used.old; tail = tail; number = number }) (Scanned g.n) (stores_below (bit_at above.now) blank_store g.n ++ park_sector_cleared (is_blank (sector_at image.old 0) || bit_at above.now 0))) (memory image.old map.old places.old numbers.old used.old) }
 {
-    let power = clear::clear_all(image, g.n, above, allowance);
-    match power {
-        Power::Failed => give_up(map, places, numbers, used, g, drive, allowance),
-        Power::Left(left) => {
+    match clear::clear_all(image, g.n, above, allowance) {
+        None => give_up(map, places, numbers, used, g, drive, allowance),
+        Some(left) => {
             let stores = allowance - left;
             Outcome {
                 answer: Answer::scanned(g.n, stores),

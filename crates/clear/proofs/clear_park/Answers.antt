@@ -5,9 +5,10 @@ use Rattle.clear.proofs.clear_park.Goals as goal
 pub returns-then-done : goal.returns-then-done
 returns-then-done c = park_done _ _ _ c.if-done.true
 
-pub returns-then-allowance-eq0 : goal.returns-then-allowance-eq0
-returns-then-allowance-eq0 c = park_fails _ _ _ c.if-done.false c.if-allowance-eq0.true
+pub returns-in_err-left : goal.returns-in_err-left
+returns-in_err-left c =
+    park_fails _ _ _ _ c.if-done.false c.in_err-left.ensures c.from_residual.ensures
 
 pub returns : goal.returns
 returns c =
-    park_clears _ _ _ _ c.if-done.false c.if-allowance-eq0.false c.blank_sector.ensures
+    park_clears _ _ _ _ _ c.if-done.false c.in_ok-left.ensures c.blank_sector.ensures
