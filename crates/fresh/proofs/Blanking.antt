@@ -16,7 +16,7 @@ use Rattle.volume.specs.Store.{applied, stores_below}
 use Rattle.volume.specs.Format.{blank_store}
 use Rattle.laws.proofs.Bounded.{lt?, eq?}
 use Rattle.laws.proofs.Filling.{zeros_get}
-use Rattle.std.specs.Prelude.{Option, Some, None}
+use Rattle.std.specs.Prelude.{Option, Some, None, SomeIff, min}
 use Rattle.power.specs.Power.{powered}
 use Rattle.power.proofs.Storing.{Storing, storing_starts, storing_stores, storing_fails, storing_ends}
 
@@ -61,13 +61,12 @@ module _ (im : List ℕ) (c : ℕ) (room : 512 * c ≤ length im) where
       ∙ fun_ext (λ k.
       ⊎_elim (λ (h : k < c). rw (lt-ltb k c h) (first k h)) (λ (h : c ≤ k). rw (le-ltb k c h) (later k h)) (lt? k c))
 
--- The same of a part that was lent: `size` elements from the front, that come back as zeros.
-pub lent_blanked : (im new : List ℕ) (c size : ℕ) → 512 * c ≤ length im → size ≡ 512 * c → new ≡ replicate (length (take size (drop 0 im))) 0
-    → sector_at (take 0 im ++ (new ++ drop size (drop 0 im))) ≡ blanked c (sector_at im)
-lent_blanked im new c size room s e =
+-- The same of a part that was lent, the front, which comes back as zeros.
+pub lent_blanked : (im new : List ℕ) (c : ℕ) → 512 * c ≤ length im → new ≡ replicate (length (take (512 * c) im)) 0
+    → sector_at (new ++ drop (512 * c) im) ≡ blanked c (sector_at im)
+lent_blanked im new c room e =
     let whole : length (take (512 * c) im) ≡ 512 * c = simp length-take (omega arith) in
-    let front : new ≡ replicate (512 * c) 0 = e ∙ ap (λ (n : ℕ). replicate (length (take n im)) 0) s ∙ ap (λ (n : ℕ). replicate n 0) whole in
-    first_blanked im c room (new ++ drop size im) (ap (λ (xs : List ℕ). xs ++ drop size im) front ∙ ap (λ (n : ℕ). replicate (512 * c) 0 ++ drop n im) s)
+    first_blanked im c room (new ++ drop (512 * c) im) (ap (λ (xs : List ℕ). xs ++ drop (512 * c) im) (e ∙ ap (λ (n : ℕ). replicate n 0) whole))
 
 -- One after the other.
 module _ (before : ℕ → List ℕ) (allowance : ℕ) where
@@ -98,13 +97,25 @@ module _ (before : ℕ → List ℕ) (allowance : ℕ) where
   Done n p image = (p ≡ powered (count_below always n) allowance) × (image ≡ applied (take allowance (stores_below always blank_store n)) before)
 
   -- `image` is what the code leaves.
-  pub blank_fails : (n : ℕ) (image : ℕ → List ℕ) → allowance < n → image ≡ blanked allowance before → Done n None image
+  blank_fails : (n : ℕ) (image : ℕ → List ℕ) → allowance < n → image ≡ blanked allowance before → Done n None image
   blank_fails n image h e =
       let spent : allowance - allowance ≡ 0 = omega arith in
       subst (λ (x : ℕ → List ℕ). Done n None x) (sym e)
       (storing_fails always blank_store before allowance allowance n (blanked allowance before) h refl
       (subst (λ (left : ℕ). Storing always blank_store before allowance allowance left (blanked allowance before)) spent (stored allowance (omega arith))))
 
-  pub blank_ends : (n : ℕ) (image : ℕ → List ℕ) → n ≤ allowance → image ≡ blanked n before → Done n (Some (allowance - n)) image
+  blank_ends : (n : ℕ) (image : ℕ → List ℕ) → n ≤ allowance → image ≡ blanked n before → Done n (Some (allowance - n)) image
   blank_ends n image h e =
       subst (λ (x : ℕ → List ℕ). Done n (Some (allowance - n)) x) (sym e) (storing_ends always blank_store before allowance n (allowance - n) (blanked n before) (stored n h))
+
+  -- As many as are needed, or as the allowance has.
+  pub blank_most : (n m : ℕ) (r : Option ℕ) (image : ℕ → List ℕ) → m ≡ min n allowance → SomeIff r (n ≤ allowance) (allowance - n) → image ≡ blanked m before
+      → Done n r image
+  blank_most n m None image e less i =
+      let short : allowance < n = omega (arith, less) in
+      let all : m ≡ allowance = omega arith in
+      blank_fails n image short (i ∙ ap (λ (c : ℕ). blanked c before) all)
+  blank_most n m (Some left) image e w i =
+      let enough : n ≤ allowance = w.0 in
+      let all : m ≡ n = omega arith in
+      subst (λ (x : ℕ). Done n (Some x) image) (sym w.1) (blank_ends n image enough (i ∙ ap (λ (c : ℕ). blanked c before) all))

@@ -1,7 +1,4 @@
 -- The loop has made the stores below p, and so many are left; it ends when all were made, or when none is left.
-use Prim.Native.Nat.{◌-◌, ◌≤◌}
-use mathlib.Core.Path.{◌≡◌}
-use lib.ListN.{length}
 use Rattle.layout.specs.Bounded.{always}
 use Rattle.volume.specs.Tables.{sector_at}
 use Rattle.volume.specs.Format.{piece_store}
@@ -9,8 +6,4 @@ use Rattle.power.proofs.Storing.{Storing}
 use Rattle.fresh.proofs.store_pieces.Given as goal
 
 abbrev pub invariant-loop-p : goal.invariant-loop-p
-invariant-loop-p l =
-    (l.p ≤ l.pieces) × (length l.image ≡ length l.initial.image) × Storing always (piece_store l.l) (sector_at l.initial.image) l.allowance l.p l.left (sector_at l.image)
-
-abbrev pub decreases-loop-p : goal.decreases-loop-p
-decreases-loop-p l = l.pieces - l.p
+invariant-loop-p l = Storing always (piece_store l.l) (sector_at l.initial.image) l.allowance l.p l.left (sector_at l.image)

@@ -8,16 +8,16 @@ use Rattle.resume.proofs.after_walk.Goals as goal
 
 pub overflow_sub-stores : goal.overflow_sub-stores
 overflow_sub-stores c =
-    let h = left_enough _ _ _ (sym c.in-Some.is ∙ c.clear_first-power.ensures.0) in
+    let h = left_enough _ _ _ (sym c.in-Some.is ∙ c.clear_first.ensures.0) in
     omega arith
 
 pub returns-in-None : goal.returns-in-None
 returns-in-None c =
-    recovery_cut_lem _ _ _ _ _ (Walked _) _ _ c.args.map.now c.args.places.now c.args.numbers.now c.args.used.now _ c.clear_first-power.auto.image c.clear_first-power.ensures.1
+    recovery_cut_lem _ _ _ _ _ (Walked _) _ _ c.args.map.now c.args.places.now c.args.numbers.now c.args.used.now _ c.clear_first.auto.image c.clear_first.ensures.1
     _ _ _ _ c.give_up.result c.give_up.auto.map c.give_up.auto.places c.give_up.auto.numbers c.give_up.auto.used
-    (sym c.in-None.is ∙ c.clear_first-power.ensures.0) c.give_up.ensures
+    (sym c.in-None.is ∙ c.clear_first.ensures.0) c.give_up.ensures
 
 pub returns-in-Some : goal.returns-in-Some
 returns-in-Some c =
-    recovery_whole _ _ _ _ _ (Walked _) _ _ _ _ _ _ _ c.clear_first-power.auto.image c.clear_first-power.ensures.1
-    c.walked.result c.running.result _ c.walked.ensures c.running.ensures (sym c.in-Some.is ∙ c.clear_first-power.ensures.0)
+    recovery_whole _ _ _ _ _ (Walked _) _ _ _ _ _ _ _ c.clear_first.auto.image c.clear_first.ensures.1
+    c.walked.result c.running.result _ c.walked.ensures c.running.ensures (sym c.in-Some.is ∙ c.clear_first.ensures.0)
