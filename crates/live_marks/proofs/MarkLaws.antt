@@ -1,6 +1,6 @@
 -- The marks that a scan leaves are those of the log that it found.
 use Prim.Native.Nat.{ℕ, ◌*◌, ◌≤◌, ◌/◌, ◌%◌, ◌^◌}
-use mathlib.Core.Path.{◌≡◌, sym, ◌∙◌, ap, subst}
+use mathlib.Core.Path.{◌≡◌, sym, ◌∙◌, ap}
 use mathlib.Core.Bool.{Bool, true, false, cond, not, ◌&&◌, true≢false}
 use mathlib.Core.List.{List}
 use mathlib.Core.Option.{Option, none}
@@ -22,10 +22,10 @@ use Rattle.live_marks.specs.Live.{marked, marks_of, sizes_fit, scan_marks, live_
 -- Whether a scan found a log, and what it left.
 pub marks_told : (g : Geometry) (im : List ℕ) (result : Result Tail Loss) (t : Tables)
     → scan_found result g.n (image_view g (sector_at im)) (sector_at im 0) t ≡ scan_finding g (image_view g (sector_at im)) (sector_at im 0)
-    → marked (is_ok result) t.is_used ≡ scan_marks g im
+    → (log : Bool) → log ≡ is_ok result → marked log t.is_used ≡ scan_marks g im
 unfolding scan_found marks_of marked scan_marks
-marks_told g im (Ok tail) t e = ap marks_of e
-marks_told g im (Err loss) t e = ap marks_of e
+marks_told g im (Ok tail) t e log f = ap (λ (b : Bool). marked b t.is_used) f ∙ ap marks_of e
+marks_told g im (Err loss) t e log f = ap (λ (b : Bool). marked b t.is_used) f ∙ ap marks_of e
 
 -- What an answer says that was turned round.
 pub turned_false : (b x : Bool) → b ≡ x → not b ≡ true → x ≡ false

@@ -29,4 +29,5 @@ scan-requires c =
     }
 
 pub returns : goal.returns
-returns c = ?
+returns c =
+    marks_told c.args.g c.args.image.now c.scan.result _ c.scan.ensures.0 c.is_ok.result c.is_ok.ensures.value
