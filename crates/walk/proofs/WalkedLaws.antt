@@ -20,9 +20,10 @@ use Rattle.layout.specs.ParkRecord.{Parked, parked_in}
 use Rattle.volume.specs.Tables.{Tables, sector_at, tables_of, named_by, used_by, bit_at, consistent}
 use Rattle.volume.specs.Commit.{branches_in}
 use Rattle.volume.specs.Recover.{number_in, image_view, tables_from, walk_from, branch_count, walked_log, walk_complete, walk_finding, walk_starts, finding_from, finding_of, scan_finding, Finding, found, park_sector_cleared, is_blank}
-use Rattle.laws.proofs.Bounded.{bool?, eq?, clash, and_l, cond_true, cond_false, all_below_at, length_list_from, list_from_same}
+use Rattle.laws.proofs.Bounded.{bool?, eq?, clash, and_l, cond_true, cond_false, all_below_at, all_below_is, length_list_from, list_from_same}
 use Rattle.laws.proofs.Sectors.{sector_length}
 use Rattle.soundness.proofs.Sounding.{blocks_most}
+use Rattle.numbers.proofs.Numbering.{all_below_not}
 use Rattle.signed.specs.Signed.{signed_at}
 use Rattle.log_tables.specs.LogTables.{tables_named, map_from}
 use Rattle.signed.proofs.Newest.{listed}
@@ -31,9 +32,15 @@ use Rattle.scan.proofs.ScanLaws.{live_tables, used_same}
 use Rattle.walk_start.specs.Starting.{start_of}
 use Rattle.walk.specs.Walking.{Left, branch_word_count}
 use Rattle.std.specs.Prelude.{Some, None}
+use Rattle.std.specs.List.{IsAnyAnswer}
 use Rattle.state.specs.declared.tail.Tail.{Tail}
 use Rattle.targets.proofs.TargetLaws.{count_is}
 use Rattle.walk_steps.proofs.WalkLaws.{number_signed, walk_signed}
+
+-- Every piece is done where no place is 0.
+pub taken_all : (xs : List ℕ) (r : Bool) → IsAnyAnswer (λ y b. eqb y 0 ≡ b) xs r → not r ≡ all_below (λ p. not (is_zero (at xs p))) (length xs)
+taken_all xs true h = all_below_not (λ p. not (is_zero (at xs p))) (length xs) h.0 h.1 (ap not (h.2 0))
+taken_all xs false h = sym (all_below_is (λ p. not (is_zero (at xs p))) (length xs) (λ k b. ap not (h k 0 (omega arith) b)))
 
 module _ (g : Geometry) (image : ℕ → List ℕ) (tail number : ℕ) (pos : 0 < g.n) (places : List ℕ)
     (are : places ≡ list_from (walk_from (pieces_for g.l) (image_view g image) tail) 0 (pieces_for g.l)) where
