@@ -17,18 +17,18 @@ use geometry::{Drive, Geometry, Settings};
 use state::tail::Tail;
 use state::{Outcome, State};
 
-// The lengths of the arrays that a scan has, by the size of the volume.
+// The lengths of the arrays that a scan has: the sectors of a small, a medium and a large volume, at most, and the bytes of their bits.
 const SMALL: usize = Geometry::SMALL as usize;
+
+const SMALL_BYTES: usize = Geometry::SMALL_USED_BYTES;
 
 const MEDIUM: usize = Geometry::MEDIUM as usize;
 
-const MEDIUM_USED_BYTES: usize = MEDIUM / 8;
+const MEDIUM_BYTES: usize = MEDIUM / 8;
 
 const LARGE: usize = Geometry::MOST_SECTORS as usize;
 
-const SMALL_USED_BYTES: usize = Geometry::SMALL_USED_BYTES;
-
-const MOST_USED_BYTES: usize = Geometry::MOST_USED_BYTES;
+const LARGE_BYTES: usize = Geometry::MOST_USED_BYTES;
 
 // By a scan whose arrays are of the volume's size: those of a large volume take long to clear.
 fn by_scan(
@@ -50,16 +50,16 @@ fn by_scan(
     ensures { after result (memory image.new map.new places.new numbers.new used.new) ≡ recovered g drive allowance (memory image.old map.old places.old numbers.old used.old) (scan_finding g (image_view g (sector_at image.old)) (sector_at image.old 0)) }
 {
     if g.n <= Geometry::SMALL {
-        return recover_by_scan::by_scan::<SMALL, SMALL_USED_BYTES>(
+        return recover_by_scan::by_scan::<SMALL, SMALL_BYTES>(
             image, map, places, numbers, used, g, drive, allowance,
         );
     }
     if g.n <= Geometry::MEDIUM {
-        return recover_by_scan::by_scan::<MEDIUM, MEDIUM_USED_BYTES>(
+        return recover_by_scan::by_scan::<MEDIUM, MEDIUM_BYTES>(
             image, map, places, numbers, used, g, drive, allowance,
         );
     }
-    recover_by_scan::by_scan::<LARGE, MOST_USED_BYTES>(
+    recover_by_scan::by_scan::<LARGE, LARGE_BYTES>(
         image, map, places, numbers, used, g, drive, allowance,
     )
 }
@@ -130,9 +130,7 @@ fn find(
     let drive = settings.drive;
     match walk_start::parked_at(image, g) {
         None => by_scan(image, map, places, numbers, used, g, drive, allowance),
-        Some(tail) => by_walk(
-            image, map, places, numbers, used, g, drive, tail, allowance,
-        ),
+        Some(tail) => by_walk(image, map, places, numbers, used, g, drive, tail, allowance),
     }
 }
 

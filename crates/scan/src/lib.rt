@@ -42,8 +42,8 @@ fn scan_live(
     requires numbers_len { length numbers.old ≡ pieces_for g.l }
     ensures { (places.new ≡ live_places (image_view g (sector_at image.now)) c g.n (pieces_for g.l)) × (numbers.new ≡ live_numbers (image_view g (sector_at image.now)) c g.n (pieces_for g.l)) × (map.new ≡ map_from (sector_at image.now) places.new g.l) }
 {
-    fill::zero_words(places);
-    fill::zero_words(numbers);
+    places.fill(0);
+    numbers.fill(0);
     live::find_live(sectors, numbered, pieces, c, places, numbers);
     fill_map::fill_map(image, places, map);
 }

@@ -65,7 +65,7 @@ pub fn walk_tables(
     requires used_len { length used.old ≡ used_bytes g.n }
     ensures { (result ≡ walk_complete g (walked_log g.l (image_view g (sector_at image.now)) (record { number = number; tail = tail }))) × (result ≡ true → Left g (sector_at image.now) tail map.new places.new numbers.new used.new) }
 {
-    fill::zero_words(places);
+    places.fill(0);
     walk_steps::walk_from(places, image, g, tail);
     if !all_taken(places) {
         return false;
