@@ -5,15 +5,16 @@ use mathlib.Core.Logic.{⊎_elim}
 use mathlib.Core.Bool.{Bool, true, false, not, ◌&&◌, true≢false}
 use mathlib.Core.List.{List}
 use native.Mathlib.Omega.{arith}
-use lib.ListN.{length}
+use lib.ListN.{length, take}
+use lib.Seq.{get_or-take, length-take-le}
 use lib.Dec.{eqb, leb}
 use Rattle.geometry.specs.declared.Geometry.{Geometry}
 use Rattle.geometry.specs.Geometry.{within, pieces_for, used_bytes}
-use Rattle.layout.specs.Bounded.{at, all, list_from}
+use Rattle.layout.specs.Bounded.{at, all}
 use Rattle.volume.specs.Tables.{bit_at, named_by, used_by, free_sectors, consistent}
 use Rattle.soundness.specs.Parts.{names_sound}
 use Rattle.log_tables.specs.LogTables.{tables_named}
-use Rattle.laws.proofs.Bounded.{lt?, length_list_from, list_from_at, past_end}
+use Rattle.laws.proofs.Bounded.{lt?, past_end}
 use Rattle.names.proofs.Marking.{not_false, zero_bit, unnamed}
 use Rattle.soundness.proofs.Sounding.{names_fail, room_decides, bits_made, sound_fails, numbers_decide}
 use Rattle.numbers.proofs.Numbering.{Agree}
@@ -40,16 +41,15 @@ module _ (g : Geometry) (entry place : ℕ → ℕ) where
 
 -- A used map that takes the marks: past its end there is no name.
 pub taken_bits : (n : ℕ) (named : List ℕ) → all (within 1 (n - 1)) named ≡ true → 1 ≤ n → (ms : List ℕ) → bit_at ms ≡ used_by named
-    → (len : ℕ) → len ≡ used_bytes n → (us : List ℕ) → us ≡ list_from (at ms) 0 len → bit_at us ≡ used_by named
+    → (len : ℕ) → len ≡ used_bytes n → len ≤ length ms → (us : List ℕ) → us ≡ take len ms → bit_at us ≡ used_by named
 unfolding bit_at
-taken_bits n named inside some ms made len long us z =
+taken_bits n named inside some ms made len long most us z =
     fun_ext (λ k.
     ⊎_elim (λ (b : k / 8 < len).
-    let here : at us (k / 8) ≡ at ms (k / 8) =
-    ap (λ (xs : List ℕ). at xs (k / 8)) z ∙ list_from_at (at ms) 0 len (k / 8) 0 b ∙ ap (at ms) (let q : 0 + k / 8 ≡ k / 8 = omega arith in q) in
+    let here : at us (k / 8) ≡ at ms (k / 8) = ap (λ (xs : List ℕ). at xs (k / 8)) z ∙ get_or-take len ms (k / 8) 0 b in
     ap (λ (x : ℕ). eqb (x / 2 ^ (k % 8) % 2) 1) here ∙ ap (λ (f : ℕ → Bool). f k) made)
     (λ (b : len ≤ k / 8).
-    let size : length us ≡ len = ap length z ∙ length_list_from (at ms) 0 len in
+    let size : length us ≡ len = ap length z ∙ length-take-le len ms most in
     let none : at us (k / 8) ≡ 0 = sym (past_end us (k / 8) (omega arith)) in
     ap (λ (x : ℕ). eqb (x / 2 ^ (k % 8) % 2) 1) none ∙ zero_bit (k % 8) (omega arith)
     ∙ sym (unnamed n named inside k some (omega arith)))

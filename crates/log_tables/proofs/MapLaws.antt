@@ -1,7 +1,6 @@
 -- The map, filled in piece by piece.
-use Prim.Native.Nat.{ℕ, ◌+◌, ◌*◌, ◌-◌, ◌/◌, ◌%◌, ◌≤◌, ◌<◌}
+use Prim.Native.Nat.{ℕ, ◌+◌, ◌*◌, ◌-◌, ◌/◌, ◌%◌, ◌≤◌, ◌<◌, min}
 use mathlib.Core.Path.{◌≡◌, sym, ◌∙◌, ap, ap₂, subst}
-use mathlib.Core.Logic.{◌⊎◌, ⊎_elim}
 use mathlib.Core.List.{List}
 use native.Mathlib.Omega.{arith}
 use lib.ListN.{length, set}
@@ -36,31 +35,22 @@ module _ (image places : List ℕ) where
       let r : (first + i) % 96 ≡ i = omega arith in
       ap₂ (λ (x y : ℕ). at (entry_words (words_of (sector_at image (at places x)))) y) q r
 
--- Where entries are left, the next piece has a place, and its entries are the next.
-pub place_there : (first p len len₀ pieces : ℕ) → len ≡ len₀ → first < len → (first < len₀ → first ≡ 96 * p) → len₀ ≤ 96 * pieces → (first ≡ 96 * p) × (p < pieces)
-place_there first p len len₀ pieces e h at_piece most = let z = at_piece (omega arith) in (z, omega arith)
-
+-- Where entries are left, the next piece begins there.
 pub next_piece : (first p count len len₀ : ℕ) → len ≡ len₀ → first ≡ 96 * p → (first + count < len → count ≡ 96) → first + count < len₀ → first + count ≡ 96 * (p + 1)
 next_piece first p count len len₀ e h whole b = let z = whole (omega arith) in omega arith
 
 -- What one piece adds: 96 entries, or all that are left.
-pub piece_filled : (first count left len : ℕ) (map map' s bytes : List ℕ) → left ≡ len - first → first < len
-    → (count ≤ 96) × (count ≤ left) × ((count ≡ left) ⊎ (count ≡ 96)) → s ≡ bytes
+pub piece_filled : (first count left len : ℕ) (map map' s bytes : List ℕ) → left ≡ len - first → first < len → count ≡ min 96 left → s ≡ bytes
     → ((f : ℕ → ℕ) (old : List ℕ) → Filled f old first map → ((i : ℕ) → i < count → f (first + i) ≡ at (entry_words (words_of s)) i) → Filled f old (first + count) map')
     → (1 ≤ count)
     × (count ≤ 96)
     × (first + count ≤ len)
     × (first + count < len → count ≡ 96)
     × ((f : ℕ → ℕ) (old : List ℕ) → Filled f old first map → ((i : ℕ) → i < 96 → f (first + i) ≡ at (entry_words (words_of bytes)) i) → Filled f old (first + count) map')
-piece_filled first count left len map map' s bytes l h n e fill =
-    let most = n.0 in
-    let room = n.1 in (
-      ⊎_elim (λ (z : count ≡ left). omega arith) (λ (z : count ≡ 96). omega arith) n.2,
-      most,
-      omega arith,
-      λ b. ⊎_elim (λ (z : count ≡ left). absurd (omega arith)) (λ (z : count ≡ 96). z) n.2,
-      λ f old start entries. fill f old start (λ i k. entries i (omega arith) ∙ ap (λ (x : List ℕ). at (entry_words (words_of x)) i) (sym e)),
-    )
-
-pub below_same : (a n m : ℕ) → m ≡ n → a < n → a < m
-below_same a n m e h = omega arith
+piece_filled first count left len map map' s bytes l h n e fill = (
+  omega arith,
+  omega arith,
+  omega arith,
+  λ b. omega arith,
+  λ f old start entries. fill f old start (λ i k. entries i (omega arith) ∙ ap (λ (x : List ℕ). at (entry_words (words_of x)) i) (sym e)),
+)

@@ -1,55 +1,15 @@
 // Whether tables that were found are sound.
-ghost use Rattle.std.specs.Prelude.{◌≡◌, true, ◌-◌, ◌≤◌, length};
+ghost use Rattle.std.specs.Prelude.{◌≡◌, true, ◌-◌, length};
 ghost use Rattle.geometry.specs.Geometry.{within, pieces_for, used_bytes, geometry_fits};
-ghost use Rattle.geometry.specs.SizeClasses.{small_sectors};
-ghost use Rattle.layout.specs.Bounded.{at, all, list_from};
+ghost use Rattle.layout.specs.Bounded.{at, all};
 ghost use Rattle.volume.specs.Tables.{bit_at, named_by, used_by, consistent};
 ghost use Rattle.soundness.specs.Parts.{names_sound};
 ghost use Rattle.log_tables.specs.LogTables.{tables_named};
 
 use geometry::Geometry;
 
-// Fills the used map from the marks.
-fn take_marks(used: &mut [u8], marks: &[u8])
-    requires { length used.old ≤ length marks.now }
-    ensures { used.new ≡ list_from (at marks.now) 0 (length used.old) }
-{
-    let mut i = 0;
-    while i < used.len() {
-        used[i] = marks[i];
-        i += 1;
-    }
-}
-
-// Makes the used map of the names, which lie inside, of a small volume.
-fn make_few_used(g: Geometry, map: &[u32], places: &[u32], used: &mut [u8])
-    requires n_le_small_sectors { g.n ≤ small_sectors }
-    requires g_value { geometry_fits g ≡ true }
-    requires map_len { length map.now ≡ g.l }
-    requires places_len { length places.now ≡ pieces_for g.l }
-    requires used_len { length used.old ≡ used_bytes g.n }
-    requires places_value { all (within 1 (g.n - 1)) (named_by g.l (at map.now) (at places.now)) ≡ true }
-    ensures { bit_at used.new ≡ used_by (named_by g.l (at map.now) (at places.now)) }
-{
-    let mut marks = [0u8; Geometry::SMALL_USED_BYTES];
-    names::mark_few(&mut marks, map, places);
-    take_marks(used, &marks);
-}
-
-// The same of a volume of any size, in place, with about so many entries that are not empty.
-fn make_all_used(g: Geometry, map: &[u32], places: &[u32], count: u32, used: &mut [u8])
-    requires g_value { geometry_fits g ≡ true }
-    requires map_len { length map.now ≡ g.l }
-    requires places_len { length places.now ≡ pieces_for g.l }
-    requires used_len { length used.old ≡ used_bytes g.n }
-    requires places_value { all (within 1 (g.n - 1)) (named_by g.l (at map.now) (at places.now)) ≡ true }
-    ensures { bit_at used.new ≡ used_by (named_by g.l (at map.now) (at places.now)) }
-{
-    fill::zero_bytes(used);
-    names::mark_all(used, map, places, count);
-}
-
-// The same, by the size of the volume.
+// Makes the used map of the names, which lie inside; about so many entries are not empty. The marks of a small volume are made in an
+// array of their own.
 fn make_used(g: Geometry, map: &[u32], places: &[u32], count: u32, used: &mut [u8])
     requires g_value { geometry_fits g ≡ true }
     requires map_len { length map.now ≡ g.l }
@@ -59,10 +19,13 @@ fn make_used(g: Geometry, map: &[u32], places: &[u32], count: u32, used: &mut [u
     ensures { bit_at used.new ≡ used_by (named_by g.l (at map.now) (at places.now)) }
 {
     if g.n <= Geometry::SMALL {
-        make_few_used(g, map, places, used);
+        let mut marks = [0u8; Geometry::SMALL_USED_BYTES];
+        names::mark_few(&mut marks, map, places);
+        used.copy_from_slice(&marks[..used.len()]);
         return;
     }
-    make_all_used(g, map, places, count, used);
+    used.fill(0);
+    names::mark_all(used, map, places, count);
 }
 
 // Makes the used map of the names, and says whether they lie inside, none stands twice and P sectors are free.

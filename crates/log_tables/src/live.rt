@@ -62,9 +62,7 @@ pub fn find_live(
     requires by_index { (i : ℕ) → i < length pieces.now → at pieces.now i < length places.old }
     ensures { ◌≡◌ {A = List ℕ × List ℕ} (places.new, numbers.new) (stepped (raised c) sectors.now numbered.now pieces.now (places.old, numbers.old)) }
 {
-    let mut i = sectors.len();
-    while 0 < i {
-        i -= 1;
+    for i in (0..sectors.len()).rev() {
         raise_listed(sectors, numbered, pieces, c, i, places, numbers);
     }
 }

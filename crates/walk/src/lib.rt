@@ -18,14 +18,7 @@ use log_tables::{agrees, fill_map};
 fn all_taken(taken: &[u32]) -> bool
     ensures { result ≡ all_below (λ p. not (is_zero (at taken.now p))) (length taken.now) }
 {
-    let mut i = 0;
-    while i < taken.len() {
-        if taken[i] == 0 {
-            return false;
-        }
-        i += 1;
-    }
-    true
+    !taken.contains(&0)
 }
 
 // The numbers of the sectors at these places.
@@ -34,11 +27,9 @@ fn read_numbers(numbers: &mut [u32], image: &[u8], places: &[u32])
     requires by_index { (p : ℕ) → p < length places.now → sector_bytes * at places.now p + sector_bytes ≤ length image.now }
     ensures { numbers.new ≡ list_from (λ p. at (words_of (sector_at image.now (at places.now p))) 2) 0 (length numbers.old) }
 {
-    let mut i = 0;
-    while i < numbers.len() {
+    for (i, number) in numbers.iter_mut().enumerate() {
         let s = images::sector(image, places[i] as usize);
-        numbers[i] = map_sector::number_of(s);
-        i += 1;
+        *number = map_sector::number_of(s);
     }
 }
 
@@ -74,7 +65,7 @@ pub fn walk_tables(
     requires used_len { length used.old ≡ used_bytes g.n }
     ensures { (result ≡ walk_complete g (walked_log g.l (image_view g (sector_at image.now)) (record { number = number; tail = tail }))) × (result ≡ true → Left g (sector_at image.now) tail map.new places.new numbers.new used.new) }
 {
-    fill::zero_words(places);
+    places.fill(0);
     walk_steps::walk_from(places, image, g, tail);
     if !all_taken(places) {
         return false;
@@ -91,11 +82,9 @@ pub fn count_branches(image: &[u8], places: &[u32]) -> u32
     ensures { (result ≡ branch_word_count (sector_at image.now) (at places.now) (length places.now)) × (result ≤ 6144) }
 {
     let mut count: u32 = 0;
-    let mut i = 0;
-    while i < places.len() {
-        let s = images::sector(image, places[i] as usize);
+    for place in places {
+        let s = images::sector(image, *place as usize);
         count += map_sector::branch_count(s);
-        i += 1;
     }
     count
 }

@@ -33,19 +33,11 @@ number_of-requires c =
     let e = filled_length (λ q. at (words_of (sector_at c.args.image.now (at c.args.places.now q))) 2) c.args.numbers.now c.loop-i.i c.loop-i.numbers c.loop-i.invariant in
     ap length c.sector-s.ensures ∙ sector_length c.args.image.now (at c.args.places.now c.loop-i.i) (c.requires.by_index c.loop-i.i (omega arith))
 
-pub loop-i-smaller : goal.loop-i-smaller
-loop-i-smaller c =
-    let e = filled_length (λ q. at (words_of (sector_at c.args.image.now (at c.args.places.now q))) 2) c.args.numbers.now c.loop-i.i c.loop-i.numbers c.loop-i.invariant in
-    omega arith
-
 pub loop-i-preserved : goal.loop-i-preserved
 loop-i-preserved c =
     let e = filled_length (λ q. at (words_of (sector_at c.args.image.now (at c.args.places.now q))) 2) c.args.numbers.now c.loop-i.i c.loop-i.numbers c.loop-i.invariant in
     subst (λ (x : ℕ). Filled (λ q. at (words_of (sector_at c.args.image.now (at c.args.places.now q))) 2) c.args.numbers.now (c.loop-i.i + 1) (set c.loop-i.numbers c.loop-i.i x))
     (sym (c.number_of.ensures ∙ ap (λ (x : List ℕ). at (words_of x) 2) c.sector-s.ensures)) (filled_more (λ q. at (words_of (sector_at c.args.image.now (at c.args.places.now q))) 2) c.args.numbers.now c.loop-i.i c.loop-i.numbers (omega arith) c.loop-i.invariant)
-
-pub shape_of-numbers : goal.shape_of-numbers
-shape_of-numbers c = filled_length (λ q. at (words_of (sector_at c.args.image.now (at c.args.places.now q))) 2) c.args.numbers.now c.loop-i.i c.loop-i.numbers c.loop-i.invariant
 
 pub returns : goal.returns
 returns c =

@@ -1,6 +1,4 @@
 -- The numbers below i are filled in.
-use Prim.Native.Nat.{◌-◌}
-use lib.ListN.{length}
 use Rattle.layout.specs.Bounded.{at}
 use Rattle.volume.specs.Tables.{sector_at}
 use Rattle.layout.specs.Word.{words_of}
@@ -9,6 +7,3 @@ use Rattle.walk.proofs.read_numbers.Given as goal
 
 abbrev pub invariant-loop-i : goal.invariant-loop-i
 invariant-loop-i l = Filled (λ q. at (words_of (sector_at l.image (at l.places q))) 2) l.initial.numbers l.i l.numbers
-
-abbrev pub decreases-loop-i : goal.decreases-loop-i
-decreases-loop-i l = length l.initial.numbers - l.i

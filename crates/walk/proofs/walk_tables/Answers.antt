@@ -15,7 +15,7 @@ walk_from-requires c = record {
   image_len = c.requires.image_len;
   le_tail = c.requires.le_tail;
   tail_value = c.requires.tail_value;
-  taken_value = c.zero_words.ensures ∙ ap (λ (x : ℕ). replicate x 0) c.requires.places_len;
+  taken_value = c.fill.ensures.after (λ y e. e) ∙ ap (λ (x : ℕ). replicate x 0) c.requires.places_len;
 }
 
 pub returns-then-not-all_taken : goal.returns-then-not-all_taken

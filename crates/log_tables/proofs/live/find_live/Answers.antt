@@ -1,14 +1,12 @@
 -- Those from index i on are put in.
 use Prim.Native.Nat.{◌-◌}
-use mathlib.Core.Path.{refl, ◌∙◌}
 use native.Mathlib.Omega.{arith}
 use Rattle.log_tables.specs.LogTables.{raised}
 use Rattle.signed.proofs.Listing.{stepped_none, stepped_more, stepped_whole}
 use Rattle.log_tables.proofs.live.find_live.Goals as goal
 
 pub loop-i-init : goal.loop-i-init
-loop-i-init c =
-    (omega arith, refl, refl, stepped_none (raised c.args.c) c.args.sectors.now c.args.numbered.now c.args.pieces.now (c.args.places.now, c.args.numbers.now))
+loop-i-init c = stepped_none (raised c.args.c) c.args.sectors.now c.args.numbered.now c.args.pieces.now (c.args.places.now, c.args.numbers.now)
 
 pub raise_listed-requires : goal.raise_listed-requires
 raise_listed-requires c =
@@ -21,22 +19,10 @@ raise_listed-requires c =
     }
 
 pub loop-i-preserved : goal.loop-i-preserved
-loop-i-preserved c = (
-  omega arith,
-  c.raise_listed.auto.places ∙ c.loop-i.invariant.1,
-  c.raise_listed.auto.numbers ∙ c.loop-i.invariant.2,
-  stepped_more (raised c.args.c) c.args.sectors.now c.args.numbered.now c.args.pieces.now c.loop-i.i (c.args.places.now, c.args.numbers.now) (c.loop-i.places, c.loop-i.numbers) _
-      c.loop-i-test.true c.loop-i.invariant.0 c.requires.numbered_len c.requires.pieces_len c.loop-i.invariant.3 c.raise_listed.ensures,
-)
-
-pub shape_of-places : goal.shape_of-places
-shape_of-places c =
-    c.loop-i.invariant.1
-
-pub shape_of-numbers : goal.shape_of-numbers
-shape_of-numbers c =
-    c.loop-i.invariant.2
+loop-i-preserved c =
+    stepped_more (raised c.args.c) c.args.sectors.now c.args.numbered.now c.args.pieces.now c.loop-i.i (c.args.places.now, c.args.numbers.now) (c.loop-i.places, c.loop-i.numbers) _
+    c.loop-i-test.true (omega arith) c.requires.numbered_len c.requires.pieces_len c.loop-i.invariant c.raise_listed.ensures
 
 pub returns : goal.returns
 returns c =
-    stepped_whole (raised c.args.c) c.args.sectors.now c.args.numbered.now c.args.pieces.now c.loop-i.i (c.args.places.now, c.args.numbers.now) (c.loop-i.places, c.loop-i.numbers) (omega arith) c.loop-i.invariant.3
+    stepped_whole (raised c.args.c) c.args.sectors.now c.args.numbered.now c.args.pieces.now c.loop-i.i (c.args.places.now, c.args.numbers.now) (c.loop-i.places, c.loop-i.numbers) (omega arith) c.loop-i.invariant
