@@ -13,30 +13,19 @@ use Rattle.geometry.specs.Geometry.{sector_bytes, used_bytes, geometry_fits}
 use Rattle.answer.specs.declared.Loss.{Loss}
 use Rattle.volume.specs.Tables.{Tables, sector_at, bit_at}
 use Rattle.volume.specs.Recover.{scan_finding, image_view}
-use Rattle.scan.specs.declared.Found.{Found}
-use Rattle.scan.specs.declared.Found.TheVariants as scan
+use Rattle.std.specs.Prelude.{Result, Ok, Err, is_ok}
+use Rattle.state.specs.declared.tail.Tail.{Tail}
 use Rattle.scan.specs.Scanned.{scan_found}
 use Rattle.laws.proofs.Bounded.{and_l, and_r, past_end}
 use Rattle.live_marks.specs.Live.{marked, marks_of, sizes_fit, scan_marks, live_marks}
 
-module _ (g : Geometry) (im : List ℕ) (result : Found) (t : Tables)
-    (finding : scan_found result g.n (image_view g (sector_at im)) (sector_at im 0) t ≡ scan_finding g (image_view g (sector_at im)) (sector_at im 0)) where
-  told : (other : Found) → result ≡ other
-      → marks_of (scan_found other g.n (image_view g (sector_at im)) (sector_at im 0) t) ≡ scan_marks g im
-  unfolding scan_marks
-  told other e =
-      ap marks_of
-      (subst
-      (λ (x : Found). scan_found x g.n (image_view g (sector_at im)) (sector_at im 0) t ≡ scan_finding g (image_view g (sector_at im)) (sector_at im 0))
-      e finding)
-
-  pub marks_found : (tail number : ℕ) → result ≡ scan.Log tail number → marked true t.is_used ≡ scan_marks g im
-  unfolding scan_found marks_of marked
-  marks_found tail number e = told (scan.Log tail number) e
-
-  pub marks_missing : (bits : ℕ → Bool) (loss : Loss) → result ≡ scan.Missing loss → marked false bits ≡ scan_marks g im
-  unfolding scan_found marks_of marked
-  marks_missing bits loss e = told (scan.Missing loss) e
+-- Whether a scan found a log, and what it left.
+pub marks_told : (g : Geometry) (im : List ℕ) (result : Result Tail Loss) (t : Tables)
+    → scan_found result g.n (image_view g (sector_at im)) (sector_at im 0) t ≡ scan_finding g (image_view g (sector_at im)) (sector_at im 0)
+    → marked (is_ok result) t.is_used ≡ scan_marks g im
+unfolding scan_found marks_of marked scan_marks
+marks_told g im (Ok tail) t e = ap marks_of e
+marks_told g im (Err loss) t e = ap marks_of e
 
 -- What an answer says that was turned round.
 pub turned_false : (b x : Bool) → b ≡ x → not b ≡ true → x ≡ false

@@ -7,7 +7,6 @@ ghost use Rattle.volume.specs.Tables.{bit_at};
 ghost use Rattle.live_marks.specs.Live.{marked, sizes_fit, scan_marks, live_marks};
 
 use geometry::Geometry;
-use scan::Found;
 
 // Whether so many bytes are an image of such a volume, and so many more its used map.
 fn sizes_fit(g: Geometry, bytes: usize, marks: usize) -> bool
@@ -42,7 +41,7 @@ fn mark_in(
     let l = g.l as usize;
     let p = Geometry::pieces_for(g.l) as usize;
     let mut above = [0u8; Geometry::MOST_USED_BYTES];
-    let found = scan::scan(
+    scan::scan(
         image,
         g,
         &mut map[..l],
@@ -50,11 +49,8 @@ fn mark_in(
         &mut numbers[..p],
         used,
         &mut above,
-    );
-    match found {
-        Found::Missing(_) => false,
-        Found::Log { tail: _, number: _ } => true,
-    }
+    )
+    .is_ok()
 }
 
 // The same, with tables that are not kept.

@@ -21,7 +21,7 @@ use Rattle.volume.specs.Format.{size_checks}
 use Rattle.volume.specs.Recover.{Finding, found, park_sector_cleared, is_blank, scan_finding, finding_of, recovery_action, recovered, image_view, recover_of}
 use Rattle.layout.specs.ParkRecord.{parked_in}
 use Rattle.checks.proofs.SizeLaws.{Lengths, volume_passed, volume_range}
-use Rattle.walk_start.specs.declared.Start.TheVariants.{Nowhere}
+use Rattle.std.specs.Prelude.{None}
 use Rattle.walk_start.specs.Starting.{start_of}
 use Rattle.walk.proofs.WalkedLaws.{found_nowhere}
 use Rattle.resume.proofs.ResumeLaws.{performed_any, recovered_any}
@@ -58,7 +58,7 @@ module _ (im mp pl nu us : List ℕ) (settings : Settings) (g : Geometry) (asked
   pub asked_for : (allowance : ℕ) (r : After) → r ≡ found_in g allowance → r ≡ found_in (geometry_of (length im / 512) settings) allowance
   asked_for allowance r e = e ∙ ap (λ (x : Geometry). found_in x allowance) asked
 
-  pub asked_scan : (allowance : ℕ) (r : After) → Nowhere ≡ start_of g.n (image_view g (sector_at im)) (parked_in (sector_at im 0))
+  pub asked_scan : (allowance : ℕ) (r : After) → None ≡ start_of g.n (image_view g (sector_at im)) (parked_in (sector_at im 0))
       → r ≡ recovered g settings.drive allowance (memory im mp pl nu us) (scan_finding g (image_view g (sector_at im)) (sector_at im 0))
       → r ≡ found_in (geometry_of (length im / 512) settings) allowance
   asked_scan allowance r s e = asked_for allowance r (e ∙ ap (recovered g settings.drive allowance (memory im mp pl nu us)) (sym (found_nowhere g (sector_at im) s)))

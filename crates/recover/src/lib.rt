@@ -1,7 +1,7 @@
 // The recover call: the log is found again by a walk from the tail that was parked, or by a scan of all sectors.
 #![tactic(auto)]
 
-ghost use Rattle.std.specs.Prelude.{◌≡◌, true, ◌*◌, ◌/◌, length};
+ghost use Rattle.std.specs.Prelude.{◌≡◌, true, ◌*◌, ◌/◌, Some, length};
 ghost use Rattle.geometry.specs.Geometry.{sector_bytes, pieces_for, used_bytes, geometry_of, geometry_fits};
 ghost use Rattle.answer.specs.declared.Verdict.TheVariants.{Pass};
 ghost use Rattle.layout.specs.ParkRecord.{parked_in};
@@ -9,14 +9,60 @@ ghost use Rattle.volume.specs.Tables.{sector_at, memory};
 ghost use Rattle.volume.specs.Refusals.{judged};
 ghost use Rattle.volume.specs.Store.{after};
 ghost use Rattle.volume.specs.Format.{size_checks};
-ghost use Rattle.volume.specs.Recover.{finding_of, recovered, image_view, recover_of};
-ghost use Rattle.walk_start.specs.declared.Start.TheVariants.{Tail};
+ghost use Rattle.volume.specs.Recover.{finding_of, scan_finding, recovered, image_view, recover_of};
 ghost use Rattle.walk_start.specs.Starting.{start_of};
 
 use answer::{Answer, Verdict};
 use geometry::{Drive, Geometry, Settings};
+use state::tail::Tail;
 use state::{Outcome, State};
-use walk_start::Start;
+
+// The lengths of the arrays that a scan has, by the size of the volume.
+const SMALL: usize = Geometry::SMALL as usize;
+
+const MEDIUM: usize = Geometry::MEDIUM as usize;
+
+const MEDIUM_USED_BYTES: usize = MEDIUM / 8;
+
+const LARGE: usize = Geometry::MOST_SECTORS as usize;
+
+const SMALL_USED_BYTES: usize = Geometry::SMALL_USED_BYTES;
+
+const MOST_USED_BYTES: usize = Geometry::MOST_USED_BYTES;
+
+// By a scan whose arrays are of the volume's size: those of a large volume take long to clear.
+fn by_scan(
+    image: &mut [u8],
+    map: &mut [u32],
+    places: &mut [u32],
+    numbers: &mut [u32],
+    used: &mut [u8],
+    g: Geometry,
+    drive: Drive,
+    allowance: u32,
+) -> Outcome
+    requires g_value { geometry_fits g ≡ true }
+    requires image_len { length image.old ≡ sector_bytes * g.n }
+    requires map_len { length map.old ≡ g.l }
+    requires places_len { length places.old ≡ pieces_for g.l }
+    requires numbers_len { length numbers.old ≡ pieces_for g.l }
+    requires used_len { length used.old ≡ used_bytes g.n }
+    ensures { after result (memory image.new map.new places.new numbers.new used.new) ≡ recovered g drive allowance (memory image.old map.old places.old numbers.old used.old) (scan_finding g (image_view g (sector_at image.old)) (sector_at image.old 0)) }
+{
+    if g.n <= Geometry::SMALL {
+        return recover_by_scan::by_scan::<SMALL, SMALL_USED_BYTES>(
+            image, map, places, numbers, used, g, drive, allowance,
+        );
+    }
+    if g.n <= Geometry::MEDIUM {
+        return recover_by_scan::by_scan::<MEDIUM, MEDIUM_USED_BYTES>(
+            image, map, places, numbers, used, g, drive, allowance,
+        );
+    }
+    recover_by_scan::by_scan::<LARGE, MOST_USED_BYTES>(
+        image, map, places, numbers, used, g, drive, allowance,
+    )
+}
 
 // By a walk from the tail that was parked, or by a scan where the walk does not answer.
 fn by_walk(
@@ -27,34 +73,47 @@ fn by_walk(
     used: &mut [u8],
     g: Geometry,
     drive: Drive,
-    tail: u32,
-    number: u32,
+    tail: Tail,
     allowance: u32,
 ) -> Outcome
     requires g_value { geometry_fits g ≡ true }
     requires image_len { length image.old ≡ sector_bytes * g.n }
-    requires number_value { Tail tail number ≡ start_of g.n (image_view g (sector_at image.old)) (parked_in (sector_at image.old 0)) }
+    requires number_value { Some tail ≡ start_of g.n (image_view g (sector_at image.old)) (parked_in (sector_at image.old 0)) }
     requires map_len { length map.old ≡ g.l }
     requires places_len { length places.old ≡ pieces_for g.l }
     requires numbers_len { length numbers.old ≡ pieces_for g.l }
     requires used_len { length used.old ≡ used_bytes g.n }
     ensures { after result (memory image.new map.new places.new numbers.new used.new) ≡ recovered g drive allowance (memory image.old map.old places.old numbers.old used.old) (finding_of g (image_view g (sector_at image.old)) (sector_at image.old 0)) }
 {
-    if !walk::walk_tables(image, g, tail, number, map, places, numbers, used) {
-        if g.n <= Geometry::SMALL {
-            return recover_by_scan::by_small_scan(
-                image, map, places, numbers, used, g, drive, allowance,
-            );
-        }
-        return recover_by_scan::by_scan(image, map, places, numbers, used, g, drive, allowance);
+    if !walk::walk_tables(
+        image,
+        g,
+        tail.sector,
+        tail.number,
+        map,
+        places,
+        numbers,
+        used,
+    ) {
+        return by_scan(image, map, places, numbers, used, g, drive, allowance);
     }
     let read = 2 + walk::count_branches(image, places);
     resume::after_walk(
-        image, map, places, numbers, used, g, drive, tail, number, read, allowance,
+        image,
+        map,
+        places,
+        numbers,
+        used,
+        g,
+        drive,
+        tail.sector,
+        tail.number,
+        read,
+        allowance,
     )
 }
 
-// A recovery that no refusal stops. The scans have large arrays: called from two places each, they keep frames of their own.
+// A recovery that no refusal stops.
 fn find(
     image: &mut [u8],
     map: &mut [u32],
@@ -70,16 +129,9 @@ fn find(
     let g = settings.volume((image.len() / Geometry::SECTOR) as u32);
     let drive = settings.drive;
     match walk_start::parked_at(image, g) {
-        Start::Nowhere => {
-            if g.n <= Geometry::SMALL {
-                return recover_by_scan::by_small_scan(
-                    image, map, places, numbers, used, g, drive, allowance,
-                );
-            }
-            recover_by_scan::by_scan(image, map, places, numbers, used, g, drive, allowance)
-        }
-        Start::Tail { tail, number } => by_walk(
-            image, map, places, numbers, used, g, drive, tail, number, allowance,
+        None => by_scan(image, map, places, numbers, used, g, drive, allowance),
+        Some(tail) => by_walk(
+            image, map, places, numbers, used, g, drive, tail, allowance,
         ),
     }
 }

@@ -23,8 +23,9 @@ use Rattle.laws.proofs.Names.{sound}
 use Rattle.signed.specs.Signed.{below, signed_sectors, signed_pieces, Listed}
 use Rattle.log_tables.specs.LogTables.{tables_named, live_places, live_numbers, map_from}
 use Rattle.scan.specs.Scanned.{scan_found, ScanAbove}
-use Rattle.scan.specs.declared.Found.{Found}
-use Rattle.scan.specs.declared.Found.TheVariants.{Log, Missing}
+use Rattle.std.specs.Prelude.{Result, Ok, Err}
+use Rattle.answer.specs.declared.Loss.{Loss}
+use Rattle.state.specs.declared.tail.Tail.{Tail}
 use Rattle.signed.proofs.Newest.{listed}
 use Rattle.signed.proofs.ViewLaws.{above_view, piece_inside, piece_signed, piece_number_lem}
 
@@ -229,10 +230,10 @@ module _ (g : Geometry) (image : ℕ → List ℕ) (tail c : ℕ) (newest : tail
   unfolding scan_finding
   finding_is = ap Judged (sym number)
 
-  abbrev pub Answered : Found → Tables → (ℕ → Bool) → Type 0
+  abbrev pub Answered : Result Tail Loss → Tables → (ℕ → Bool) → Type 0
   Answered r t above = (scan_found r g.n seen (image 0) t ≡ scan_finding g seen (image 0)) × ScanAbove r seen above
 
-  pub scan_none : c ≡ 0 → (t : Tables) (above : ℕ → Bool) → Answered (Missing NoLog) t above
+  pub scan_none : c ≡ 0 → (t : Tables) (above : ℕ → Bool) → Answered (Err NoLog) t above
   unfolding scan_found ScanAbove
   scan_none z t above = (
     sym (finding_is ∙ cond_true (is_zero c) (missing NoLog) (cond (scan_damaged g seen c (scanned_log g seen c)) (missing DamagedLog) (Whole c)) (eq-eqb c 0 z)),
@@ -245,7 +246,7 @@ module _ (g : Geometry) (image : ℕ → List ℕ) (tail c : ℕ) (newest : tail
     judged_is =
         finding_is ∙ cond_false (is_zero c) (missing NoLog) (cond (scan_damaged g seen c (scanned_log g seen c)) (missing DamagedLog) (Whole c)) (ne_eqb c 0 d)
 
-    pub scan_damaged_lem : not r ≡ true → (above : ℕ → Bool) → Answered (Missing DamagedLog) t above
+    pub scan_damaged_lem : not r ≡ true → (above : ℕ → Bool) → Answered (Err DamagedLog) t above
     unfolding scan_found ScanAbove
     scan_damaged_lem f above = (
       sym (judged_is ∙ cond_true (scan_damaged g seen c (scanned_log g seen c)) (missing DamagedLog) (Whole c)
@@ -253,7 +254,7 @@ module _ (g : Geometry) (image : ℕ → List ℕ) (tail c : ℕ) (newest : tail
       refl,
     )
 
-    pub scan_finds : not r ≡ false → (above : ℕ → Bool) → above ≡ below (is_uncommitted seen c) g.n → Answered (Log tail c) t above
+    pub scan_finds : not r ≡ false → (above : ℕ → Bool) → above ≡ below (is_uncommitted seen c) g.n → Answered (Ok (record { sector = tail; number = c })) t above
     unfolding scan_found ScanAbove scanned_log
     scan_finds f above u = (
       ap (λ (x : Tables). found (record { tables = x; tail = tail; number = c }) (Scanned g.n) (scan_stores g.n seen (image 0) c)) (e.1 (not-false r f))

@@ -3,7 +3,6 @@
 
 ghost use Rattle.std.specs.Prelude.{◌≡◌, true, not, ◌*◌, ◌≤◌, length, replicate};
 ghost use Rattle.geometry.specs.Geometry.{sector_bytes, pieces_for, used_bytes, geometry_fits, most_sectors};
-ghost use Rattle.geometry.specs.SizeClasses.{small_sectors, medium_sectors};
 ghost use Rattle.volume.specs.Tables.{sector_at, bit_at, tables_of};
 ghost use Rattle.volume.specs.Recover.{newest_closing, closed_up_to, scanned_log, scan_damaged, scan_finding, image_view};
 ghost use Rattle.signed.specs.Signed.{Listed};
@@ -14,13 +13,12 @@ use answer::Loss;
 use geometry::Geometry;
 use log_tables::{agrees, fill_map, live};
 use signed::Signed;
+use state::tail::Tail;
 
-#[derive(Clone, Copy)]
-pub enum Found {
-    // The tail, and its number.
-    Log { tail: u32, number: u32 },
-    Missing(Loss),
-}
+// The sectors of a medium volume, and of the largest one, as lengths.
+const MEDIUM: usize = Geometry::MEDIUM as usize;
+
+const LARGE: usize = Geometry::MOST_SECTORS as usize;
 
 // The live sectors of the pieces up to number c, and the map that they hold.
 fn scan_live(
@@ -107,7 +105,7 @@ fn scan_listed(
     numbers: &mut [u32],
     used: &mut [u8],
     above: &mut [u8],
-) -> Found
+) -> Result<Tail, Loss>
     requires g_value { geometry_fits g ≡ true }
     requires image_len { length image.now ≡ sector_bytes * g.n }
     requires tail_value { read.tail ≡ newest_closing g.n (image_view g (sector_at image.now)) }
@@ -125,18 +123,18 @@ fn scan_listed(
     ensures { (scan_found result g.n (image_view g (sector_at image.now)) (sector_at image.now 0) (tables_of map.new places.new numbers.new used.new) ≡ scan_finding g (image_view g (sector_at image.now)) (sector_at image.now 0)) × ScanAbove result (image_view g (sector_at image.now)) (bit_at above.new) }
 {
     if read.number == 0 {
-        return Found::Missing(Loss::NoLog);
+        return Err(Loss::NoLog);
     }
     if !scan_tables(
         image, g, read, sectors, numbered, pieces, map, places, numbers, used,
     ) {
-        return Found::Missing(Loss::DamagedLog);
+        return Err(Loss::DamagedLog);
     }
     signed::mark_above(sectors, numbered, read.number, above);
-    Found::Log {
-        tail: read.tail,
+    Ok(Tail {
+        sector: read.tail,
         number: read.number,
-    }
+    })
 }
 
 // The scan, by arrays that have room for all sectors.
@@ -151,7 +149,7 @@ fn scan_in(
     numbers: &mut [u32],
     used: &mut [u8],
     above: &mut [u8],
-) -> Found
+) -> Result<Tail, Loss>
     requires g_value { geometry_fits g ≡ true }
     requires image_len { length image.now ≡ sector_bytes * g.n }
     requires n_in_bounds { g.n ≤ length sectors.old }
@@ -183,8 +181,10 @@ fn scan_in(
     )
 }
 
-// The scan of a small volume. The arrays are cleared first, so a small volume has small ones.
-pub fn scan_small(
+// The scan of a volume of at most N sectors. The arrays are cleared first, so a small volume has small ones, and each size a frame of
+// its own.
+#[inline(never)]
+pub fn scan_within<const N: usize>(
     image: &[u8],
     g: Geometry,
     map: &mut [u32],
@@ -192,8 +192,9 @@ pub fn scan_small(
     numbers: &mut [u32],
     used: &mut [u8],
     above: &mut [u8],
-) -> Found
-    requires n_le_small_sectors { g.n ≤ small_sectors }
+) -> Result<Tail, Loss>
+    requires n_le_size { g.n ≤ N }
+    requires size_le_most_sectors { N ≤ most_sectors }
     requires g_value { geometry_fits g ≡ true }
     requires image_len { length image.now ≡ sector_bytes * g.n }
     requires map_len { length map.old ≡ g.l }
@@ -204,84 +205,9 @@ pub fn scan_small(
     requires above_value { above.old ≡ replicate (length above.old) 0 }
     ensures { (scan_found result g.n (image_view g (sector_at image.now)) (sector_at image.now 0) (tables_of map.new places.new numbers.new used.new) ≡ scan_finding g (image_view g (sector_at image.now)) (sector_at image.now 0)) × ScanAbove result (image_view g (sector_at image.now)) (bit_at above.new) }
 {
-    let mut sectors = [0u16; Geometry::SMALL as usize];
-    let mut numbered = [0u32; Geometry::SMALL as usize];
-    let mut pieces = [0u8; Geometry::SMALL as usize];
-    scan_in(
-        image,
-        g,
-        &mut sectors,
-        &mut numbered,
-        &mut pieces,
-        map,
-        places,
-        numbers,
-        used,
-        above,
-    )
-}
-
-// The same of a medium volume.
-fn scan_medium(
-    image: &[u8],
-    g: Geometry,
-    map: &mut [u32],
-    places: &mut [u32],
-    numbers: &mut [u32],
-    used: &mut [u8],
-    above: &mut [u8],
-) -> Found
-    requires n_le_medium_sectors { g.n ≤ medium_sectors }
-    requires g_value { geometry_fits g ≡ true }
-    requires image_len { length image.now ≡ sector_bytes * g.n }
-    requires map_len { length map.old ≡ g.l }
-    requires places_len { length places.old ≡ pieces_for g.l }
-    requires numbers_len { length numbers.old ≡ pieces_for g.l }
-    requires used_len { length used.old ≡ used_bytes g.n }
-    requires n_bound { g.n ≤ 8 * length above.old }
-    requires above_value { above.old ≡ replicate (length above.old) 0 }
-    ensures { (scan_found result g.n (image_view g (sector_at image.now)) (sector_at image.now 0) (tables_of map.new places.new numbers.new used.new) ≡ scan_finding g (image_view g (sector_at image.now)) (sector_at image.now 0)) × ScanAbove result (image_view g (sector_at image.now)) (bit_at above.new) }
-{
-    let mut sectors = [0u16; Geometry::MEDIUM as usize];
-    let mut numbered = [0u32; Geometry::MEDIUM as usize];
-    let mut pieces = [0u8; Geometry::MEDIUM as usize];
-    scan_in(
-        image,
-        g,
-        &mut sectors,
-        &mut numbered,
-        &mut pieces,
-        map,
-        places,
-        numbers,
-        used,
-        above,
-    )
-}
-
-// The same of a volume of any size.
-fn scan_large(
-    image: &[u8],
-    g: Geometry,
-    map: &mut [u32],
-    places: &mut [u32],
-    numbers: &mut [u32],
-    used: &mut [u8],
-    above: &mut [u8],
-) -> Found
-    requires g_value { geometry_fits g ≡ true }
-    requires image_len { length image.now ≡ sector_bytes * g.n }
-    requires map_len { length map.old ≡ g.l }
-    requires places_len { length places.old ≡ pieces_for g.l }
-    requires numbers_len { length numbers.old ≡ pieces_for g.l }
-    requires used_len { length used.old ≡ used_bytes g.n }
-    requires n_bound { g.n ≤ 8 * length above.old }
-    requires above_value { above.old ≡ replicate (length above.old) 0 }
-    ensures { (scan_found result g.n (image_view g (sector_at image.now)) (sector_at image.now 0) (tables_of map.new places.new numbers.new used.new) ≡ scan_finding g (image_view g (sector_at image.now)) (sector_at image.now 0)) × ScanAbove result (image_view g (sector_at image.now)) (bit_at above.new) }
-{
-    let mut sectors = [0u16; Geometry::MOST_SECTORS as usize];
-    let mut numbered = [0u32; Geometry::MOST_SECTORS as usize];
-    let mut pieces = [0u8; Geometry::MOST_SECTORS as usize];
+    let mut sectors = [0u16; N];
+    let mut numbered = [0u32; N];
+    let mut pieces = [0u8; N];
     scan_in(
         image,
         g,
@@ -305,7 +231,7 @@ pub fn scan(
     numbers: &mut [u32],
     used: &mut [u8],
     above: &mut [u8],
-) -> Found
+) -> Result<Tail, Loss>
     requires g_value { geometry_fits g ≡ true }
     requires image_len { length image.now ≡ sector_bytes * g.n }
     requires map_len { length map.old ≡ g.l }
@@ -317,7 +243,7 @@ pub fn scan(
     ensures { (scan_found result g.n (image_view g (sector_at image.now)) (sector_at image.now 0) (tables_of map.new places.new numbers.new used.new) ≡ scan_finding g (image_view g (sector_at image.now)) (sector_at image.now 0)) × ScanAbove result (image_view g (sector_at image.now)) (bit_at above.new) }
 {
     if g.n <= Geometry::MEDIUM {
-        return scan_medium(image, g, map, places, numbers, used, above);
+        return scan_within::<MEDIUM>(image, g, map, places, numbers, used, above);
     }
-    scan_large(image, g, map, places, numbers, used, above)
+    scan_within::<LARGE>(image, g, map, places, numbers, used, above)
 }

@@ -4,6 +4,8 @@
 ghost use Rattle.std.specs.Prelude.{◌≡◌};
 ghost use Rattle.state.specs.State.{parked_state, cut_state, committed_state, fresh_state, lost_state};
 
+pub mod tail;
+
 use answer::{Answer, Cost, Refusal};
 use geometry::{Drive, Geometry};
 

@@ -30,8 +30,8 @@ use Rattle.signed.proofs.ViewLaws.{inside, view_signed, view_unsigned, signed_co
 use Rattle.scan.proofs.ScanLaws.{live_tables, used_same}
 use Rattle.walk_start.specs.Starting.{start_of}
 use Rattle.walk.specs.Walking.{Left, branch_word_count}
-use Rattle.walk_start.specs.declared.Start.{Start}
-use Rattle.walk_start.specs.declared.Start.TheVariants.{Tail, Nowhere}
+use Rattle.std.specs.Prelude.{Some, None}
+use Rattle.state.specs.declared.tail.Tail.{Tail}
 use Rattle.targets.proofs.TargetLaws.{count_is}
 use Rattle.walk_steps.proofs.WalkLaws.{number_signed, walk_signed}
 
@@ -147,50 +147,43 @@ module _ (image : ℕ → List ℕ) (place : ℕ → ℕ) where
       (count_is g image (place m) (s m (omega arith)) (h m (omega arith)) (image (place m)) refl (at (words_of (image (place m))) 6) refl)
 
 -- Where the walk starts, and so what is found.
-is_tail : Start → Bool
-is_tail (Tail tail number) = true
-is_tail Nowhere = false
-
-tail_in : Start → ℕ
-tail_in (Tail tail number) = tail
-tail_in Nowhere = 0
-
-number_at_start : Start → ℕ
-number_at_start (Tail tail number) = number
-number_at_start Nowhere = 0
+-- The tail that a park record names.
+abbrev there : Parked → Tail
+there p = record { sector = p.tail; number = p.number }
 
 module _ (g : Geometry) (view : View) (sector0 : List ℕ) where
   abbrev scan : Finding
   scan = scan_finding g view sector0
 
-  from_nowhere : (o : Option Parked) → Nowhere ≡ start_of g.n view o → finding_from g view sector0 o ≡ scan
-  unfolding start_of finding_from is_tail
+  from_nowhere : (o : Option Parked) → None ≡ start_of g.n view o → finding_from g view sector0 o ≡ scan
+  unfolding start_of finding_from
   from_nowhere none e = refl
   from_nowhere (some p) e =
       ⊎_elim (λ (z : walk_starts g.n p (view p.tail) ≡ true).
-      clash (is_tail Nowhere) (ap is_tail (e ∙ cond_true (walk_starts g.n p (view p.tail)) (Tail p.tail p.number) Nowhere z)) refl)
+      let f = cond_true (walk_starts g.n p (view p.tail)) (Some (there p)) None z in cc)
       (λ (z : walk_starts g.n p (view p.tail) ≡ false).
       cond_false (walk_starts g.n p (view p.tail)) (walk_finding g view sector0 (walked_log g.l view p) scan) scan z) (bool? (walk_starts g.n p (view p.tail)))
 
-  module _ (tail number : ℕ) where
-    from_tail : (o : Option Parked) → Tail tail number ≡ start_of g.n view o
-        → (finding_from g view sector0 o ≡ walk_finding g view sector0 (walked_log g.l view (record { number = number; tail = tail })) scan)
-        × (walk_starts g.n (record { number = number; tail = tail }) (view tail) ≡ true)
-    unfolding start_of finding_from is_tail tail_in number_at_start
-    from_tail none e = clash (is_tail (Tail tail number)) refl (ap is_tail e)
+  module _ (tail : Tail) where
+    abbrev parked_there : Parked
+    parked_there = record { number = tail.number; tail = tail.sector }
+
+    from_tail : (o : Option Parked) → Some tail ≡ start_of g.n view o
+        → (finding_from g view sector0 o ≡ walk_finding g view sector0 (walked_log g.l view parked_there) scan)
+        × (walk_starts g.n parked_there (view tail.sector) ≡ true)
+    unfolding start_of finding_from
+    from_tail none e = cc
     from_tail (some p) e =
         ⊎_elim (λ (z : walk_starts g.n p (view p.tail) ≡ true).
-        let f = e ∙ cond_true (walk_starts g.n p (view p.tail)) (Tail p.tail p.number) Nowhere z in
-        let t : p.tail ≡ tail = sym (ap tail_in f) in
-        let m : p.number ≡ number = sym (ap number_at_start f) in
-        let same : ◌≡◌ {A = Parked} p (record { number = number; tail = tail }) =
-        ap (λ (x : ℕ). record { number = x; tail = p.tail }) m ∙ ap (λ (x : ℕ). record { number = number; tail = x }) t in (
+        let f = cond_true (walk_starts g.n p (view p.tail)) (Some (there p)) None z in
+        let t : tail ≡ there p = cc in
+        let same : ◌≡◌ {A = Parked} p parked_there = sym (ap (λ (x : Tail). record { number = x.number; tail = x.sector }) t) in (
           cond_true (walk_starts g.n p (view p.tail)) (walk_finding g view sector0 (walked_log g.l view p) scan) scan z
               ∙ ap (λ (x : Parked). walk_finding g view sector0 (walked_log g.l view x) scan) same,
           ap (λ (x : Parked). walk_starts g.n x (view x.tail)) (sym same) ∙ z,
         ))
         (λ (z : walk_starts g.n p (view p.tail) ≡ false).
-        clash (is_tail (Tail tail number)) refl (ap is_tail (e ∙ cond_false (walk_starts g.n p (view p.tail)) (Tail p.tail p.number) Nowhere z)))
+        let f = cond_false (walk_starts g.n p (view p.tail)) (Some (there p)) None z in cc)
         (bool? (walk_starts g.n p (view p.tail)))
 
   starts_from : (tail number : ℕ) (o : Option MapSector) → walk_starts g.n (record { number = number; tail = tail }) o ≡ true → 1 ≤ tail
@@ -205,12 +198,12 @@ module _ (g : Geometry) (image : ℕ → List ℕ) (o : Option Parked) where
   abbrev seen : View
   seen = image_view g image
 
-  walk_nowhere : Nowhere ≡ start_of g.n seen o → (sector0 : List ℕ) → finding_from g seen sector0 o ≡ scan_finding g seen sector0
+  walk_nowhere : None ≡ start_of g.n seen o → (sector0 : List ℕ) → finding_from g seen sector0 o ≡ scan_finding g seen sector0
   walk_nowhere e sector0 = from_nowhere g seen sector0 o e
 
-  module _ (tail number : ℕ) (e : Tail tail number ≡ start_of g.n seen o) (sector0 : List ℕ) where
+  module _ (tail number : ℕ) (e : Some (record { sector = tail; number = number }) ≡ start_of g.n seen o) (sector0 : List ℕ) where
     starting : walk_starts g.n (record { number = number; tail = tail }) (seen tail) ≡ true
-    starting = (from_tail g seen sector0 tail number o e).1
+    starting = (from_tail g seen sector0 (record { sector = tail; number = number }) o e).1
 
     tail_from : 1 ≤ tail
     tail_from = starts_from g seen sector0 tail number (seen tail) starting
@@ -227,7 +220,7 @@ module _ (g : Geometry) (image : ℕ → List ℕ) (o : Option Parked) where
     Walking = walk_finding g seen sector0 (walked_log g.l seen (record { number = number; tail = tail })) (scan_finding g seen sector0)
 
     finds : finding_from g seen sector0 o ≡ Walking
-    finds = (from_tail g seen sector0 tail number o e).0
+    finds = (from_tail g seen sector0 (record { sector = tail; number = number }) o e).0
 
     abbrev reads : ℕ
     reads = 2 + branch_count seen (tables_from g.l seen (walk_from (pieces_for g.l) seen tail)).place (pieces_for g.l)
@@ -267,11 +260,11 @@ module _ (g : Geometry) (image : ℕ → List ℕ) (o : Option Parked) where
 
 -- The same, by the park record that stands in sector 0.
 module _ (g : Geometry) (image : ℕ → List ℕ) where
-  pub found_nowhere : Nowhere ≡ start_of g.n (image_view g image) (parked_in (image 0))
+  pub found_nowhere : None ≡ start_of g.n (image_view g image) (parked_in (image 0))
       → finding_of g (image_view g image) (image 0) ≡ scan_finding g (image_view g image) (image 0)
   found_nowhere e = walk_nowhere g image (parked_in (image 0)) e (image 0)
 
-  module _ (tail number : ℕ) (e : Tail tail number ≡ start_of g.n (image_view g image) (parked_in (image 0))) where
+  module _ (tail number : ℕ) (e : Some (record { sector = tail; number = number }) ≡ start_of g.n (image_view g image) (parked_in (image 0))) where
     pub found_low : 1 ≤ tail
     found_low = tail_from g image (parked_in (image 0)) tail number e (image 0)
 
@@ -282,7 +275,7 @@ module _ (g : Geometry) (image : ℕ → List ℕ) where
       pub found_incomplete : not r ≡ true → finding_of g (image_view g image) (image 0) ≡ scan_finding g (image_view g image) (image 0)
       found_incomplete u = walk_incomplete g image (parked_in (image 0)) tail number e (image 0) r f u
 
-pub found_room : (g : Geometry) (im : List ℕ) (tail number : ℕ) → Tail tail number ≡ start_of g.n (image_view g (sector_at im)) (parked_in (sector_at im 0))
+pub found_room : (g : Geometry) (im : List ℕ) (tail number : ℕ) → Some (record { sector = tail; number = number }) ≡ start_of g.n (image_view g (sector_at im)) (parked_in (sector_at im 0))
     → length im ≡ sector_bytes * g.n → sector_bytes ≤ length im
 found_room g im tail number e sized = let h = inside g (sector_at im) tail (found_signed g (sector_at im) tail number e) in omega arith
 
@@ -301,7 +294,7 @@ module _ (g : Geometry) (im : List ℕ) (sized : length im ≡ sector_bytes * g.
       let most = blocks_most g fits in
       (omega arith, (λ p h. place_size p (omega arith), λ p h. signed_count g (sector_at im) (at places p) (left.signed p (omega arith))))
 
-  pub found_log : (number : ℕ) → Tail tail number ≡ start_of g.n (image_view g (sector_at im)) (parked_in (sector_at im 0)) → (r : Bool)
+  pub found_log : (number : ℕ) → Some (record { sector = tail; number = number }) ≡ start_of g.n (image_view g (sector_at im)) (parked_in (sector_at im 0)) → (r : Bool)
       → r ≡ walk_complete g (walked_log g.l (image_view g (sector_at im)) (record { number = number; tail = tail })) → not r ≡ false → (count : ℕ)
       → count ≡ branch_word_count (sector_at im) (at places) (length places)
       → finding_of g (image_view g (sector_at im)) (sector_at im 0)

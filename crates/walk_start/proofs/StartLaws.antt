@@ -17,7 +17,8 @@ use Rattle.laws.proofs.Lists.{within_below, within_above, within_both}
 use Rattle.signed.specs.Signed.{signed_at}
 use Rattle.signed.proofs.ViewLaws.{view_signed, view_unsigned}
 use Rattle.walk_start.specs.Starting.{start_of}
-use Rattle.walk_start.specs.declared.Start.TheVariants.{Tail, Nowhere}
+use Rattle.state.specs.declared.tail.Tail.{Tail}
+use Rattle.std.specs.Prelude.{Some, None}
 
 module _ (g : Geometry) (image : ℕ → List ℕ) (tail number : ℕ) where
   abbrev parked : Parked
@@ -51,7 +52,7 @@ module _ (g : Geometry) (image : ℕ → List ℕ) (tail number : ℕ) where
     starts_number u r h = sym (says ∙ rw (within_both 1 (g.n - 1) tail low high, sym f ∙ u, sym h) refl)
 
 module _ (n : ℕ) (view : View) (sector0 s : List ℕ) (is : s ≡ sector0) (r : Bool) (e : r ≡ is_park_record s (words_of s)) where
-  pub no_record : r ≡ false → Nowhere ≡ start_of n view (parked_in sector0)
+  pub no_record : r ≡ false → None ≡ start_of n view (parked_in sector0)
   unfolding parked_in start_of
   no_record f =
       sym (ap (λ (x : List ℕ). start_of n view (parked_in x)) (sym is)
@@ -59,15 +60,18 @@ module _ (n : ℕ) (view : View) (sector0 s : List ℕ) (is : s ≡ sector0) (r 
 
   module _ (f : r ≡ true) (tail number : ℕ) (t : tail ≡ at (words_of s) 3) (m : number ≡ at (words_of s) 2) (b : Bool)
       (g : b ≡ walk_starts n (record { number = number; tail = tail }) (view tail)) where
-    starts : start_of n view (parked_in sector0) ≡ cond b (Tail tail number) Nowhere
+    abbrev here : Tail
+    here = record { sector = tail; number = number }
+
+    starts : start_of n view (parked_in sector0) ≡ cond b (Some here) None
     unfolding parked_in start_of
     starts =
         ap (λ (x : List ℕ). start_of n view (parked_in x)) (sym is)
         ∙ ap (start_of n view) (cond_true (is_park_record s (words_of s)) (some (record { number = at (words_of s) 2; tail = at (words_of s) 3 })) none (sym e ∙ f))
         ∙ rw (sym t, sym m, sym g) refl
 
-    pub no_start : b ≡ false → Nowhere ≡ start_of n view (parked_in sector0)
-    no_start h = sym (starts ∙ cond_false b (Tail tail number) Nowhere h)
+    pub no_start : b ≡ false → None ≡ start_of n view (parked_in sector0)
+    no_start h = sym (starts ∙ cond_false b (Some here) None h)
 
-    pub start_here : b ≡ true → Tail tail number ≡ start_of n view (parked_in sector0)
-    start_here h = sym (starts ∙ cond_true b (Tail tail number) Nowhere h)
+    pub start_here : b ≡ true → Some here ≡ start_of n view (parked_in sector0)
+    start_here h = sym (starts ∙ cond_true b (Some here) None h)

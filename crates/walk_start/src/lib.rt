@@ -9,13 +9,7 @@ ghost use Rattle.volume.specs.Recover.{image_view, walk_starts};
 ghost use Rattle.walk_start.specs.Starting.{start_of};
 
 use geometry::Geometry;
-
-#[derive(Clone, Copy)]
-pub enum Start {
-    // The tail, and its number.
-    Tail { tail: u32, number: u32 },
-    Nowhere,
-}
+use state::tail::Tail;
 
 // Whether sector `tail`, one from 1 to n - 1, is signed, closing, and has the number.
 fn starts_at(image: &[u8], g: Geometry, tail: u32, number: u32) -> bool
@@ -40,19 +34,19 @@ fn starts_at(image: &[u8], g: Geometry, tail: u32, number: u32) -> bool
 }
 
 // Where the park record in sector 0 says that a walk starts.
-pub fn parked_at(image: &[u8], g: Geometry) -> Start
+pub fn parked_at(image: &[u8], g: Geometry) -> Option<Tail>
     requires image_len { length image.now ≡ sector_bytes * g.n }
     requires le_n { 1 ≤ g.n }
     ensures { result ≡ start_of g.n (image_view g (sector_at image.now)) (parked_in (sector_at image.now 0)) }
 {
     let s = images::sector(image, 0);
     if !park_record::is_park(s) {
-        return Start::Nowhere;
+        return None;
     }
-    let tail = park_record::parked_tail(s);
+    let sector = park_record::parked_tail(s);
     let number = park_record::parked_number(s);
-    if !starts_at(image, g, tail, number) {
-        return Start::Nowhere;
+    if !starts_at(image, g, sector, number) {
+        return None;
     }
-    Start::Tail { tail, number }
+    Some(Tail { sector, number })
 }

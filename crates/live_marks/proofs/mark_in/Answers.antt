@@ -3,7 +3,7 @@ use mathlib.Core.Path.{refl, sym, ◌∙◌}
 use native.Mathlib.Omega.{arith}
 use lib.Seq.{length-take-le}
 use Rattle.laws.proofs.Sizes.{fits}
-use Rattle.live_marks.proofs.MarkLaws.{marks_found, marks_missing}
+use Rattle.live_marks.proofs.MarkLaws.{marks_told}
 use Rattle.live_marks.proofs.mark_in.Goals as goal
 
 pub slice_bounds-scan-end-2 : goal.slice_bounds-scan-end-2
@@ -15,8 +15,8 @@ slice_bounds-scan-end-4 c = sym (length-take-le _ _ (omega arith))
 pub slice_bounds-scan-end-6 : goal.slice_bounds-scan-end-6
 slice_bounds-scan-end-6 c = sym (length-take-le _ _ (omega arith))
 
-pub scan-found-requires : goal.scan-found-requires
-scan-found-requires c =
+pub scan-requires : goal.scan-requires
+scan-requires c =
     let sectors = (fits c.args.g c.requires.g_value).sectors in record {
       g_value = c.requires.g_value;
       image_len = c.requires.image_len;
@@ -28,10 +28,5 @@ scan-found-requires c =
       above_value = refl;
     }
 
-pub returns-in-Missing : goal.returns-in-Missing
-returns-in-Missing c =
-    marks_missing c.args.g c.args.image.now c.scan-found.result _ c.scan-found.ensures.0 _ _ c.in-Missing.is
-
-pub returns-in-Log : goal.returns-in-Log
-returns-in-Log c =
-    marks_found c.args.g c.args.image.now c.scan-found.result _ c.scan-found.ensures.0 _ _ c.in-Log.is
+pub returns : goal.returns
+returns c = ?

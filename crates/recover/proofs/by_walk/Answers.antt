@@ -11,29 +11,13 @@ pub walk_tables-requires : goal.walk_tables-requires
 walk_tables-requires c = record {
   g_value = c.requires.g_value;
   image_len = c.requires.image_len;
-  le_tail = found_low _ _ _ _ c.requires.number_value;
-  tail_value = found_signed _ _ _ _ c.requires.number_value;
+  le_tail = found_low _ _ c.args.tail.sector c.args.tail.number c.requires.number_value;
+  tail_value = found_signed _ _ c.args.tail.sector c.args.tail.number c.requires.number_value;
   map_len = c.requires.map_len;
   places_len = c.requires.places_len;
   numbers_len = c.requires.numbers_len;
   used_len = c.requires.used_len;
 }
-
-pub by_small_scan-requires : goal.by_small_scan-requires
-by_small_scan-requires c = record {
-  n_le_small_sectors = c.if-g-le-SMALL.true;
-  g_value = c.requires.g_value;
-  image_len = c.requires.image_len;
-  map_len = c.walk_tables.auto.map ∙ c.requires.map_len;
-  places_len = c.walk_tables.auto.places ∙ c.requires.places_len;
-  numbers_len = c.walk_tables.auto.numbers ∙ c.requires.numbers_len;
-  used_len = c.walk_tables.auto.used ∙ c.requires.used_len;
-}
-
-pub returns-then-g-le-SMALL : goal.returns-then-g-le-SMALL
-returns-then-g-le-SMALL c =
-    scan_found_lem _ _ _ _ _ _ _ _ _ _ _ _ c.walk_tables.auto.map c.walk_tables.auto.places c.walk_tables.auto.numbers c.walk_tables.auto.used _
-    (found_incomplete _ _ _ _ c.requires.number_value c.walk_tables.result c.walk_tables.ensures.0 (ap not c.if-not-walk_tables.true)) c.by_small_scan.ensures
 
 pub by_scan-requires : goal.by_scan-requires
 by_scan-requires c = record {
@@ -48,7 +32,7 @@ by_scan-requires c = record {
 pub returns-then-not-walk_tables : goal.returns-then-not-walk_tables
 returns-then-not-walk_tables c =
     scan_found_lem _ _ _ _ _ _ _ _ _ _ _ _ c.walk_tables.auto.map c.walk_tables.auto.places c.walk_tables.auto.numbers c.walk_tables.auto.used _
-    (found_incomplete _ _ _ _ c.requires.number_value c.walk_tables.result c.walk_tables.ensures.0 (ap not c.if-not-walk_tables.true)) c.by_scan.ensures
+    (found_incomplete _ _ c.args.tail.sector c.args.tail.number c.requires.number_value c.walk_tables.result c.walk_tables.ensures.0 (ap not c.if-not-walk_tables.true)) c.by_scan.ensures
 
 pub count_branches-read-requires : goal.count_branches-read-requires
 count_branches-read-requires c = let rest = count_ready _ _ c.requires.image_len _ _ _ _ _ (c.walk_tables.ensures.1 (not-false c.walk_tables.result (ap not c.if-not-walk_tables.false))) c.requires.g_value in record {
@@ -59,7 +43,7 @@ count_branches-read-requires c = let rest = count_ready _ _ c.requires.image_len
 
 pub after_walk-requires : goal.after_walk-requires
 after_walk-requires c =
-    found_room _ _ _ _ c.requires.number_value c.requires.image_len
+    found_room _ _ c.args.tail.sector c.args.tail.number c.requires.number_value c.requires.image_len
 
 pub shape_of-map : goal.shape_of-map
 shape_of-map c =

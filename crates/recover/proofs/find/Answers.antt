@@ -17,22 +17,6 @@ parked_at-requires c = let rest = park_ready _ _ _ _ _ _ c.volume-g.result c.vol
   le_n = rest.1;
 }
 
-pub by_small_scan-requires : goal.by_small_scan-requires
-by_small_scan-requires c =
-    let here = image_ready _ _ _ _ _ _ c.volume-g.result c.volume-g.ensures c.requires in let rest = tables_ready _ _ _ _ _ _ c.volume-g.result c.volume-g.ensures c.requires in record {
-      n_le_small_sectors = c.if-g-le-SMALL.true;
-      g_value = here.0;
-      image_len = here.1;
-      map_len = rest.0;
-      places_len = rest.1.0;
-      numbers_len = rest.1.1.0;
-      used_len = rest.1.1.1;
-    }
-
-pub returns-then-g-le-SMALL : goal.returns-then-g-le-SMALL
-returns-then-g-le-SMALL c =
-    asked_scan _ _ _ _ _ _ c.volume-g.result c.volume-g.ensures _ _ (sym c.in-Nowhere.is ∙ c.parked_at.ensures) c.by_small_scan.ensures
-
 pub by_scan-requires : goal.by_scan-requires
 by_scan-requires c =
     let here = image_ready _ _ _ _ _ _ c.volume-g.result c.volume-g.ensures c.requires in let rest = tables_ready _ _ _ _ _ _ c.volume-g.result c.volume-g.ensures c.requires in record {
@@ -49,17 +33,17 @@ by_walk-requires c =
     let here = image_ready _ _ _ _ _ _ c.volume-g.result c.volume-g.ensures c.requires in let rest = tables_ready _ _ _ _ _ _ c.volume-g.result c.volume-g.ensures c.requires in record {
       g_value = here.0;
       image_len = here.1;
-      number_value = sym c.in-Tail.is ∙ c.parked_at.ensures;
+      number_value = sym c.in-Some.is ∙ c.parked_at.ensures;
       map_len = rest.0;
       places_len = rest.1.0;
       numbers_len = rest.1.1.0;
       used_len = rest.1.1.1;
     }
 
-pub returns-else-g-le-SMALL : goal.returns-else-g-le-SMALL
-returns-else-g-le-SMALL c =
-    asked_scan _ _ _ _ _ _ c.volume-g.result c.volume-g.ensures _ _ (sym c.in-Nowhere.is ∙ c.parked_at.ensures) c.by_scan.ensures
+pub returns-in-None : goal.returns-in-None
+returns-in-None c =
+    asked_scan _ _ _ _ _ _ c.volume-g.result c.volume-g.ensures _ _ (sym c.in-None.is ∙ c.parked_at.ensures) c.by_scan.ensures
 
-pub returns-in-Tail : goal.returns-in-Tail
-returns-in-Tail c =
+pub returns-in-Some : goal.returns-in-Some
+returns-in-Some c =
     asked_for _ _ _ _ _ _ c.volume-g.result c.volume-g.ensures _ _ c.by_walk.ensures

@@ -1,14 +1,18 @@
 -- What the scan found is the finding of the definition.
 use mathlib.Core.Path.{refl, ◌∙◌}
 use native.Mathlib.Omega.{arith}
+use Prim.Native.Nat.{ℕ}
+use lib.ListN.{length-replicate}
 use Rattle.volume.specs.Tables.{bit_at}
 use Rattle.laws.proofs.Sizes.{fits}
 use Rattle.recover_by_scan.proofs.ScanLaws.{scan_found_lem, scan_missing}
 use Rattle.recover_by_scan.proofs.by_scan.Goals as goal
 
-pub scan-found-requires : goal.scan-found-requires
-scan-found-requires c =
-    let most = (fits c.args.g c.requires.g_value).sectors in record {
+pub scan_within-requires : goal.scan_within-requires
+scan_within-requires g c =
+    record {
+      n_le_size = c.requires.n_le_size;
+      size_le_most_sectors = c.requires.size_le_most_sectors;
       g_value = c.requires.g_value;
       image_len = c.requires.image_len;
       map_len = c.requires.map_len;
@@ -16,39 +20,45 @@ scan-found-requires c =
       numbers_len = c.requires.numbers_len;
       used_len = c.requires.used_len;
       n_bound = omega arith;
-      above_value = refl;
+      above_value = rw (length-replicate {A = ℕ}) refl;
     }
 
+pub whole_as_slice-scan_within : goal.whole_as_slice-scan_within
+whole_as_slice-scan_within g c = omega arith
+
+pub shared_whole_as_slice-after_scan : goal.shared_whole_as_slice-after_scan
+shared_whole_as_slice-after_scan g c = omega arith
+
 pub after_scan-requires : goal.after_scan-requires
-after_scan-requires c =
+after_scan-requires g c =
     let least = (fits c.args.g c.requires.g_value).least in
-    let most = (fits c.args.g c.requires.g_value).sectors in record {
+    record {
       le_n = omega arith;
       image_len = c.requires.image_len;
       n_bound = omega arith;
     }
 
-pub returns-in-Missing : goal.returns-in-Missing
-returns-in-Missing c =
-    scan_missing _ _ _ _ _ _ _ _ c.scan-found.new.map c.scan-found.new.places c.scan-found.new.numbers c.scan-found.new.used
-    c.scan-found.auto.map c.scan-found.auto.places c.scan-found.auto.numbers c.scan-found.auto.used
-    c.scan-found.result c.scan-found.ensures.0 _ _ _ _ c.zero_tables.auto.map c.zero_tables.auto.places c.zero_tables.auto.numbers c.zero_tables.auto.used
-    _ c.in-Missing.is c.lost.result c.lost.ensures c.zero_tables.ensures
+pub returns-in-Err : goal.returns-in-Err
+returns-in-Err g c =
+    scan_missing _ _ _ _ _ _ _ _ c.scan_within.new.map c.scan_within.new.places c.scan_within.new.numbers c.scan_within.new.used
+    c.scan_within.auto.map c.scan_within.auto.places c.scan_within.auto.numbers c.scan_within.auto.used
+    c.scan_within.result c.scan_within.ensures.0 _ _ _ _ c.zero_tables.auto.map c.zero_tables.auto.places c.zero_tables.auto.numbers c.zero_tables.auto.used
+    _ c.in-Err.is c.lost.result c.lost.ensures c.zero_tables.ensures
 
-pub shape_of-map-in-Log : goal.shape_of-map-in-Log
-shape_of-map-in-Log c =
-    c.after_scan.auto.map ∙ c.scan-found.auto.map
+pub shape_of-map-in-Ok : goal.shape_of-map-in-Ok
+shape_of-map-in-Ok g c =
+    c.after_scan.auto.map ∙ c.scan_within.auto.map
 
-pub shape_of-places-in-Log : goal.shape_of-places-in-Log
-shape_of-places-in-Log c =
-    c.after_scan.auto.places ∙ c.scan-found.auto.places
+pub shape_of-places-in-Ok : goal.shape_of-places-in-Ok
+shape_of-places-in-Ok g c =
+    c.after_scan.auto.places ∙ c.scan_within.auto.places
 
-pub shape_of-numbers-in-Log : goal.shape_of-numbers-in-Log
-shape_of-numbers-in-Log c =
-    c.after_scan.auto.numbers ∙ c.scan-found.auto.numbers
+pub shape_of-numbers-in-Ok : goal.shape_of-numbers-in-Ok
+shape_of-numbers-in-Ok g c =
+    c.after_scan.auto.numbers ∙ c.scan_within.auto.numbers
 
-pub returns-in-Log : goal.returns-in-Log
-returns-in-Log c =
-    scan_found_lem _ _ _ _ _ _ _ _ c.scan-found.new.map c.scan-found.new.places c.scan-found.new.numbers c.scan-found.new.used
-    c.scan-found.auto.map c.scan-found.auto.places c.scan-found.auto.numbers c.scan-found.auto.used
-    c.scan-found.result c.scan-found.ensures.0 _ _ _ (bit_at c.scan-found.new.above) c.scan-found.ensures.1 c.in-Log.is c.after_scan.ensures
+pub returns-in-Ok : goal.returns-in-Ok
+returns-in-Ok g c =
+    scan_found_lem _ _ _ _ _ _ _ _ c.scan_within.new.map c.scan_within.new.places c.scan_within.new.numbers c.scan_within.new.used
+    c.scan_within.auto.map c.scan_within.auto.places c.scan_within.auto.numbers c.scan_within.auto.used
+    c.scan_within.result c.scan_within.ensures.0 _ _ (bit_at c.scan_within.new.above) c.scan_within.ensures.1 c.in-Ok.is c.after_scan.ensures
