@@ -1,15 +1,13 @@
 -- What a batch is refused with as a whole, by the tests that led there.
-use Prim.Native.Nat.{ℕ, zero, suc, ◌+◌, ◌*◌, ◌/◌, ◌%◌, ◌≤◌, ◌<◌}
+use Prim.Native.Nat.{ℕ, zero, suc, ◌+◌, ◌≤◌, ◌<◌}
 use mathlib.Core.Path.{◌≡◌, refl, sym, ◌∙◌}
 use mathlib.Core.Logic.{⊎_elim}
-use mathlib.Core.Bool.{Bool, true, false, cond, not}
+use mathlib.Core.Bool.{Bool, true, false, cond}
 use mathlib.Core.List.{List}
-use native.Mathlib.Nat.{div-add-mod}
 use native.Mathlib.Numerals.{add-one}
 use native.Mathlib.Omega.{arith}
-use lib.ListN.{length}
 use lib.Dec.{eqb}
-use borrow.Author.Tests.{eq-eqb, ne_eqb, le-leb, lt-leb, not-true, not-false}
+use borrow.Author.Tests.{eq-eqb, ne_eqb}
 use Rattle.std.specs.Prelude.{Result, Ok, Err, ⊤}
 use Rattle.geometry.specs.Geometry.{within}
 use Rattle.state.specs.declared.State.{State}
@@ -19,7 +17,7 @@ use Rattle.answer.specs.Answer.{lengths}
 use Rattle.layout.specs.Bounded.{sum_below}
 use Rattle.volume.specs.Refusals.{applies, first_of, judged}
 use Rattle.volume.specs.Calls.{state_checks}
-use Rattle.batches.specs.Batch.{batch_fits, batch_checks, commits_lent, blocks_of, bytes_of}
+use Rattle.batches.specs.Batch.{batch_fits, batch_checks, commits_lent}
 use Rattle.laws.proofs.Bounded.{bool?, eq?, lt?}
 use Rattle.laws.proofs.Judged.{later, lengths_refused, lengths_passed}
 use Rattle.checks.specs.Left.{lent}

@@ -1,14 +1,13 @@
 -- Which refusal format and recover meet, by the tests that led there; and what one that meets none may rely on.
-use Prim.Native.Nat.{ℕ, ◌*◌, ◌/◌, ◌%◌, ◌≤◌, ◌<◌}
+use Prim.Native.Nat.{ℕ, ◌*◌, ◌/◌, ◌%◌, ◌≤◌}
 use mathlib.Core.Path.{◌≡◌, refl, sym, ◌∙◌, ap, subst}
-use mathlib.Core.Logic.{⊎_elim}
 use mathlib.Core.Bool.{Bool, true, false, not, ◌&&◌}
 use mathlib.Core.List.{List}
 use native.Mathlib.Nat.{div-add-mod}
 use native.Mathlib.Omega.{arith}
 use lib.ListN.{length}
 use lib.Dec.{eqb}
-use borrow.Author.Tests.{eqb-true, eq-eqb, not-true, not-false}
+use borrow.Author.Tests.{eqb-true, not-true, not-false}
 use Rattle.std.specs.Prelude.{Ok, Err}
 use Rattle.geometry.specs.declared.Geometry.{Geometry}
 use Rattle.geometry.specs.declared.Settings.{Settings}
@@ -18,7 +17,7 @@ use Rattle.layout.specs.Bounded.{is_zero}
 use Rattle.volume.specs.Tables.{memory}
 use Rattle.volume.specs.Refusals.{applies, first_of, judged}
 use Rattle.volume.specs.Format.{image_fits, tables_fit, size_checks}
-use Rattle.laws.proofs.Bounded.{bool?, and_l, and_r}
+use Rattle.laws.proofs.Bounded.{and_l, and_r}
 use Rattle.laws.proofs.Sizes.{Fits, fits, tables_fit_lem}
 use Rattle.laws.proofs.Judged.{cleared}
 use Rattle.checks.specs.Left.{lent}

@@ -1,21 +1,11 @@
 -- States and results in plain numbers, by the tests that the code makes.
-use Prim.Native.Nat.{ℕ, ◌<◌, ◌≤◌}
-use mathlib.Core.Path.{◌≡◌, refl, sym, ap, ◌∙◌}
-use mathlib.Core.Bool.{Bool, true, false}
-use mathlib.Core.Logic.{⊎_elim}
-use native.Mathlib.Nat.{eq-or-lt_of_le}
-use native.Mathlib.Omega.{arith}
-use borrow.Author.Tests.{eq-eqb, ne_eqb}
-use Rattle.state.specs.declared.State.{State}
-use Rattle.state.specs.declared.Phase.{Phase}
-use Rattle.state.specs.declared.Phase.TheVariants.{Running, Parked, Cut}
+use Prim.Native.Nat.{ℕ}
+use mathlib.Core.Path.{◌≡◌, ap, ◌∙◌}
 use Rattle.state.specs.declared.Outcome.{Outcome}
 use Rattle.state.specs.declared.BatchOutcome.{BatchOutcome}
-use Rattle.answer.specs.declared.Answer.{Answer}
-use Rattle.answer.specs.Answer.{is_refusal, verdict_number, number_of, cost_of, way_of, reads_of}
+use Rattle.answer.specs.Answer.{verdict_number, number_of, cost_of, way_of, reads_of}
 use Rattle.plain.specs.declared.CState.{CState}
-use Rattle.state.specs.State.{phase_number}
-use Rattle.plain.specs.Plain.{phase_of, state_in, state_of, plain_in, plain_of, state_left, joined, result_of, phase_left, batch_joined, batch_result_of}
+use Rattle.plain.specs.Plain.{plain_in, state_left, joined, result_of, phase_left, batch_joined, batch_result_of}
 
 pub result_is : (c : CState) (o : Outcome) (answer stores skipped way read : ℕ) (left : CState)
     → answer ≡ number_of o.answer → stores ≡ (cost_of o.answer).stores → skipped ≡ (cost_of o.answer).skipped
