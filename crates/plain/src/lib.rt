@@ -123,6 +123,18 @@ impl From<CSettings> for Settings {
     }
 }
 
+pub fn state_of(c: CState) -> State
+    ensures { result ≡ state_of c }
+{
+    State::from(c)
+}
+
+pub fn settings_of(c: CSettings) -> Settings
+    ensures { result ≡ settings_in c }
+{
+    Settings::from(c)
+}
+
 impl From<State> for CState {
     ghost from_gives = { λ s c. c ≡ plain_of s };
 
