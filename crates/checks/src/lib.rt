@@ -27,10 +27,7 @@ fn tables_fit(g: Geometry, map: usize, places: usize, numbers: usize, used: usiz
     ensures { result ≡ (eqb map g.l && eqb places (pieces_for g.l) && eqb numbers (pieces_for g.l) && eqb used (used_bytes g.n)) }
 {
     let pieces = Geometry::pieces_for(g.l) as usize;
-    map == g.l as usize
-        && places == pieces
-        && numbers == pieces
-        && used == g.used_bytes() as usize
+    map == g.l as usize && places == pieces && numbers == pieces && used == g.used_bytes() as usize
 }
 
 // The refusals that every call on a state begins with, by the lengths of what is lent; own says so of the call's own buffer.

@@ -129,9 +129,7 @@ fn find(
     let drive = settings.drive;
     match walk_start::parked_at(image, g) {
         None => by_scan(image, map, places, numbers, used, g, drive, allowance),
-        Some(tail) => by_walk(
-            image, map, places, numbers, used, g, drive, tail, allowance,
-        ),
+        Some(tail) => by_walk(image, map, places, numbers, used, g, drive, tail, allowance),
     }
 }
 
