@@ -73,6 +73,7 @@ pub struct CBatchResult {
 }
 
 // A number that is no phase lets no call go on but format and recover, as cut does.
+// These two are no `From`: neither type is of this crate.
 #[tactic(auto, unfolding(crate::specs::Plain::phase_of))]
 fn phase_of(number: u32) -> Phase
     ensures { result ≡ phase_of number }
