@@ -6,10 +6,10 @@ use mathlib.Core.Bool.{Bool, true, false}
 use native.Mathlib.Omega.{arith}
 use lib.ListN.{length, length-append}
 use lib.Dec.{eqb}
+use Rattle.std.specs.Prelude.{Ok}
 use Rattle.geometry.specs.declared.Drive.{Drive}
 use Rattle.geometry.specs.Geometry.{sector_bytes, pieces_for, geometry_fits}
 use Rattle.state.specs.declared.State.{State}
-use Rattle.answer.specs.declared.Verdict.TheVariants.{Pass}
 use Rattle.answer.specs.Answer.{cost_of}
 use Rattle.layout.specs.Bounded.{always}
 use Rattle.tracks.specs.Placing.{least_delay, placed_up_to, skipped_by}
@@ -87,7 +87,7 @@ module _ (s : State) (m : Memory) (head : ℕ) (change : Change) (bytes_fit has_
   commit_few : (allowance : ℕ) → Few allowance (commit_of base s m head change bytes_fit has_room allowance)
   unfolding commit_of
   commit_few allowance =
-      ⊎_elim (λ (e : judged (commit_checks base s m head change.blocks bytes_fit has_room) ≡ Pass).
+      ⊎_elim (λ (e : judged (commit_checks base s m head change.blocks bytes_fit has_room) ≡ Ok tt).
       rw e (passed_few (commit_passed base s m head change.blocks bytes_fit has_room e) allowance))
       (λ v. rw v.1 (record { stores = omega arith; skipped = omega arith }))
       (verdict? (judged (commit_checks base s m head change.blocks bytes_fit has_room)))

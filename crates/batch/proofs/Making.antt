@@ -8,9 +8,9 @@ use native.Mathlib.Omega.{arith}
 use lib.ListN.{length, take, drop, length-append}
 use lib.Dec.{ltb}
 use borrow.Author.Tests.{eq-eqb, ne_eqb}
+use Rattle.std.specs.Prelude.{Ok}
 use Rattle.state.specs.declared.State.{State}
 use Rattle.state.specs.declared.Outcome.{Outcome}
-use Rattle.answer.specs.declared.Verdict.TheVariants.{Pass}
 use Rattle.answer.specs.Answer.{number_of, cost_of}
 use Rattle.layout.specs.Bounded.{is_zero, sum_below, list_from}
 use Rattle.volume.specs.Tables.{Memory}
@@ -155,7 +155,7 @@ module _ (words blocks bytes : List ℕ) (s₀ : State) (m₀ : Memory) (allowan
           }
 
       pub making_stops : (number_of o.answer ≡ 0 → ⊥) → (n stores : ℕ) → n ≡ i + 1 → stores + left' ≡ allowance
-          → batch_left (record { verdict = Pass; answered = n; cost = record { stores = stores; skipped = skipped' }; state = o.state }) m' answers'
+          → batch_left (record { verdict = Ok tt; answered = n; cost = record { stores = stores; skipped = skipped' }; state = o.state }) m' answers'
           ≡ batch_done whole answers₀
       making_stops turned n stores e f =
           let w = further stop (rw (ne_eqb (number_of o.answer) 0 turned) refl) in
@@ -164,7 +164,7 @@ module _ (words blocks bytes : List ℕ) (s₀ : State) (m₀ : Memory) (allowan
 
   pub making_ends : (i : ℕ) (s : State) (m : Memory) (left skipped block byte : ℕ) (answers : List ℕ) → Making i s m left skipped block byte answers
       → commits_lent words ≤ i → (n stores : ℕ) → n ≡ i → stores + left ≡ allowance
-      → batch_left (record { verdict = Pass; answered = n; cost = record { stores = stores; skipped = skipped }; state = s }) m answers ≡ batch_done whole answers₀
+      → batch_left (record { verdict = Ok tt; answered = n; cost = record { stores = stores; skipped = skipped }; state = s }) m answers ≡ batch_done whole answers₀
   unfolding commits_made list_from
   making_ends i s m left skipped block byte answers u h n stores e f =
       let none : commits_lent words - i ≡ 0 = omega arith in

@@ -6,13 +6,12 @@ use mathlib.Core.List.{List}
 use lib.ListN.{length}
 use lib.Dec.{eqb, leb}
 use borrow.Author.Tests.{eqb-true, leb-true}
+use Rattle.std.specs.Prelude.{Result, Ok, Err, ⊤}
 use Rattle.geometry.specs.Geometry.{within}
 use Rattle.state.specs.declared.State.{State}
 use Rattle.answer.specs.declared.Cost.{Cost}
 use Rattle.answer.specs.declared.Refusal.{Refusal}
 use Rattle.answer.specs.declared.Refusal.TheVariants.{BufferLength, CommitCount}
-use Rattle.answer.specs.declared.Verdict.{Verdict}
-use Rattle.answer.specs.declared.Verdict.TheVariants.{Pass, Refuse}
 use Rattle.answer.specs.Answer.{stores_alone}
 use Rattle.layout.specs.Bounded.{is_zero, sum_below}
 use Rattle.volume.specs.Tables.{Memory, memory}
@@ -26,7 +25,7 @@ use Rattle.laws.proofs.Judged.{cleared, not_false}
 use Rattle.checks.specs.Left.{lent}
 use Rattle.batch.specs.Batch.{batch_left, Lent}
 
-module _ (s : State) (im mp pl nu us words blocks bytes : List ℕ) (allowance : ℕ) (answers : List ℕ) (v : Verdict)
+module _ (s : State) (im mp pl nu us words blocks bytes : List ℕ) (allowance : ℕ) (answers : List ℕ) (v : Result ⊤ Refusal)
     (f : v ≡ judged (batch_checks s (lent (length im) (length mp) (length pl) (length nu) (length us)) words (length blocks) (length bytes) (length answers))) where
   abbrev m : Memory
   m = memory im mp pl nu us
@@ -35,18 +34,18 @@ module _ (s : State) (im mp pl nu us words blocks bytes : List ℕ) (allowance :
   unfolding batch_checks state_fits tables_fit memory judged first_of applies
   by_memory = f
 
-  is_judged : (w : Verdict) → v ≡ w → batch_judged w s m (commits_made base s m (commits_in words blocks bytes) allowance) answers ≡ batch_of s m words blocks bytes allowance answers
+  is_judged : (w : Result ⊤ Refusal) → v ≡ w → batch_judged w s m (commits_made base s m (commits_in words blocks bytes) allowance) answers ≡ batch_of s m words blocks bytes allowance answers
   unfolding batch_by
-  is_judged w e = ap (λ (x : Verdict). batch_judged x s m (commits_made base s m (commits_in words blocks bytes) allowance) answers) (sym e ∙ by_memory)
+  is_judged w e = ap (λ (x : Result ⊤ Refusal). batch_judged x s m (commits_made base s m (commits_in words blocks bytes) allowance) answers) (sym e ∙ by_memory)
 
-  pub whole_refused : (r : Refusal) (cost : Cost) → cost ≡ stores_alone 0 → v ≡ Refuse r
-      → batch_left (record { verdict = Refuse r; answered = 0; cost = cost; state = s }) m answers ≡ batch_of s m words blocks bytes allowance answers
+  pub whole_refused : (r : Refusal) (cost : Cost) → cost ≡ stores_alone 0 → v ≡ Err r
+      → batch_left (record { verdict = Err r; answered = 0; cost = cost; state = s }) m answers ≡ batch_of s m words blocks bytes allowance answers
   whole_refused r cost k e =
-      ap (λ (x : Cost). batch_left (record { verdict = Refuse r; answered = 0; cost = x; state = s }) m answers) k ∙ is_judged (Refuse r) e
+      ap (λ (x : Cost). batch_left (record { verdict = Err r; answered = 0; cost = x; state = s }) m answers) k ∙ is_judged (Err r) e
 
-  module _ (e : v ≡ Pass) where
+  module _ (e : v ≡ Ok tt) where
     pub whole_done : (r : BatchAfter) → r ≡ batch_done (commits_made base s m (commits_in words blocks bytes) allowance) answers → r ≡ batch_of s m words blocks bytes allowance answers
-    whole_done r d = d ∙ is_judged Pass e
+    whole_done r d = d ∙ is_judged (Ok tt) e
 
     buffers : batch_fits words (length blocks) (length bytes) (length answers) ≡ true
     unfolding batch_checks applies

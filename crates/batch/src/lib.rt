@@ -1,7 +1,7 @@
 // A batch: commits made one after the other in one call, up to and including the first that is turned back.
 #![tactic(auto)]
 
-ghost use Rattle.std.specs.Prelude.{◌≡◌, ◌++◌, ◌+◌, ◌*◌, ◌≤◌, length, take, drop, ltb};
+ghost use Rattle.std.specs.Prelude.{◌≡◌, ◌++◌, ◌+◌, ◌*◌, ◌≤◌, length, take, drop, ltb, Ok};
 ghost use Rattle.layout.specs.Bounded.{sum_below};
 ghost use Rattle.volume.specs.Tables.{memory};
 ghost use Rattle.volume.specs.Rules.{base};
@@ -9,9 +9,8 @@ ghost use Rattle.volume.specs.Store.{after};
 ghost use Rattle.verdict.specs.Known.{KnownAgreed};
 ghost use Rattle.batches.specs.Batch.{batch_commits, commit_words, answer_words, blocks_of, bytes_of, commit_at, answer_of, commit_made, commits_in, commits_made, batch_done, batch_of};
 ghost use Rattle.batch.specs.Batch.{batch_left, Lent};
-ghost use Rattle.answer.specs.declared.Verdict.TheVariants.{Pass};
 
-use answer::{Answer, Cost, Refusal, Verdict};
+use answer::{Answer, Cost, Refusal};
 use batch_checks::{ANSWER_WORDS, COMMIT_WORDS};
 use state::{BatchOutcome, Outcome, State};
 
@@ -34,29 +33,20 @@ fn make_commit(
     requires { KnownAgreed known s (memory image.old map.old places.old numbers.old used.old) }
     ensures { after result (memory image.new map.new places.new numbers.new used.new) ≡ commit_made base s (memory image.old map.old places.old numbers.old used.old) (record { kind = kind; head = head; blocks = blocks.now; bytes = bytes.now }) allowance }
 {
-    if kind == 0 {
-        return write::write_commit(
+    match kind {
+        0 => write::write_commit(
             s, image, map, places, numbers, used, head, blocks, bytes, allowance, known,
-        );
-    }
-    if kind == 1 {
-        return write::drop_commit(
-            s,
-            image,
-            map,
-            places,
-            numbers,
-            used,
-            head,
-            blocks,
-            bytes.len() == 0,
-            allowance,
-            known,
-        );
-    }
-    Outcome {
-        answer: Answer::Refused(Refusal::BlockNumbers),
-        state: s,
+        ),
+        1 => {
+            let fit = bytes.is_empty();
+            write::drop_commit(
+                s, image, map, places, numbers, used, head, blocks, fit, allowance, known,
+            )
+        }
+        _ => Outcome {
+            answer: Answer::Refused(Refusal::BlockNumbers),
+            state: s,
+        },
     }
 }
 
@@ -126,10 +116,10 @@ fn answer_commit(
 // What a batch hands back that was not refused as a whole.
 fn answered(s: State, commits: usize, stores: u32, skipped: u32) -> BatchOutcome
     requires { commits ≤ batch_commits }
-    ensures { result ≡ record { verdict = Pass; answered = commits; cost = record { stores = stores; skipped = skipped }; state = s } }
+    ensures { result ≡ record { verdict = Ok tt; answered = commits; cost = record { stores = stores; skipped = skipped }; state = s } }
 {
     BatchOutcome {
-        verdict: Verdict::Pass,
+        verdict: Ok(()),
         answered: commits as u32,
         cost: Cost { stores, skipped },
         state: s,
@@ -159,8 +149,7 @@ fn make_commits(
     let mut skipped = 0;
     let mut block = 0;
     let mut byte = 0;
-    let mut i = 0;
-    while i < commits {
+    for i in 0..commits {
         let o = answer_commit(
             state, image, map, places, numbers, used, words, blocks, bytes, i, block, byte, left,
             answers,
@@ -171,12 +160,11 @@ fn make_commits(
         skipped += given.skipped();
         block += words[COMMIT_WORDS * i + 2] as usize;
         byte += words[COMMIT_WORDS * i + 3] as usize;
-        i += 1;
         if given.number() != 0 {
-            return answered(state, i, allowance - left, skipped);
+            return answered(state, i + 1, allowance - left, skipped);
         }
     }
-    answered(state, i, allowance - left, skipped)
+    answered(state, commits, allowance - left, skipped)
 }
 
 // Makes 1 to 32 commits, writes and drops, each with its own head. Of each commit words has its kind, its head, and how many of the
@@ -209,13 +197,13 @@ pub fn batch(
         answers.len(),
     );
     match verdict {
-        Verdict::Refuse(refusal) => BatchOutcome {
-            verdict: Verdict::Refuse(refusal),
+        Err(refusal) => BatchOutcome {
+            verdict: Err(refusal),
             answered: 0,
             cost: Cost::stores_alone(0),
             state: s,
         },
-        Verdict::Pass => make_commits(
+        Ok(()) => make_commits(
             s, image, map, places, numbers, used, words, blocks, bytes, allowance, answers,
         ),
     }

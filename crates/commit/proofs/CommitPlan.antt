@@ -9,6 +9,7 @@ use lib.ListN.{length, take, drop, replicate, length-append, length-drop, length
 use lib.Seq.{get_or-append-add, get_or-drop, length-take-le}
 use lib.Dec.{eqb, ltb}
 use borrow.Author.Tests.{eq-eqb, ne_eqb}
+use Rattle.std.specs.Prelude.{Ok}
 use Rattle.laws.proofs.Filling.{zeros_get}
 use Rattle.state.specs.declared.State.{State}
 use Rattle.geometry.specs.Geometry.{pieces_for, piece_of}
@@ -20,7 +21,6 @@ use Rattle.volume.specs.Store.{stores_below, Action, performed}
 use Rattle.tracks.specs.Placing.{least_delay, place_of}
 use Rattle.volume.specs.Rules.{base}
 use Rattle.volume.specs.Commit.{Plan, touches, branches_for, planned, rank, member_place, changed_entries, committed_tables, member, data_store, member_store, commit_stores, bill, plan_action, commit_action}
-use Rattle.answer.specs.declared.Verdict.TheVariants.{Pass}
 use Rattle.volume.specs.Refusals.{judged}
 use Rattle.volume.specs.Calls.{view_of, commit_checks, write_change, drop_change}
 use Rattle.laws.proofs.Bounded.{or_r, cond_true, cond_false, tabled_at, tabled_past, any_below_is, count_before, count_le, count_always, length_list_from, list_from_at}
@@ -38,7 +38,7 @@ use Rattle.verdict.proofs.CommitChecks.{Passed, passed}
 use Rattle.commit.proofs.CommitLaws.{action_plan, action_change}
 
 module _ (s : State) (im mp pl nu us : List ℕ) (head : ℕ) (blocks : List ℕ) (count : ℕ)
-    (pass : Pass ≡ judged (commit_checks base s (memory im mp pl nu us) head blocks true (not (ltb (free_sectors s.geometry.n (bit_at us)) (count + pieces_for s.geometry.l)))))
+    (pass : Ok tt ≡ judged (commit_checks base s (memory im mp pl nu us) head blocks true (not (ltb (free_sectors s.geometry.n (bit_at us)) (count + pieces_for s.geometry.l)))))
     (how : (count ≡ 0) ⊎ (count ≡ length blocks)) where
   p : Passed s im mp pl nu us head blocks count
   p = passed s im mp pl nu us head blocks count pass

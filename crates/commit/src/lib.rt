@@ -1,10 +1,9 @@
 // One commit: write and drop are it, with data sectors and without.
 #![tactic(auto)]
 
-ghost use Rattle.std.specs.Prelude.{◌≡◌, ◌⊎◌, true, not, [], ◌+◌, ◌-◌, ◌*◌, ◌≤◌, length, ltb};
+ghost use Rattle.std.specs.Prelude.{◌≡◌, ◌⊎◌, true, not, [], ◌+◌, ◌-◌, ◌*◌, ◌≤◌, length, ltb, Ok};
 ghost use Rattle.geometry.specs.Geometry.{sector_bytes, branch_room, pieces_for, used_bytes, geometry_fits};
 ghost use Rattle.answer.specs.declared.Answer.TheVariants.{Accepted};
-ghost use Rattle.answer.specs.declared.Verdict.TheVariants.{Pass};
 ghost use Rattle.state.specs.State.{committed_state};
 ghost use Rattle.layout.specs.Bounded.{at, count_below};
 ghost use Rattle.volume.specs.Tables.{bit_at, sector_at, memory, tables_of, free_sectors, consistent};
@@ -151,7 +150,7 @@ pub fn commit(
     count: u32,
     allowance: u32,
 ) -> Outcome
-    requires value { Pass ≡ judged (commit_checks base s (memory image.old map.old places.old numbers.old used.old) head blocks.now true (not (ltb (free_sectors s.geometry.n (bit_at used.old)) (count + pieces_for s.geometry.l)))) }
+    requires value { Ok tt ≡ judged (commit_checks base s (memory image.old map.old places.old numbers.old used.old) head blocks.now true (not (ltb (free_sectors s.geometry.n (bit_at used.old)) (count + pieces_for s.geometry.l)))) }
     requires fact { (count ≡ 0) ⊎ (count ≡ length blocks.now) }
     requires bytes_len { length bytes.now ≡ sector_bytes * count }
     ensures { after result (memory image.new map.new places.new numbers.new used.new) ≡ performed allowance (commit_action base s (tables_of map.old places.old numbers.old used.old) (view_of s.geometry (sector_at image.old)) head (change_by blocks.now bytes.now count)) (memory image.old map.old places.old numbers.old used.old) }

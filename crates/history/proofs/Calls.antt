@@ -10,12 +10,12 @@ use native.Mathlib.Omega.{arith}
 use lib.ListN.{length, take}
 use lib.Dec.{ltb, eqb}
 use borrow.Author.Tests.{ltb-true, lt-ltb, eqb-true, eq-eqb}
+use Rattle.std.specs.Prelude.{Ok}
 use Rattle.geometry.specs.declared.Geometry.{Geometry}
 use Rattle.geometry.specs.declared.Drive.{Drive}
 use Rattle.state.specs.declared.State.{State}
 use Rattle.answer.specs.declared.Refusal.{Refusal}
 use Rattle.answer.specs.declared.Refusal.TheVariants.{BlockNumbers, WrongPhase}
-use Rattle.answer.specs.declared.Verdict.TheVariants.{Pass}
 use Rattle.answer.specs.Answer.{refusal_number, cost_of}
 use Rattle.geometry.specs.Geometry.{within, pieces_for, settings_of, drive_fits}
 use Rattle.state.specs.State.{fresh_state, is_running, is_readable}
@@ -79,7 +79,7 @@ module _ (rules : Rules) (law : Choosing rules) (g : Geometry) (fit : Fits g) wh
     abbrev changed : Disk
     changed = updates disk (at change.blocks) values (length change.blocks)
 
-    passed : (allowance : ℕ) → judged (commit_checks rules s m head change.blocks bytes_fit has_room) ≡ Pass
+    passed : (allowance : ℕ) → judged (commit_checks rules s m head change.blocks bytes_fit has_room) ≡ Ok tt
         → Standing g (record { state = s; memory = m }) disk
         → Step g m (performed allowance (commit_action rules s m.tables (view_of s.geometry m.image) head change) m) disk changed
     passed allowance e (running drive tail number q settled unparked) =
@@ -97,7 +97,7 @@ module _ (rules : Rules) (law : Choosing rules) (g : Geometry) (fit : Fits g) wh
     commit_stands : (allowance : ℕ) → Step g m (commit_of rules s m head change bytes_fit has_room allowance) disk changed
     unfolding commit_of
     commit_stands allowance =
-        ⊎_elim (λ (e : judged (commit_checks rules s m head change.blocks bytes_fit has_room) ≡ Pass).
+        ⊎_elim (λ (e : judged (commit_checks rules s m head change.blocks bytes_fit has_room) ≡ Ok tt).
         rw e (passed allowance e stands))
         (λ v. rw v.1 (refused_step g s m v.0 disk changed size stands))
         (verdict? (judged (commit_checks rules s m head change.blocks bytes_fit has_room)))
@@ -199,7 +199,7 @@ module _ (rules : Rules) (law : Choosing rules) (g : Geometry) (fit : Fits g) wh
   batch_stands w words blocks bytes allowance answers disk size stands =
       let v = judged (batch_checks w.state w.memory words (length blocks) (length bytes) (length answers)) in
       let cs = commits_in words blocks bytes in
-      ⊎_elim (λ (e : v ≡ Pass).
+      ⊎_elim (λ (e : v ≡ Ok tt).
       let u = commits_stand cs w.state w.memory allowance disk size stands in
       record { kept = λ z. u.kept; stands = rw e u.stands; sized = rw e u.sized })
       (λ x.
@@ -255,7 +255,7 @@ refused_stays g s m r disk size stands = record { stands = stands; sized = size 
 
 module _ (g : Geometry) (fit : Fits g) (s : State) (m : Memory) (size : Sized g m) (disk : Disk)
     (stands : Standing g (record { state = s; memory = m }) disk) where
-  park_running : (judged (park_checks s m) ≡ Pass) → is_running s.phase ≡ true
+  park_running : (judged (park_checks s m) ≡ Ok tt) → is_running s.phase ≡ true
   unfolding park_checks applies
   park_running e = not_false (is_running s.phase) (cleared WrongPhase _ e)
 
@@ -272,7 +272,7 @@ module _ (g : Geometry) (fit : Fits g) (s : State) (m : Memory) (size : Sized g 
         sized = sized_with g m (park_image g fit m.image m.tables tail number disk settled) m.tables size;
       })
 
-  park_passed : (allowance : ℕ) → judged (park_checks s m) ≡ Pass → Standing g (record { state = s; memory = m }) disk
+  park_passed : (allowance : ℕ) → judged (park_checks s m) ≡ Ok tt → Standing g (record { state = s; memory = m }) disk
       → Stays g (performed allowance (park_action s m) m) disk
   park_passed allowance e (running drive tail number q settled unparked) =
       subst (λ (x : State). Stays g (performed allowance (park_action x m) m) disk) (sym q) (park_performed drive tail number allowance settled)
@@ -283,7 +283,7 @@ module _ (g : Geometry) (fit : Fits g) (s : State) (m : Memory) (size : Sized g 
   pub park_stays : (allowance : ℕ) → Stays g (park_of s m allowance) disk
   unfolding park_of
   park_stays allowance =
-      ⊎_elim (λ (e : judged (park_checks s m) ≡ Pass). rw e (park_passed allowance e stands))
+      ⊎_elim (λ (e : judged (park_checks s m) ≡ Ok tt). rw e (park_passed allowance e stands))
       (λ v. rw v.1 (refused_stays g s m v.0 disk size stands)) (verdict? (judged (park_checks s m)))
 
   -- Some tables are committed, however the volume stands.
@@ -318,7 +318,7 @@ module _ (g : Geometry) (fit : Fits g) (s : State) (m : Memory) (size : Sized g 
   unfolding recover_of
   recover_stays drive allowance =
       let c = committed_some stands in
-      ⊎_elim (λ (e : judged (size_checks m (settings_of g drive)) ≡ Pass).
+      ⊎_elim (λ (e : judged (size_checks m (settings_of g drive)) ≡ Ok tt).
       rw (e, sectors_is)
       (recovery_performed drive c.0 c.1 c.2 allowance (recovers g m.image c.0 c.1 c.2 disk fit c.3)))
       (λ v. rw v.1 (refused_stays g s m v.0 disk size stands)) (verdict? (judged (size_checks m (settings_of g drive))))
@@ -329,7 +329,7 @@ module _ (g : Geometry) (fit : Fits g) (s : State) (m : Memory) (size : Sized g 
       → world_of (after (read_of s m b out).outcome (read_of s m b out).memory) ≡ record { state = s; memory = m }
   unfolding read_of read_judged
   read_world b out =
-      ⊎_elim (λ (e : judged (read_checks s m b (length out)) ≡ Pass). rw e refl) (λ v. rw v.1 refl)
+      ⊎_elim (λ (e : judged (read_checks s m b (length out)) ≡ Ok tt). rw e refl) (λ v. rw v.1 refl)
       (verdict? (judged (read_checks s m b (length out))))
 
   -- A block of a volume whose tables are in hand.
@@ -343,7 +343,7 @@ module _ (g : Geometry) (fit : Fits g) (s : State) (m : Memory) (size : Sized g 
       ap (λ (x : ℕ). restored x (m.image (sector_of x))) (eqb-true (t.entry b) 0 z) ∙ restored_empty (m.image (sector_of 0)) ∙ sym (ground.empty b h z))
       (λ (z : is_empty (t.entry b) ≡ false). ground.full b h z) (bool? (is_empty (t.entry b))))
 
-  read_passed : (b : ℕ) (out : List ℕ) → judged (read_checks s m b (length out)) ≡ Pass → (is_readable s.phase ≡ true) × (b < s.geometry.l)
+  read_passed : (b : ℕ) (out : List ℕ) → judged (read_checks s m b (length out)) ≡ Ok tt → (is_readable s.phase ≡ true) × (b < s.geometry.l)
   unfolding read_checks applies
   read_passed b out e = (
     not_false (is_readable s.phase) (cleared WrongPhase _ e),
@@ -362,7 +362,7 @@ module _ (g : Geometry) (fit : Fits g) (s : State) (m : Memory) (size : Sized g 
       → (read_of s m b out).out ≡ disk b
   unfolding read_of read_judged
   read_gives_lem b out a =
-      ⊎_elim (λ (e : judged (read_checks s m b (length out)) ≡ Pass).
+      ⊎_elim (λ (e : judged (read_checks s m b (length out)) ≡ Ok tt).
       rw e (readable_block b (read_passed b out e) stands))
       (λ v. clash (accepted (refused v.0 s m)) (rw v.1 at a) (refused_not v.0 s m))
       (verdict? (judged (read_checks s m b (length out))))
@@ -386,6 +386,6 @@ module _ (g : Geometry) (fit : Fits g) (m : Memory) (size : Sized g m) (drive : 
       rw (eq-eqb m.lengths.image (512 * g.n) size.image, within_is 1 24576 g.l fit.some fit.most)
       (within_is (2 * pieces_for g.l + 2) 65536 g.n fit.least fit.sectors)
 
-  pub read_passes : (b : ℕ) (out : List ℕ) → b < g.l → length out ≡ 512 → judged (read_checks (fresh_state g drive tail number) m b (length out)) ≡ Pass
+  pub read_passes : (b : ℕ) (out : List ℕ) → b < g.l → length out ≡ 512 → judged (read_checks (fresh_state g drive tail number) m b (length out)) ≡ Ok tt
   unfolding read_checks judged first_of applies
   read_passes b out h len = rw (state_fits_lem, holds, size.tables, eq-eqb (length out) 512 len, lt-ltb b g.l h, entry_readable_lem b h) refl

@@ -11,6 +11,7 @@ use native.Mathlib.Omega.{arith}
 use lib.ListN.{length, take, length-append}
 use lib.Dec.{eqb}
 use lib.Seq.{take_all, length-take-le}
+use Rattle.std.specs.Prelude.{Result, Ok, Err, ⊤}
 use Rattle.geometry.specs.declared.Geometry.{Geometry}
 use Rattle.geometry.specs.declared.Drive.{Drive}
 use Rattle.geometry.specs.declared.Settings.{Settings}
@@ -21,8 +22,6 @@ use Rattle.answer.specs.declared.Answer.{Answer}
 use Rattle.answer.specs.declared.Answer.TheVariants.{Walked, Scanned}
 use Rattle.answer.specs.declared.Loss.{Loss}
 use Rattle.answer.specs.declared.Loss.TheVariants.{NoLog, DamagedLog}
-use Rattle.answer.specs.declared.Verdict.{Verdict}
-use Rattle.answer.specs.declared.Verdict.TheVariants.{Pass, Refuse}
 use Rattle.answer.specs.declared.Refusal.{Refusal}
 use Rattle.answer.specs.declared.Refusal.TheVariants.{BlockNumbers}
 use Rattle.answer.specs.Answer.{is_refusal, refusal_number, cost_of}
@@ -71,12 +70,12 @@ module _ (allowance : ℕ) (a : Action) (m : Memory) (counted : (k : ℕ) → (a
       })) (lt? allowance (length a.stores))
 
 -- A call that is not refused does what it does where no refusal applies.
-passed : (v : Verdict) (s : State) (m : Memory) (done : After) → is_refusal (unless_refused v s m done).outcome.answer ≡ false
+passed : (v : Result ⊤ Refusal) (s : State) (m : Memory) (done : After) → is_refusal (unless_refused v s m done).outcome.answer ≡ false
     → unless_refused v s m done ≡ done
-passed Pass s m done e = refl
-passed (Refuse r) s m done e = absurd (true≢false e)
+passed (Ok u) s m done e = refl
+passed (Err r) s m done e = absurd (true≢false e)
 
-module _ (v : Verdict) (s : State) (m : Memory) (done : After) (allowance : ℕ) (stores : List Store) where
+module _ (v : Result ⊤ Refusal) (s : State) (m : Memory) (done : After) (allowance : ℕ) (stores : List Store) where
   unless_there : CutThere allowance stores m done → is_refusal (unless_refused v s m done).outcome.answer ≡ false
       → CutThere allowance stores m (unless_refused v s m done)
   unless_there t e = subst (CutThere allowance stores m) (sym (passed v s m done e)) t
@@ -137,10 +136,10 @@ commit_there rules s m head change bytes_fit has_room allowance e =
     unless_there (judged (commit_checks rules s m head change.blocks bytes_fit has_room)) s m _ allowance _
     (performed_there allowance (commit_action rules s m.tables (view_of s.geometry m.image) head change) m (λ k. refl) (λ c. refl)) e
 
-read_there : (v : Verdict) (s : State) (m : Memory) (block : ℕ) (out : List ℕ) → CutThere 0 [] m (record { outcome = (read_judged v s m block out).outcome; memory = (read_judged v s m block out).memory })
+read_there : (v : Result ⊤ Refusal) (s : State) (m : Memory) (block : ℕ) (out : List ℕ) → CutThere 0 [] m (record { outcome = (read_judged v s m block out).outcome; memory = (read_judged v s m block out).memory })
 unfolding read_judged applied
-read_there Pass s m block out = record { counts = refl; makes = refl }
-read_there (Refuse r) s m block out = record { counts = refl; makes = refl }
+read_there (Ok u) s m block out = record { counts = refl; makes = refl }
+read_there (Err r) s m block out = record { counts = refl; makes = refl }
 
 -- What is known of a commit: refused it did nothing; otherwise it made the first of its stores, and all of them where it was accepted.
 record OneThere (allowance : ℕ) (stores : List Store) (m : Memory) (r : After) : Type 0 where
@@ -183,7 +182,7 @@ module _ (rules : Rules) (s : State) (m : Memory) (head : ℕ) (change : Change)
   commit_one : OneThere allowance action.stores m (commit_of rules s m head change bytes_fit has_room allowance)
   unfolding commit_of
   commit_one =
-      ⊎_elim (λ (e : judged (commit_checks rules s m head change.blocks bytes_fit has_room) ≡ Pass). rw e performed_one)
+      ⊎_elim (λ (e : judged (commit_checks rules s m head change.blocks bytes_fit has_room) ≡ Ok tt). rw e performed_one)
       (λ v. rw v.1 (refused_there allowance action.stores v.0 s m))
       (verdict? (judged (commit_checks rules s m head change.blocks bytes_fit has_room)))
 
@@ -265,7 +264,7 @@ unfolding made batch_by
 batch_there rules g w words blocks bytes allowance answers e =
     let v = judged (batch_checks w.state w.memory words (length blocks) (length bytes) (length answers)) in
     let there = commits_there rules (commits_in words blocks bytes) w.state w.memory allowance in
-    ⊎_elim (λ (p : v ≡ Pass). rw p (record { counts = there.counts; makes = there.makes }))
+    ⊎_elim (λ (p : v ≡ Ok tt). rw p (record { counts = there.counts; makes = there.makes }))
     (λ x. absurd (true≢false (rw x.1 at e)))
     (verdict? v)
 

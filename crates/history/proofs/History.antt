@@ -18,12 +18,12 @@ use mathlib.Core.List.{List, [], ◌∷◌}
 use native.Mathlib.Omega.{arith}
 use lib.ListN.{length}
 use borrow.Author.Tests.{eqb-true, eq-eqb}
+use Rattle.std.specs.Prelude.{Ok}
 use Rattle.geometry.specs.declared.Geometry.{Geometry}
 use Rattle.geometry.specs.declared.Drive.{Drive}
 use Rattle.geometry.specs.declared.Settings.{Settings}
 use Rattle.state.specs.declared.State.{State}
 use Rattle.answer.specs.declared.Refusal.TheVariants.{Size, BufferLength}
-use Rattle.answer.specs.declared.Verdict.TheVariants.{Pass}
 use Rattle.geometry.specs.Geometry.{pieces_for, settings_of, geometry_fits, drive_fits}
 use Rattle.state.specs.State.{fresh_state}
 use Rattle.answer.specs.Answer.{stores_alone, number_of}
@@ -49,7 +49,7 @@ use Rattle.history.proofs.Calls.{write_stands, drop_stands, batch_stands, park_s
 
 -- Where the lengths are right and the drive holds the sectors, none of 1, 11 and 2 applies to a recovery.
 size_passes : (g : Geometry) (drive : Drive) (m : Memory) → Fits g → drive_fits g.n drive ≡ true → Sized g m
-    → judged (size_checks m (settings_of g drive)) ≡ Pass
+    → judged (size_checks m (settings_of g drive)) ≡ Ok tt
 unfolding size_checks image_fits judged first_of applies
 size_passes g drive m fit holds size =
     let whole : is_zero (m.lengths.image % 512) ≡ true =
@@ -131,7 +131,7 @@ module _ (rules : Rules) (law : Choosing rules) (g : Geometry) (fit : Fits g) wh
 
 -- An accepted format.
 module _ (s : State) (m : Memory) (settings : Settings) (allowance : ℕ) (ok : accepted (format_of s m settings allowance) ≡ true) where
-  format_passes : judged (size_checks m settings) ≡ Pass
+  format_passes : judged (size_checks m settings) ≡ Ok tt
   unfolding format_of
   format_passes =
       ⊎_elim (λ e. e)

@@ -9,13 +9,13 @@ use native.Mathlib.Nat.{not-suc-le-zero}
 use native.Mathlib.Omega.{arith}
 use lib.ListN.{length, drop as dropped}
 use borrow.Author.Tests.{eq-eqb, eqb-true}
+use Rattle.std.specs.Prelude.{Ok}
 use Rattle.geometry.specs.declared.Geometry.{Geometry}
 use Rattle.geometry.specs.declared.Drive.{Drive}
 use Rattle.geometry.specs.declared.Settings.{Settings}
 use Rattle.geometry.specs.Geometry.{settings_of, drive_fits}
 use Rattle.state.specs.declared.State.{State}
 use Rattle.state.specs.declared.Outcome.{Outcome}
-use Rattle.answer.specs.declared.Verdict.TheVariants.{Pass}
 use Rattle.answer.specs.Answer.{number_of, cost_of}
 use Rattle.layout.specs.Bounded.{at, is_zero, list_from}
 use Rattle.volume.specs.Tables.{Memory, Lengths, memory, sector_at, tables_of}
@@ -143,7 +143,7 @@ batch_marked : (g : Geometry) (w : World) (words blocks bytes : List ℕ) (allow
 unfolding batch_run
 batch_marked g w words blocks bytes allowance answers k out n own count some last m is =
     let v = judged (batch_checks w.state w.memory words (length blocks) (length bytes) (length answers)) in
-    ⊎_elim (λ (e : v ≡ Pass).
+    ⊎_elim (λ (e : v ≡ Ok tt).
     let count' = rw e at count in
     let own' = rw e at own in
     subst (Marked g) (sym (rw e at is))

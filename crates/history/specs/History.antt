@@ -1,5 +1,5 @@
 -- Document 01, "Whole histories": lists of calls, the plain disk, and what is live in an image.
-use Rattle.std.specs.Prelude.{ℕ, ◌-◌, ◌≤◌, ◌<◌, ◌≡◌, Bool, true, false, cond, List, [], ◌∷◌, length, eqb}
+use Rattle.std.specs.Prelude.{ℕ, ◌-◌, ◌≤◌, ◌<◌, ◌≡◌, Bool, true, false, cond, List, [], ◌∷◌, length, eqb, Result, Ok, Err, ⊤}
 use Rattle.std.proofs.Math.Option.{some}
 use Rattle.geometry.specs.declared.Geometry.{Geometry}
 use Rattle.geometry.specs.declared.Drive.{Drive}
@@ -7,11 +7,10 @@ use Rattle.state.specs.declared.State.{State}
 use Rattle.geometry.specs.Geometry.{pieces_for, settings_of, drive_fits}
 use Rattle.state.specs.declared.Outcome.{Outcome}
 use Rattle.state.specs.declared.BatchOutcome.{BatchOutcome}
+use Rattle.answer.specs.declared.Refusal.{Refusal}
 use Rattle.answer.specs.declared.Cost.{Cost}
 use Rattle.answer.specs.declared.Answer.{Answer}
 use Rattle.answer.specs.declared.Answer.TheVariants.{Accepted, Refused}
-use Rattle.answer.specs.declared.Verdict.{Verdict}
-use Rattle.answer.specs.declared.Verdict.TheVariants.{Pass, Refuse}
 use Rattle.answer.specs.Answer.{number_of, cost_of}
 use Rattle.layout.specs.Bounded.{at, elem, is_zero, updates}
 use Rattle.layout.specs.MapSector.{MapSector, View}
@@ -41,9 +40,9 @@ pub record World : Type 0 where
   pub memory : Memory
 
 -- The run of a batch: refused as a whole it answers for no commit.
-abbrev pub unless_whole : Verdict → State → Memory → Answered → Answered
-unless_whole Pass s m done = done
-unless_whole (Refuse r) s m done = record { outcomes = []; state = s; memory = m }
+abbrev pub unless_whole : Result ⊤ Refusal → State → Memory → Answered → Answered
+unless_whole (Ok u) s m done = done
+unless_whole (Err r) s m done = record { outcomes = []; state = s; memory = m }
 
 unfoldable pub batch_run : Rules → World → List ℕ → List ℕ → List ℕ → ℕ → List ℕ → Answered
 batch_run rules w words blocks bytes allowance answers =
@@ -53,9 +52,9 @@ batch_run rules w words blocks bytes allowance answers =
     (commits_made rules s m (commits_in words blocks bytes) allowance)
 
 -- What a batch answers as a whole.
-abbrev pub whole_answer : Verdict → Cost → Answer
-whole_answer Pass cost = Accepted cost
-whole_answer (Refuse r) cost = Refused r
+abbrev pub whole_answer : Result ⊤ Refusal → Cost → Answer
+whole_answer (Ok u) cost = Accepted cost
+whole_answer (Err r) cost = Refused r
 
 abbrev pub whole_outcome : BatchOutcome → Outcome
 whole_outcome o = record { answer = whole_answer o.verdict o.cost; state = o.state }

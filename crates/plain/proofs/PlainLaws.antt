@@ -1,51 +1,11 @@
 -- States and results in plain numbers, by the tests that the code makes.
-use Prim.Native.Nat.{ℕ, ◌<◌, ◌≤◌}
-use mathlib.Core.Path.{◌≡◌, refl, sym, ap, ◌∙◌}
-use mathlib.Core.Bool.{Bool, true, false}
-use mathlib.Core.Logic.{⊎_elim}
-use native.Mathlib.Nat.{eq-or-lt_of_le}
-use native.Mathlib.Omega.{arith}
-use borrow.Author.Tests.{eq-eqb, ne_eqb}
-use Rattle.state.specs.declared.State.{State}
-use Rattle.state.specs.declared.Phase.{Phase}
-use Rattle.state.specs.declared.Phase.TheVariants.{Running, Parked, Cut}
+use Prim.Native.Nat.{ℕ}
+use mathlib.Core.Path.{◌≡◌, ap, ◌∙◌}
 use Rattle.state.specs.declared.Outcome.{Outcome}
 use Rattle.state.specs.declared.BatchOutcome.{BatchOutcome}
-use Rattle.answer.specs.declared.Answer.{Answer}
-use Rattle.answer.specs.Answer.{is_refusal, verdict_number, number_of, cost_of, way_of, reads_of}
+use Rattle.answer.specs.Answer.{verdict_number, number_of, cost_of, way_of, reads_of}
 use Rattle.plain.specs.declared.CState.{CState}
-use Rattle.state.specs.State.{phase_number}
-use Rattle.plain.specs.Plain.{phase_of, state_in, state_of, plain_in, plain_of, state_left, joined, result_of, phase_left, batch_joined, batch_result_of}
-
-pub phase_cut : (n : ℕ) → 1 < n → Cut ≡ phase_of n
-unfolding phase_of
-phase_cut n h = rw (ne_eqb n 0 (λ (z : n ≡ 0). omega arith), ne_eqb n 1 (λ (z : n ≡ 1). omega arith)) refl
-
-pub phase_parked : (n : ℕ) → n ≡ 1 → Parked ≡ phase_of n
-unfolding phase_of
-phase_parked n e = rw (ne_eqb n 0 (λ (z : n ≡ 0). omega arith), eq-eqb n 1 e) refl
-
-pub phase_running : (n : ℕ) → n ≤ 1 → (n ≡ 1 → ⊥) → Running ≡ phase_of n
-unfolding phase_of
-phase_running n h d =
-    let e : n ≡ 0 = ⊎_elim (λ (z : n ≡ 1). absurd (d z)) (λ (z : n < 1). omega arith) (eq-or-lt_of_le h) in
-    rw (eq-eqb n 0 e) refl
-
-pub state_is : (c : CState) (p : Phase) → p ≡ phase_of c.phase → state_in c p ≡ state_of c
-state_is c p e = ap (state_in c) e
-
-pub plain_is : (s : State) (p : ℕ) → p ≡ phase_number s.phase → plain_in s p ≡ plain_of s
-plain_is s p e = ap (plain_in s) e
-
--- A refusal keeps the state that came.
-module _ (c : CState) (answer : Answer) (s : State) (b : Bool) (f : b ≡ is_refusal answer) where
-  pub left_kept : b ≡ true → c ≡ state_left c answer s
-  unfolding state_left
-  left_kept e = rw (sym f ∙ e) refl
-
-  pub left_other : (r : CState) → r ≡ plain_of s → b ≡ false → r ≡ state_left c answer s
-  unfolding state_left
-  left_other r q e = rw (sym f ∙ e) q
+use Rattle.plain.specs.Plain.{plain_in, state_left, joined, result_of, phase_left, batch_joined, batch_result_of}
 
 pub result_is : (c : CState) (o : Outcome) (answer stores skipped way read : ℕ) (left : CState)
     → answer ≡ number_of o.answer → stores ≡ (cost_of o.answer).stores → skipped ≡ (cost_of o.answer).skipped
@@ -59,15 +19,6 @@ result_is c o answer stores skipped way read left a b k d e f =
     ∙ ap (λ (x : ℕ). joined (number_of o.answer) (cost_of o.answer) x read left) d
     ∙ ap (λ (x : ℕ). joined (number_of o.answer) (cost_of o.answer) (way_of o.answer) x left) e
     ∙ ap (joined (number_of o.answer) (cost_of o.answer) (way_of o.answer) (reads_of o.answer)) f
-
--- The phase after commits.
-pub phase_changed : (came : ℕ) (phase : Phase) (r : ℕ) → came ≡ 0 → r ≡ phase_number phase → r ≡ phase_left came phase
-unfolding phase_left
-phase_changed came phase r e f = rw (eq-eqb came 0 e) f
-
-pub phase_kept : (came : ℕ) (phase : Phase) → (came ≡ 0 → ⊥) → came ≡ phase_left came phase
-unfolding phase_left
-phase_kept came phase d = rw (ne_eqb came 0 d) refl
 
 pub batch_result_is : (c : CState) (o : BatchOutcome) (answer phase : ℕ) → answer ≡ verdict_number o.verdict → phase ≡ phase_left c.phase o.state.phase
     → batch_joined answer o.answered o.cost (plain_in o.state phase) ≡ batch_result_of c o

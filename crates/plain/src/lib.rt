@@ -73,85 +73,95 @@ pub struct CBatchResult {
 }
 
 // A number that is no phase lets no call go on but format and recover, as cut does.
+// These two are no `From`: neither type is of this crate.
+#[tactic(auto, unfolding(crate::specs::Plain::phase_of))]
 fn phase_of(number: u32) -> Phase
     ensures { result ≡ phase_of number }
 {
-    if 1 < number {
-        return Phase::Cut;
+    match number {
+        0 => Phase::Running,
+        1 => Phase::Parked,
+        _ => Phase::Cut,
     }
-    if number == 1 {
-        return Phase::Parked;
-    }
-    Phase::Running
 }
 
 fn phase_number(phase: Phase) -> u32
     ensures { result ≡ phase_number phase }
 {
-    match phase {
-        Phase::Running => 0,
-        Phase::Parked => 1,
-        Phase::Cut => 2,
+    phase as u32
+}
+
+impl From<CState> for State {
+    ghost from_gives = { λ c s. s ≡ state_of c };
+
+    fn from(c: CState) -> State {
+        State {
+            geometry: Geometry { n: c.n, l: c.l },
+            tail: c.tail,
+            number: c.number,
+            phase: phase_of(c.phase),
+            drive: Drive {
+                sectors: c.per_track,
+                tracks: c.tracks,
+                switch: c.head_switch,
+            },
+        }
+    }
+}
+
+impl From<CSettings> for Settings {
+    ghost from_gives = { λ c settings. settings ≡ settings_in c };
+
+    fn from(c: CSettings) -> Settings {
+        Settings {
+            l: c.l,
+            drive: Drive {
+                sectors: c.per_track,
+                tracks: c.tracks,
+                switch: c.head_switch,
+            },
+        }
     }
 }
 
 pub fn state_of(c: CState) -> State
     ensures { result ≡ state_of c }
 {
-    let phase = phase_of(c.phase);
-    let geometry = Geometry { n: c.n, l: c.l };
-    let drive = Drive {
-        sectors: c.per_track,
-        tracks: c.tracks,
-        switch: c.head_switch,
-    };
-    State {
-        geometry,
-        tail: c.tail,
-        number: c.number,
-        phase,
-        drive,
-    }
+    State::from(c)
 }
 
 pub fn settings_of(c: CSettings) -> Settings
     ensures { result ≡ settings_in c }
 {
-    let drive = Drive {
-        sectors: c.per_track,
-        tracks: c.tracks,
-        switch: c.head_switch,
-    };
-    Settings { l: c.l, drive }
+    Settings::from(c)
 }
 
-fn plain_of(s: State) -> CState
-    ensures { result ≡ plain_of s }
-{
-    let came = s.phase;
-    let phase = phase_number(came);
-    let g = s.geometry;
-    let drive = s.drive;
-    CState {
-        n: g.n,
-        l: g.l,
-        tail: s.tail,
-        number: s.number,
-        phase,
-        per_track: drive.sectors,
-        tracks: drive.tracks,
-        head_switch: drive.switch,
+impl From<State> for CState {
+    ghost from_gives = { λ s c. c ≡ plain_of s };
+
+    fn from(s: State) -> CState {
+        CState {
+            n: s.geometry.n,
+            l: s.geometry.l,
+            tail: s.tail,
+            number: s.number,
+            phase: phase_number(s.phase),
+            per_track: s.drive.sectors,
+            tracks: s.drive.tracks,
+            head_switch: s.drive.switch,
+        }
     }
 }
 
 // The state that goes back: after a refusal it is the one that came, a number that is no phase too.
+#[tactic(auto, unfolding(crate::specs::Plain::state_left))]
 fn state_left(c: CState, answer: Answer, s: State) -> CState
     ensures { result ≡ state_left c answer s }
 {
     if answer.is_refusal() {
         return c;
     }
-    plain_of(s)
+    CState::from(s)
 }
 
 pub fn result_of(c: CState, o: Outcome) -> CResult
@@ -182,6 +192,7 @@ pub fn result_of(c: CState, o: Outcome) -> CResult
 }
 
 // The phase after commits: only that of a running volume can have changed, and a number that is no phase goes back as it came.
+#[tactic(auto, unfolding(crate::specs::Plain::phase_left))]
 fn phase_left(came: u32, phase: Phase) -> u32
     ensures { result ≡ phase_left came phase }
 {
@@ -200,7 +211,7 @@ pub fn batch_result_of(c: CState, o: BatchOutcome) -> CBatchResult
     let g = s.geometry;
     let drive = s.drive;
     let after = s.phase;
-    let answer = verdict.number();
+    let answer = answer::verdict_number(verdict);
     let phase = phase_left(c.phase, after);
     CBatchResult {
         answer,

@@ -12,8 +12,6 @@ use Rattle.geometry.specs.Geometry.{sector_bytes, pieces_for, used_bytes, geomet
 use Rattle.state.specs.declared.State.{State}
 use Rattle.answer.specs.declared.Refusal.{Refusal}
 use Rattle.answer.specs.declared.Answer.TheVariants.{Walked, Refused}
-use Rattle.answer.specs.declared.Verdict.{Verdict}
-use Rattle.answer.specs.declared.Verdict.TheVariants.{Pass, Refuse}
 use Rattle.volume.specs.Tables.{memory, sector_at, tables_of}
 use Rattle.volume.specs.Refusals.{judged}
 use Rattle.volume.specs.Store.{After, after, performed, unless_refused}
@@ -21,7 +19,7 @@ use Rattle.volume.specs.Format.{size_checks}
 use Rattle.volume.specs.Recover.{Finding, found, park_sector_cleared, is_blank, scan_finding, finding_of, recovery_action, recovered, image_view, recover_of}
 use Rattle.layout.specs.ParkRecord.{parked_in}
 use Rattle.checks.proofs.SizeLaws.{Lengths, volume_passed, volume_range}
-use Rattle.std.specs.Prelude.{None}
+use Rattle.std.specs.Prelude.{None, Result, Ok, Err, ⊤}
 use Rattle.walk_start.specs.Starting.{start_of}
 use Rattle.walk.proofs.WalkedLaws.{found_nowhere}
 use Rattle.resume.proofs.ResumeLaws.{performed_any, recovered_any}
@@ -63,7 +61,7 @@ module _ (im mp pl nu us : List ℕ) (settings : Settings) (g : Geometry) (asked
       → r ≡ found_in (geometry_of (length im / 512) settings) allowance
   asked_scan allowance r s e = asked_for allowance r (e ∙ ap (recovered g settings.drive allowance (memory im mp pl nu us)) (sym (found_nowhere g (sector_at im) s)))
 
-  module _ (pass : Pass ≡ judged (size_checks (memory im mp pl nu us) settings)) where
+  module _ (pass : Ok tt ≡ judged (size_checks (memory im mp pl nu us) settings)) where
     passed : Lengths im mp pl nu us g
     passed = volume_passed im mp pl nu us settings g asked pass
 
@@ -78,26 +76,26 @@ module _ (im mp pl nu us : List ℕ) (settings : Settings) (g : Geometry) (asked
 
 -- The call.
 module _ (s : State) (im mp pl nu us : List ℕ) (settings : Settings) (allowance : ℕ) where
-  recover_is : (v : Verdict) → v ≡ judged (size_checks (memory im mp pl nu us) settings)
+  recover_is : (v : Result ⊤ Refusal) → v ≡ judged (size_checks (memory im mp pl nu us) settings)
       → unless_refused v s (memory im mp pl nu us)
       (recovered (geometry_of (length im / 512) settings) settings.drive allowance (memory im mp pl nu us)
       (finding_of (geometry_of (length im / 512) settings) (image_view (geometry_of (length im / 512) settings) (sector_at im)) (sector_at im 0)))
       ≡ recover_of s (memory im mp pl nu us) settings allowance
   unfolding recover_of memory
   recover_is v e =
-      ap (λ (w : Verdict).
+      ap (λ (w : Result ⊤ Refusal).
       unless_refused w s (memory im mp pl nu us)
       (recovered (geometry_of (length im / 512) settings) settings.drive allowance (memory im mp pl nu us)
       (finding_of (geometry_of (length im / 512) settings) (image_view (geometry_of (length im / 512) settings) (sector_at im)) (sector_at im 0))))
       e
 
-  pub recover_refused : (r : Refusal) → Refuse r ≡ judged (size_checks (memory im mp pl nu us) settings)
+  pub recover_refused : (r : Refusal) → Err r ≡ judged (size_checks (memory im mp pl nu us) settings)
       → after (record { answer = Refused r; state = s }) (memory im mp pl nu us) ≡ recover_of s (memory im mp pl nu us) settings allowance
-  recover_refused r e = recover_is (Refuse r) e
+  recover_refused r e = recover_is (Err r) e
 
-  pub recover_passed : (r : After) → Pass ≡ judged (size_checks (memory im mp pl nu us) settings)
+  pub recover_passed : (r : After) → Ok tt ≡ judged (size_checks (memory im mp pl nu us) settings)
       → r
       ≡ recovered (geometry_of (length im / 512) settings) settings.drive allowance (memory im mp pl nu us)
       (finding_of (geometry_of (length im / 512) settings) (image_view (geometry_of (length im / 512) settings) (sector_at im)) (sector_at im 0))
       → r ≡ recover_of s (memory im mp pl nu us) settings allowance
-  recover_passed r e f = f ∙ recover_is Pass e
+  recover_passed r e f = f ∙ recover_is (Ok tt) e

@@ -1,9 +1,8 @@
 // The recover call: the log is found again by a walk from the tail that was parked, or by a scan of all sectors.
 #![tactic(auto)]
 
-ghost use Rattle.std.specs.Prelude.{◌≡◌, true, ◌*◌, ◌/◌, Some, length};
+ghost use Rattle.std.specs.Prelude.{◌≡◌, true, ◌*◌, ◌/◌, Some, length, Ok};
 ghost use Rattle.geometry.specs.Geometry.{sector_bytes, pieces_for, used_bytes, geometry_of, geometry_fits};
-ghost use Rattle.answer.specs.declared.Verdict.TheVariants.{Pass};
 ghost use Rattle.layout.specs.ParkRecord.{parked_in};
 ghost use Rattle.volume.specs.Tables.{sector_at, memory};
 ghost use Rattle.volume.specs.Refusals.{judged};
@@ -12,7 +11,7 @@ ghost use Rattle.volume.specs.Format.{size_checks};
 ghost use Rattle.volume.specs.Recover.{finding_of, scan_finding, recovered, image_view, recover_of};
 ghost use Rattle.walk_start.specs.Starting.{start_of};
 
-use answer::{Answer, Verdict};
+use answer::Answer;
 use geometry::{Drive, Geometry, Settings};
 use state::tail::Tail;
 use state::{Outcome, State};
@@ -123,7 +122,7 @@ fn find(
     settings: Settings,
     allowance: u32,
 ) -> Outcome
-    requires { Pass ≡ judged (size_checks (memory image.old map.old places.old numbers.old used.old) settings) }
+    requires { Ok tt ≡ judged (size_checks (memory image.old map.old places.old numbers.old used.old) settings) }
     ensures { after result (memory image.new map.new places.new numbers.new used.new) ≡ recovered (geometry_of (length image.old / sector_bytes) settings) settings.drive allowance (memory image.old map.old places.old numbers.old used.old) (finding_of (geometry_of (length image.old / sector_bytes) settings) (image_view (geometry_of (length image.old / sector_bytes) settings) (sector_at image.old)) (sector_at image.old 0)) }
 {
     let g = settings.volume((image.len() / Geometry::SECTOR) as u32);
@@ -156,10 +155,10 @@ pub fn recover(
         used.len(),
     );
     match verdict {
-        Verdict::Refuse(refusal) => Outcome {
+        Err(refusal) => Outcome {
             answer: Answer::Refused(refusal),
             state: s,
         },
-        Verdict::Pass => find(image, map, places, numbers, used, settings, allowance),
+        Ok(()) => find(image, map, places, numbers, used, settings, allowance),
     }
 }

@@ -309,8 +309,7 @@ pub fn answer_differs(done: Outcome, b: &[u32; board::SIZE]) -> u32 {
 // The same of two batches: 1 the answer to the call as a whole, 2 the stores, 12 the sectors skipped, 17 how many commits were answered, 5 the
 // state, 18 the words of the answers; 0 nothing.
 pub fn batch_differs(done: BatchOutcome, b: &[u32; board::SIZE], answers: &[u32]) -> u32 {
-    let verdict = done.verdict;
-    if verdict.number() != board::get(b, board::ANSWER, 0) {
+    if answer::verdict_number(done.verdict) != board::get(b, board::ANSWER, 0) {
         return 1;
     }
     let cost = done.cost;

@@ -1,6 +1,6 @@
 // The answer of a backlog, and of each of its commits: the line that the commit made singly would have.
 use crate::say;
-use answer::{Answer, Cost, Refusal, Verdict};
+use answer::{Answer, Cost, Refusal};
 use paper::request::Call;
 use state::State;
 use std::io::Print;
@@ -56,11 +56,11 @@ pub fn say_commit(rt: &impl Print, call: Call, number: u32, cost: Cost, state: S
 }
 
 // The line of the backlog itself: turned back as a whole, or how many of its commits were answered.
-pub fn say_backlog(rt: &impl Print, verdict: Verdict, answered: u32, commits: u32) {
+pub fn say_backlog(rt: &impl Print, verdict: Result<(), Refusal>, answered: u32, commits: u32) {
     say::say_name(rt, Call::Backlog);
     match verdict {
-        Verdict::Refuse(refusal) => say::say_refusal(rt, Call::Backlog, Answer::Refused(refusal)),
-        Verdict::Pass => {
+        Err(refusal) => say::say_refusal(rt, Call::Backlog, Answer::Refused(refusal)),
+        Ok(()) => {
             say::say_count(rt, b": ", answered);
             say::say_count(rt, b" of ", commits);
             say::say(rt, b" answered\n");

@@ -10,7 +10,7 @@ ghost use Rattle.volume.specs.Store.{after};
 ghost use Rattle.verdict.specs.Known.{KnownAgreed};
 ghost use Rattle.volume.specs.Calls.{commit_checks, commit_of, drop_change, write_of, drop_of};
 
-use answer::{Answer, Verdict};
+use answer::{Answer, Refusal};
 use state::{Outcome, State};
 
 // The refusals of a write of so many bytes: as many as the named blocks have.
@@ -25,7 +25,7 @@ fn write_verdict(
     blocks: &[u32],
     bytes: usize,
     known: bool,
-) -> Verdict
+) -> Result<(), Refusal>
     requires { KnownAgreed known s (memory image.now map.now places.now numbers.now used.now) }
     ensures { result ≡ judged (commit_checks base s (memory image.now map.now places.now numbers.now used.now) head blocks.now (eqb bytes (sector_bytes * length blocks.now)) (not (ltb (free_sectors s.geometry.n (bit_at used.now)) (length blocks.now + pieces_for s.geometry.l)))) }
 {
@@ -67,11 +67,11 @@ pub fn write_commit(
         known,
     );
     match verdict {
-        Verdict::Refuse(refusal) => Outcome {
+        Err(refusal) => Outcome {
             answer: Answer::Refused(refusal),
             state: s,
         },
-        Verdict::Pass => commit::commit(
+        Ok(()) => commit::commit(
             s,
             image,
             map,
@@ -128,26 +128,23 @@ pub fn drop_commit(
         s, image, map, places, numbers, used, head, blocks, fit, 0, known,
     );
     match verdict {
-        Verdict::Refuse(refusal) => Outcome {
+        Err(refusal) => Outcome {
             answer: Answer::Refused(refusal),
             state: s,
         },
-        Verdict::Pass => {
-            let none = [0u8; 1];
-            commit::commit(
-                s,
-                image,
-                map,
-                places,
-                numbers,
-                used,
-                head,
-                blocks,
-                &none[..0],
-                0,
-                allowance,
-            )
-        }
+        Ok(()) => commit::commit(
+            s,
+            image,
+            map,
+            places,
+            numbers,
+            used,
+            head,
+            blocks,
+            &[],
+            0,
+            allowance,
+        ),
     }
 }
 

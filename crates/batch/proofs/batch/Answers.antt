@@ -5,14 +5,14 @@ use Rattle.batch.proofs.batch.Goals as goal
 pub make_commits-requires : goal.make_commits-requires
 make_commits-requires c =
     whole_lent c.args.s c.args.image.now c.args.map.now c.args.places.now c.args.numbers.now c.args.used.now c.args.words.now c.args.blocks.now c.args.bytes.now c.args.allowance c.args.answers.now
-    c.batch_verdict-verdict.result c.batch_verdict-verdict.ensures c.in-Pass.is
+    c.batch_verdict-verdict.result c.batch_verdict-verdict.ensures c.in-Ok.is
 
-pub returns-in-Refuse : goal.returns-in-Refuse
-returns-in-Refuse c =
+pub returns-in-Err : goal.returns-in-Err
+returns-in-Err c =
     whole_refused c.args.s c.args.image.now c.args.map.now c.args.places.now c.args.numbers.now c.args.used.now c.args.words.now c.args.blocks.now c.args.bytes.now c.args.allowance c.args.answers.now
-    c.batch_verdict-verdict.result c.batch_verdict-verdict.ensures _ _ c.stores_alone.ensures c.in-Refuse.is
+    c.batch_verdict-verdict.result c.batch_verdict-verdict.ensures _ _ c.stores_alone.ensures c.in-Err.is
 
-pub returns-in-Pass : goal.returns-in-Pass
-returns-in-Pass c =
+pub returns-in-Ok : goal.returns-in-Ok
+returns-in-Ok c =
     whole_done c.args.s c.args.image.now c.args.map.now c.args.places.now c.args.numbers.now c.args.used.now c.args.words.now c.args.blocks.now c.args.bytes.now c.args.allowance c.args.answers.now
-    c.batch_verdict-verdict.result c.batch_verdict-verdict.ensures c.in-Pass.is _ c.make_commits.ensures
+    c.batch_verdict-verdict.result c.batch_verdict-verdict.ensures c.in-Ok.is _ c.make_commits.ensures

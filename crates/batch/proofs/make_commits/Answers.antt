@@ -36,22 +36,6 @@ overflow_add-skipped c =
     let h = skipped_fits _ _ _ _ _ _ _ c.loop-i.i _ _ _ _ _ _ _ c.loop-i.invariant.7 c.loop-i-test.true _ _ c.answer_commit-o.ensures.0 _ c.answer_commit-o.ensures.1 in
     omega arith
 
-pub overflow_mul-block : goal.overflow_mul-block
-overflow_mul-block c =
-    omega arith
-
-pub overflow_add-block : goal.overflow_add-block
-overflow_add-block c =
-    omega arith
-
-pub offset_bounds-words-i : goal.offset_bounds-words-i
-offset_bounds-words-i c =
-    omega arith
-
-pub bounds-words-i : goal.bounds-words-i
-bounds-words-i c =
-    omega arith
-
 pub overflow_cast-block : goal.overflow_cast-block
 overflow_cast-block c =
     let h = (c.type_inv.words (4 * c.loop-i.i + 2)).fits in
@@ -63,22 +47,6 @@ overflow_add-block-in-loop-i c =
     let own = (c.type_inv.words (4 * c.loop-i.i + 2)).fits in
     omega arith
 
-pub overflow_mul-byte : goal.overflow_mul-byte
-overflow_mul-byte c =
-    omega arith
-
-pub overflow_add-byte : goal.overflow_add-byte
-overflow_add-byte c =
-    omega arith
-
-pub offset_bounds-words-i-in-loop-i : goal.offset_bounds-words-i-in-loop-i
-offset_bounds-words-i-in-loop-i c =
-    omega arith
-
-pub bounds-words-i-in-loop-i : goal.bounds-words-i-in-loop-i
-bounds-words-i-in-loop-i c =
-    omega arith
-
 pub overflow_cast-byte : goal.overflow_cast-byte
 overflow_cast-byte c =
     let h = (c.type_inv.words (4 * c.loop-i.i + 3)).fits in
@@ -88,18 +56,6 @@ pub overflow_add-byte-in-loop-i : goal.overflow_add-byte-in-loop-i
 overflow_add-byte-in-loop-i c =
     let before = sum_fits (bytes_of c.args.words.now) (λ j. (c.type_inv.words (4 * j + 3)).fits) c.loop-i.i in
     let own = (c.type_inv.words (4 * c.loop-i.i + 3)).fits in
-    omega arith
-
-pub overflow_add-i : goal.overflow_add-i
-overflow_add-i c =
-    omega arith
-
-pub overflow_sub-allowance : goal.overflow_sub-allowance
-overflow_sub-allowance c =
-    omega arith
-
-pub answered-requires : goal.answered-requires
-answered-requires c =
     omega arith
 
 pub shape_of-image-then-number-ne0 : goal.shape_of-image-then-number-ne0
@@ -149,14 +105,6 @@ loop-i-preserved c =
           (ap (λ (x : ℕ). c.loop-i.skipped + x) c.skipped-skipped.ensures) ok (λ e. kept.agree) _ _ refl refl,
     )
 
-pub overflow_sub-allowance-2 : goal.overflow_sub-allowance-2
-overflow_sub-allowance-2 c =
-    omega arith
-
-pub answered-requires-2 : goal.answered-requires-2
-answered-requires-2 c =
-    omega arith
-
 pub shape_of-image : goal.shape_of-image
 shape_of-image c =
     c.loop-i.invariant.0
@@ -184,4 +132,4 @@ shape_of-answers c =
 pub returns : goal.returns
 returns c =
     ap (λ x. batch_left x (memory c.loop-i.image c.loop-i.map c.loop-i.places c.loop-i.numbers c.loop-i.used) c.loop-i.answers) c.answered-2.ensures
-    ∙ making_ends _ _ _ _ _ _ _ c.loop-i.i _ _ c.loop-i.left c.loop-i.skipped _ _ _ c.loop-i.invariant.7 c.loop-i-test.false c.loop-i.i _ refl (omega arith)
+    ∙ making_ends _ _ _ _ _ _ _ c.loop-i.i _ _ c.loop-i.left c.loop-i.skipped _ _ _ c.loop-i.invariant.7 c.loop-i-test.false _ _ (omega arith) (omega arith)

@@ -4,4 +4,4 @@ use Rattle.plain.proofs.batch_result_of.Goals as goal
 
 pub returns : goal.returns
 returns c =
-    batch_result_is c.args.c c.args.o _ _ c.number-answer.ensures c.phase_left-phase.ensures
+    batch_result_is c.args.c c.args.o _ _ c.verdict_number-answer.ensures c.phase_left-phase.ensures

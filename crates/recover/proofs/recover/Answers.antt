@@ -6,16 +6,16 @@ use Rattle.recover.proofs.recover.Goals as goal
 
 pub find-requires : goal.find-requires
 find-requires c =
-    sym c.in-Pass.is ∙ c.size_verdict-verdict.ensures ∙ by_lengths _ _ _ _ _ _
+    sym c.in-Ok.is ∙ c.size_verdict-verdict.ensures ∙ by_lengths _ _ _ _ _ _
 
-pub returns-in-Refuse : goal.returns-in-Refuse
-returns-in-Refuse c =
+pub returns-in-Err : goal.returns-in-Err
+returns-in-Err c =
     recover_refused _ _ _ _ _ _ _ _ _
-    (sym c.in-Refuse.is ∙ c.size_verdict-verdict.ensures ∙ by_lengths
+    (sym c.in-Err.is ∙ c.size_verdict-verdict.ensures ∙ by_lengths
     _ _ _ _ _ _)
 
-pub returns-in-Pass : goal.returns-in-Pass
-returns-in-Pass c =
+pub returns-in-Ok : goal.returns-in-Ok
+returns-in-Ok c =
     recover_passed c.args.s c.args.image.now c.args.map.now c.args.places.now c.args.numbers.now c.args.used.now c.args.settings c.args.allowance _
-    (sym c.in-Pass.is ∙ c.size_verdict-verdict.ensures ∙ by_lengths c.args.image.now c.args.map.now c.args.places.now c.args.numbers.now c.args.used.now c.args.settings)
+    (sym c.in-Ok.is ∙ c.size_verdict-verdict.ensures ∙ by_lengths c.args.image.now c.args.map.now c.args.places.now c.args.numbers.now c.args.used.now c.args.settings)
     c.find.ensures
