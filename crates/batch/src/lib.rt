@@ -12,6 +12,7 @@ ghost use Rattle.batch.specs.Batch.{batch_left, Lent};
 
 use answer::{Answer, Cost, Refusal};
 use batch_checks::{ANSWER_WORDS, COMMIT_WORDS};
+use lending::Lengths;
 use state::{BatchOutcome, Outcome, State};
 
 // One commit by its kind: 0 a write, 1 a drop, which has no bytes. The tables are not looked at where they are known to agree with
@@ -184,13 +185,16 @@ pub fn batch(
 ) -> BatchOutcome
     ensures { batch_left result (memory image.new map.new places.new numbers.new used.new) answers.new ≡ batch_of s (memory image.old map.old places.old numbers.old used.old) words.now blocks.now bytes.now allowance answers.old }
 {
+    let lent = Lengths {
+        image: image.len(),
+        map: map.len(),
+        places: places.len(),
+        numbers: numbers.len(),
+        used: used.len(),
+    };
     let verdict = batch_checks::batch_verdict(
         s,
-        image.len(),
-        map.len(),
-        places.len(),
-        numbers.len(),
-        used.len(),
+        lent,
         words,
         blocks.len(),
         bytes.len(),

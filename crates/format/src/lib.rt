@@ -11,6 +11,7 @@ ghost use Rattle.power.specs.Power.{powered};
 
 use answer::Answer;
 use geometry::{Geometry, Settings};
+use lending::Lengths;
 use state::{Outcome, State};
 
 // All stores of a format, in order, under the allowance.
@@ -73,14 +74,14 @@ pub fn format(
 ) -> Outcome
     ensures { after result (memory image.new map.new places.new numbers.new used.new) ≡ format_of s (memory image.old map.old places.old numbers.old used.old) settings allowance }
 {
-    let verdict = checks::size_verdict(
-        settings,
-        image.len(),
-        map.len(),
-        places.len(),
-        numbers.len(),
-        used.len(),
-    );
+    let lent = Lengths {
+        image: image.len(),
+        map: map.len(),
+        places: places.len(),
+        numbers: numbers.len(),
+        used: used.len(),
+    };
+    let verdict = checks::size_verdict(settings, lent);
     match verdict {
         Err(refusal) => Outcome {
             answer: Answer::Refused(refusal),

@@ -13,6 +13,7 @@ ghost use Rattle.walk_start.specs.Starting.{start_of};
 
 use answer::Answer;
 use geometry::{Drive, Geometry, Settings};
+use lending::Lengths;
 use state::tail::Tail;
 use state::{Outcome, State};
 
@@ -146,14 +147,14 @@ pub fn recover(
 ) -> Outcome
     ensures { after result (memory image.new map.new places.new numbers.new used.new) ≡ recover_of s (memory image.old map.old places.old numbers.old used.old) settings allowance }
 {
-    let verdict = checks::size_verdict(
-        settings,
-        image.len(),
-        map.len(),
-        places.len(),
-        numbers.len(),
-        used.len(),
-    );
+    let lent = Lengths {
+        image: image.len(),
+        map: map.len(),
+        places: places.len(),
+        numbers: numbers.len(),
+        used: used.len(),
+    };
+    let verdict = checks::size_verdict(settings, lent);
     match verdict {
         Err(refusal) => Outcome {
             answer: Answer::Refused(refusal),
