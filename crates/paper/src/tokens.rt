@@ -1,14 +1,13 @@
 // The words of a line: bytes between spaces or tabs. Positions past the end of a line count as its end.
-ghost use Rattle.std.specs.Prelude.{◌≤◌, length};
 
 // The byte at i, and 0 past the end.
 pub fn byte_at(line: &[u8], i: usize) -> u8 {
     line.get(i).copied().unwrap_or(0)
 }
 
-// The bytes from `from` up to `to`; none where these are no positions of the line.
-pub fn part(line: &[u8], from: usize, to: usize) -> &[u8] {
-    line.get(from..to).unwrap_or(&[])
+// The items from `from` up to `to`, as the bytes of a line; none where these are no positions of the list.
+pub fn part<T>(items: &[T], from: usize, to: usize) -> &[T] {
+    items.get(from..to).unwrap_or(&[])
 }
 
 // The position after i.
