@@ -190,7 +190,8 @@ fn answer_request(
 ) -> Desk {
     let drive = given.drive;
     let left = calls::lend(
-        rt, call, r, desk.state, given.size, drive, image, map, places, numbers, used, blocks, bytes,
+        rt, call, r, desk.state, given.size, drive, image, map, places, numbers, used, blocks,
+        bytes,
     );
     match call {
         Call::Format => desk.formatted(left.state, drive, has_volume(left.answer)),

@@ -254,9 +254,15 @@ pub fn gather(
         reader = reader.passed();
         match taken {
             Ok(g) if !g.closed => gathered = g,
-            Ok(g) => return Gathering { gathered: Some(g), reader },
+            Ok(g) => return Gathering {
+                gathered: Some(g),
+                reader,
+            },
             Err(Broken) => break,
         }
     }
-    Gathering { gathered: None, reader }
+    Gathering {
+        gathered: None,
+        reader,
+    }
 }
