@@ -75,7 +75,7 @@ pub fn data_at(line: &[u8], from: usize) -> Result<Data<'_>, Fault> {
     }
 }
 
-// The value of a hexadecimal digit, and 0 for any other byte.
+// The value of a hexadecimal digit, and 0 for any other byte. A match, since the library's `to_digit` gives a `char`'s as a u32.
 fn digit(b: u8) -> u8
     ensures { result ≤ 15 }
 {
