@@ -1,8 +1,8 @@
 // A backlog: its lines are gathered up to its end, and then its commits are made in one call.
 ghost use Rattle.line_reader.specs.Reader.{Placed};
 
-use crate::desk::{Desk, Lines};
-use crate::gather::{Gathered, Stage};
+use crate::desk::Desk;
+use crate::gather::Gathered;
 use crate::{calls, desk, gather};
 use answer::Cost;
 use batch_checks::{ANSWER_WORDS, COMMIT_WORDS};
@@ -39,41 +39,34 @@ fn lend(
     answers: &mut [u32],
 ) -> BatchOutcome {
     let size = s.geometry;
-    let n = calls::within(calls::bytes_of(size.n), image.len());
-    let l = calls::within(size.l as usize, map.len());
-    let p = calls::within(Geometry::pieces_for(size.l) as usize, places.len());
-    let q = calls::within(p, numbers.len());
-    let u = calls::within(size.used_bytes() as usize, used.len());
-    let a = calls::within(ANSWER_WORDS * g.commits as usize, answers.len());
+    let pieces = Geometry::pieces_for(size.l) as usize;
+    let commits = g.commits as usize;
     batch::batch(
         s,
-        &mut image[..n],
-        &mut map[..l],
-        &mut places[..p],
-        &mut numbers[..q],
-        &mut used[..u],
-        calls::blocks_part(words, 0, COMMIT_WORDS * g.commits as usize),
-        calls::blocks_part(blocks, 0, g.blocks),
+        calls::first(image, calls::bytes_of(size.n)),
+        calls::first(map, size.l as usize),
+        calls::first(places, pieces),
+        calls::first(numbers, pieces),
+        calls::first(used, size.used_bytes() as usize),
+        tokens::part(words, 0, COMMIT_WORDS * commits),
+        tokens::part(blocks, 0, g.blocks),
         tokens::part(bytes, 0, g.bytes),
         stores,
-        &mut answers[..a],
+        calls::first(answers, ANSWER_WORDS * commits),
     )
 }
 
 // The word at i, and 0 past the end.
 fn word_at(words: &[u32], i: usize) -> u32 {
-    if i < words.len() {
-        return words[i];
-    }
-    0
+    words.get(i).copied().unwrap_or(0)
 }
 
 // The name of a commit's line, by its kind.
 fn call_of(kind: u32) -> Call {
-    if kind == 1 {
-        return Call::Drop;
+    match kind {
+        1 => Call::Drop,
+        _ => Call::Write,
     }
-    Call::Write
 }
 
 // The line of a commit that was answered: its number, its cost, and the tail and number that it left.
@@ -89,10 +82,8 @@ fn say_commit(rt: &impl Print, s: State, words: &[u32], answers: &[u32], commit:
 }
 
 fn say_commits(rt: &impl Print, s: State, words: &[u32], answers: &[u32], answered: u32) {
-    let mut i = 0u32;
-    while i < answered {
+    for i in 0..answered {
         say_commit(rt, s, words, answers, i);
-        i += 1;
     }
 }
 
@@ -164,24 +155,15 @@ fn answer_commits(
         &mut blocks,
         &mut bytes,
     );
-    let gathered = found.gathered;
-    let after = found.reader;
-    let stage = gathered.stage;
-    match stage {
-        Stage::Closed => {
-            let made = make(
-                rt, desk, gathered, image, map, places, numbers, used, &words, &blocks, &bytes,
-                stores,
-            );
-            Turn {
-                desk: made,
-                reader: after,
-            }
-        }
-        _ => Turn {
-            desk: desk.stop(),
-            reader: after,
-        },
+    let desk = match found.gathered {
+        Some(gathered) => make(
+            rt, desk, gathered, image, map, places, numbers, used, &words, &blocks, &bytes, stores,
+        ),
+        None => desk.stop(),
+    };
+    Turn {
+        desk,
+        reader: found.reader,
     }
 }
 
@@ -201,10 +183,9 @@ fn answer_backlog(
     requires { Placed reader }
     ensures { Placed result.reader }
 {
-    let lines = desk.lines;
-    match lines {
-        Lines::Calls => Turn { desk, reader },
-        Lines::Backlog(stores) => answer_commits(
+    match desk.backlog {
+        None => Turn { desk, reader },
+        Some(stores) => answer_commits(
             rt, input, desk, stores, window, reader, image, map, places, numbers, used,
         ),
     }

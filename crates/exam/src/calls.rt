@@ -78,16 +78,6 @@ fn is_shown(
     true
 }
 
-// One more where a block is shown.
-fn counted(count: u32, shown: bool) -> u32 {
-    if shown {
-        if count < Geometry::MOST_BLOCKS {
-            return count + 1;
-        }
-    }
-    count
-}
-
 // How many blocks are not all zeros.
 fn show_blocks(
     rt: &impl Print,
@@ -99,13 +89,11 @@ fn show_blocks(
     used: &[u8],
     aloud: bool,
 ) -> u32 {
-    let l = s.geometry.l;
     let mut count = 0u32;
-    let mut b = 0u32;
-    while b < l {
-        let shown = is_shown(rt, s, image, map, places, numbers, used, b, aloud);
-        count = counted(count, shown);
-        b += 1;
+    for b in 0..s.geometry.l {
+        if is_shown(rt, s, image, map, places, numbers, used, b, aloud) {
+            count += 1;
+        }
     }
     count
 }
@@ -153,19 +141,15 @@ fn sector_part(image: &[u8], k: u32) -> &[u8] {
 
 // The sectors of the image, a line each, with the marks that a scan made where it found a log.
 fn say_sectors(rt: &impl Print, image: &[u8], g: Geometry, found: bool, used: &[u8]) {
-    let n = g.n;
-    let mut k = 0u32;
-    while k < n {
+    for k in 0..g.n {
         let live = found && live_marks::is_live(used, k as usize);
         sector_line::say_sector(rt, sector_part(image, k), k, g, live);
-        k += 1;
     }
 }
 
 // Marks the live sectors in the part of the used map that belongs to the volume.
 fn mark_live(image: &[u8], g: Geometry, used: &mut [u8]) -> bool {
-    let bytes = within(g.used_bytes() as usize, used.len());
-    live_marks::mark_live(image, g, &mut used[..bytes])
+    live_marks::mark_live(image, g, first(used, g.used_bytes() as usize))
 }
 
 // The sectors by the image alone, whatever the volume's own tables say.
@@ -176,9 +160,7 @@ fn show_sectors(rt: &impl Print, image: &[u8], g: Geometry) {
 }
 
 fn say_done(rt: &impl Print, call: Call, done: Outcome) {
-    let answer = done.answer;
-    let state = done.state;
-    say::say_answer(rt, call, answer, state);
+    say::say_answer(rt, call, done.answer, done.state);
 }
 
 // A call on the parts that belong to the volume.
@@ -232,28 +214,22 @@ fn perform(
 pub fn within(x: usize, most: usize) -> usize
     ensures { result ≤ most }
 {
-    if x <= most {
-        return x;
-    }
-    0
+    if x <= most { x } else { 0 }
+}
+
+// The first n items; none where there are not so many.
+pub fn first<T>(items: &mut [T], n: usize) -> &mut [T] {
+    let end = within(n, items.len());
+    &mut items[..end]
 }
 
 // The bytes of the blocks of a line.
 fn bytes_part(bytes: &[u8], count: usize) -> &[u8] {
     if count <= request::MOST {
-        return tokens::part(bytes, 0, count * Geometry::SECTOR);
+        tokens::part(bytes, 0, count * Geometry::SECTOR)
+    } else {
+        &[]
     }
-    tokens::part(bytes, 0, 0)
-}
-
-// The blocks from `from` up to `to`; none where these are no positions of the list.
-pub fn blocks_part(blocks: &[u32], from: usize, to: usize) -> &[u32] {
-    if to <= blocks.len() {
-        if from <= to {
-            return &blocks[from..to];
-        }
-    }
-    &blocks[..0]
 }
 
 // Lends the parts that belong to a volume of this size: of an image or a map that is out of range, nothing.
@@ -272,11 +248,7 @@ pub fn lend(
     blocks: &[u32],
     bytes: &[u8],
 ) -> Outcome {
-    let n = within(bytes_of(size.n), image.len());
-    let l = within(size.l as usize, map.len());
-    let p = within(Geometry::pieces_for(size.l) as usize, places.len());
-    let q = within(p, numbers.len());
-    let u = within(size.used_bytes() as usize, used.len());
+    let pieces = Geometry::pieces_for(size.l) as usize;
     perform(
         rt,
         call,
@@ -284,12 +256,12 @@ pub fn lend(
         s,
         size,
         drive,
-        &mut image[..n],
-        &mut map[..l],
-        &mut places[..p],
-        &mut numbers[..q],
-        &mut used[..u],
-        blocks_part(blocks, 0, r.count),
+        first(image, bytes_of(size.n)),
+        first(map, size.l as usize),
+        first(places, pieces),
+        first(numbers, pieces),
+        first(used, size.used_bytes() as usize),
+        tokens::part(blocks, 0, r.count),
         bytes_part(bytes, r.count),
     )
 }

@@ -3,22 +3,15 @@ ghost use Rattle.line_reader.specs.Reader.{Placed};
 
 use crate::given::Given;
 use crate::{calls, given};
+use answer::{Answer, Refusal};
 use geometry::{Drive, Geometry};
-use line_reader::{LINE, Reader, Standing, WINDOW};
-use paper::data::Trouble;
+use line_reader::{LINE, LineError, Reader, WINDOW};
 use paper::request;
 use paper::request::{Call, Request};
+use paper::trouble::{Fault, Trouble};
 use state::State;
 use std::io::Print;
 use wording::say;
-
-// Whose lines come next.
-#[derive(Clone, Copy)]
-pub enum Lines {
-    Calls,
-    // The commits of a backlog, which may make so many stores.
-    Backlog(u32),
-}
 
 #[derive(Clone, Copy)]
 pub struct Desk {
@@ -31,7 +24,8 @@ pub struct Desk {
     pub stopped: bool,
     // The line's number, from 1.
     pub line: u32,
-    pub lines: Lines,
+    // Where the commits of a backlog come next: the stores that they may make.
+    pub backlog: Option<u32>,
 }
 
 // The bytes of the sectors that the program holds, the largest map and its pieces, and the used map of so many sectors.
@@ -48,10 +42,7 @@ pub const LINE_BYTES: usize = request::MOST * Geometry::SECTOR;
 
 // The number after a line's.
 pub fn counted(line: u32) -> u32 {
-    if line < 4_294_967_295 {
-        return line + 1;
-    }
-    line
+    line.saturating_add(1)
 }
 
 impl Desk {
@@ -63,35 +54,23 @@ impl Desk {
             open: false,
             stopped: false,
             line: 0,
-            lines: Lines::Calls,
+            backlog: None,
         }
     }
 
     // The desk at the next line.
     fn moved(self) -> Desk {
-        let state = self.state;
-        let drive = self.drive;
-        let lines = self.lines;
         Desk {
-            state,
-            drive,
-            open: self.open,
-            stopped: self.stopped,
             line: counted(self.line),
-            lines,
+            ..self
         }
     }
 
     pub fn stop(self) -> Desk {
-        let state = self.state;
-        let drive = self.drive;
         Desk {
-            state,
-            drive,
-            open: self.open,
             stopped: true,
-            line: self.line,
-            lines: Lines::Calls,
+            backlog: None,
+            ..self
         }
     }
 
@@ -101,49 +80,35 @@ impl Desk {
             state,
             drive,
             open,
-            stopped: self.stopped,
-            line: self.line,
-            lines: Lines::Calls,
+            backlog: None,
+            ..self
         }
     }
 
     // After any other call.
     fn with(self, state: State) -> Desk {
-        let drive = self.drive;
         Desk {
             state,
-            drive,
-            open: self.open,
-            stopped: self.stopped,
-            line: self.line,
-            lines: Lines::Calls,
+            backlog: None,
+            ..self
         }
     }
 
     // Before the commits of a backlog.
     fn before_backlog(self, stores: u32) -> Desk {
-        let state = self.state;
-        let drive = self.drive;
         Desk {
-            state,
-            drive,
-            open: self.open,
-            stopped: self.stopped,
-            line: self.line,
-            lines: Lines::Backlog(stores),
+            backlog: Some(stores),
+            ..self
         }
     }
 
     // After a backlog, whose last line has this number.
     pub fn after_backlog(self, state: State, line: u32) -> Desk {
-        let drive = self.drive;
         Desk {
             state,
-            drive,
-            open: self.open,
-            stopped: self.stopped,
             line,
-            lines: Lines::Calls,
+            backlog: None,
+            ..self
         }
     }
 }
@@ -152,67 +117,60 @@ impl Desk {
 fn asked(desk: Desk, call: Call, r: Request) -> Given {
     match call {
         Call::Format => given::of_format(r),
-        _ => {
-            let there = desk.state.geometry;
-            let drive = desk.drive;
-            given::of_volume(r, there, drive)
-        }
+        _ => given::of_volume(r, desk.state.geometry, desk.drive),
     }
 }
 
 // What stops a call whose line is understood: no volume, or one that would be accepted and is larger than the program holds.
-fn obstacle(desk: Desk, call: Call, given: Given) -> Trouble {
+fn obstacle(desk: Desk, call: Call, given: Given) -> Result<(), Trouble> {
     let size = given.size;
-    let drive = given.drive;
     match call {
         Call::Format => {
-            if given::is_too_large(size) {
-                if drive.fits(size.n) {
-                    return Trouble::Sectors;
-                }
+            if given::is_too_large(size) && given.drive.fits(size.n) {
+                return Err(Trouble::Sectors);
             }
-            Trouble::Fine
+            Ok(())
         }
         _ => {
             if desk.open {
-                return Trouble::Fine;
+                return Ok(());
             }
-            Trouble::Volume
+            Err(Trouble::Volume)
         }
     }
 }
 
-// Whether a line is turned back, with the words for it.
-fn is_refused(
+// A request and what it is handed; none where its line is turned back, with the words for it.
+fn understood(
     rt: &impl Print,
     desk: Desk,
     call: Call,
-    r: Request,
-    given: Given,
     line: &[u8],
-) -> bool {
-    let number = desk.line;
-    if !r.is_fine() {
-        let found = r.trouble;
-        say::say_trouble(rt, number, line, call, r.at, found);
-        return true;
-    }
-    let trouble = obstacle(desk, call, given);
-    match trouble {
-        Trouble::Fine => false,
-        _ => {
-            say::say_obstacle(rt, number, line, trouble);
-            true
+    found: Result<Request, Fault>,
+) -> Option<(Request, Given)> {
+    let r = match found {
+        Ok(r) => r,
+        Err(fault) => {
+            say::say_trouble(rt, desk.line, line, call, fault);
+            return None;
+        }
+    };
+    let given = asked(desk, call, r);
+    match obstacle(desk, call, given) {
+        Ok(()) => Some((r, given)),
+        Err(trouble) => {
+            say::say_obstacle(rt, desk.line, line, trouble);
+            None
         }
     }
 }
 
 // Whether there is a volume after a format: none was made where its size or its settings are refused.
-fn has_volume(answer: u32) -> bool {
-    if answer == 1 {
-        return false;
-    }
-    answer != 11
+fn has_volume(answer: Answer) -> bool {
+    !matches!(
+        answer,
+        Answer::Refused(Refusal::Size | Refusal::WrongSettings)
+    )
 }
 
 // The volume's parts for a call, and the call.
@@ -230,16 +188,14 @@ fn answer_request(
     blocks: &[u32],
     bytes: &[u8],
 ) -> Desk {
-    let state = desk.state;
     let drive = given.drive;
     let left = calls::lend(
-        rt, call, r, state, given.size, drive, image, map, places, numbers, used, blocks, bytes,
+        rt, call, r, desk.state, given.size, drive, image, map, places, numbers, used, blocks,
+        bytes,
     );
-    let answer = left.answer;
-    let after = left.state;
     match call {
-        Call::Format => desk.formatted(after, drive, has_volume(answer.number())),
-        _ => desk.with(after),
+        Call::Format => desk.formatted(left.state, drive, has_volume(left.answer)),
+        _ => desk.with(left.state),
     }
 }
 
@@ -258,11 +214,10 @@ fn answer_read(
     blocks: &mut [u32; request::MOST],
     bytes: &mut [u8; LINE_BYTES],
 ) -> Desk {
-    let r = request::request_of(line, call, blocks, bytes);
-    let given = asked(desk, call, r);
-    if is_refused(rt, desk, call, r, given, line) {
+    let found = request::request_of(line, call, blocks, bytes);
+    let Some((r, given)) = understood(rt, desk, call, line, found) else {
         return desk.stop();
-    }
+    };
     answer_request(
         rt,
         desk,
@@ -310,12 +265,11 @@ fn answer_call(
 
 // The line that a backlog begins with.
 fn begin_backlog(rt: &impl Print, desk: Desk, line: &[u8]) -> Desk {
-    let r = request::request_without_blocks(line, Call::Backlog);
-    let given = asked(desk, Call::Backlog, r);
-    if is_refused(rt, desk, Call::Backlog, r, given, line) {
-        return desk.stop();
+    let found = request::request_without_blocks(line, Call::Backlog);
+    match understood(rt, desk, Call::Backlog, line, found) {
+        Some((r, _)) => desk.before_backlog(r.stores()),
+        None => desk.stop(),
     }
-    desk.before_backlog(r.stores())
 }
 
 // A line of the paper.
@@ -329,11 +283,18 @@ fn answer_line(
     numbers: &mut [u32; PIECES],
     used: &mut [u8; USED],
 ) -> Desk {
-    let call = request::call_of(line);
-    match call {
-        Call::Nothing => desk,
-        Call::Backlog => begin_backlog(rt, desk, line),
-        _ => answer_call(rt, desk, call, line, image, map, places, numbers, used),
+    match request::call_of(line) {
+        None => desk,
+        Some(Call::Backlog) => begin_backlog(rt, desk, line),
+        Some(call) => answer_call(rt, desk, call, line, image, map, places, numbers, used),
+    }
+}
+
+// Why the line of this number cannot be given.
+pub fn say_line_error(rt: &impl Print, number: u32, error: LineError) {
+    match error {
+        LineError::Long => say::say_long_line(rt, number, LINE as u64),
+        LineError::Unreadable => say::say_unreadable(rt, number),
     }
 }
 
@@ -352,26 +313,11 @@ pub fn answer_next(
     requires { Placed reader }
 {
     let here = desk.moved();
-    let standing = reader.standing();
-    match standing {
-        Standing::Whole => answer_line(
-            rt,
-            here,
-            line_reader::line(window, reader),
-            image,
-            map,
-            places,
-            numbers,
-            used,
-        ),
-        Standing::Nothing => desk.stop(),
-        Standing::Long => {
-            say::say_long_line(rt, here.line, LINE as u64);
-            here.stop()
-        }
-        // A read failed; the reader leaves no line open otherwise.
-        _ => {
-            say::say_unreadable(rt, here.line);
+    match line_reader::line(window, reader) {
+        Ok(Some(line)) => answer_line(rt, here, line, image, map, places, numbers, used),
+        Ok(None) => desk.stop(),
+        Err(error) => {
+            say_line_error(rt, here.line, error);
             here.stop()
         }
     }

@@ -5,10 +5,10 @@ ghost use Rattle.line_reader.specs.Reader.{Placed};
 use crate::{calls, desk};
 use batch_checks::COMMIT_WORDS;
 use geometry::Geometry;
-use line_reader::{LINE, Reader, Standing, WINDOW};
-use paper::data::Trouble;
+use line_reader::{Reader, WINDOW};
 use paper::request;
 use paper::request::{Call, Request};
+use paper::trouble::{Fault, Trouble};
 use std::io::{Print, Read};
 use wording::say;
 
@@ -22,15 +22,6 @@ pub const BLOCKS: usize = COMMITS as usize * request::MOST;
 pub const BYTES: usize = BLOCKS * Geometry::SECTOR;
 
 #[derive(Clone, Copy)]
-pub enum Stage {
-    // Its end is still to come.
-    Open,
-    Closed,
-    // A line is not understood, or there is none: what was wrong is said.
-    Broken,
-}
-
-#[derive(Clone, Copy)]
 pub struct Gathered {
     // The commits, and where their block numbers and their bytes end.
     pub commits: u32,
@@ -38,24 +29,24 @@ pub struct Gathered {
     pub bytes: usize,
     // The number of the line that was read last.
     pub line: u32,
-    pub stage: Stage,
+    // Whether its end has come.
+    pub closed: bool,
 }
 
-// What was gathered, and where the reader stands after it.
+// What was gathered up to the end, if no line was in the way, and where the reader stands after it.
 #[derive(Clone, Copy)]
 pub struct Gathering {
-    pub gathered: Gathered,
+    pub gathered: Option<Gathered>,
     pub reader: Reader,
 }
 
+// A line of a backlog is not understood, or there is none: what was wrong is said.
+#[derive(Clone, Copy, PartialEq, Eq, Debug)]
+pub struct Broken;
+
 // A sum, or `most` where it is more.
 fn added(x: usize, y: usize, most: usize) -> usize {
-    if y <= most {
-        if x <= most - y {
-            return x + y;
-        }
-    }
-    most
+    x.saturating_add(y).min(most)
 }
 
 impl Gathered {
@@ -66,67 +57,51 @@ impl Gathered {
             blocks: 0,
             bytes: 0,
             line,
-            stage: Stage::Open,
+            closed: false,
         }
     }
 
     // At the next line.
     fn moved(self) -> Gathered {
-        let stage = self.stage;
         Gathered {
-            commits: self.commits,
-            blocks: self.blocks,
-            bytes: self.bytes,
             line: desk::counted(self.line),
-            stage,
-        }
-    }
-
-    fn at_stage(self, stage: Stage) -> Gathered {
-        Gathered {
-            commits: self.commits,
-            blocks: self.blocks,
-            bytes: self.bytes,
-            line: self.line,
-            stage,
+            ..self
         }
     }
 
     // With one more commit.
     fn longer(self, blocks: usize, bytes: usize) -> Gathered {
-        let stage = self.stage;
         Gathered {
             commits: desk::counted(self.commits),
             blocks: added(self.blocks, blocks, BLOCKS),
             bytes: added(self.bytes, bytes, BYTES),
-            line: self.line,
-            stage,
-        }
-    }
-
-    fn is_open(self) -> bool {
-        let stage = self.stage;
-        match stage {
-            Stage::Open => true,
-            _ => false,
+            ..self
         }
     }
 }
 
-// A line that is not understood.
-fn broken(rt: &impl Print, g: Gathered, call: Call, r: Request, line: &[u8]) -> Gathered {
-    let trouble = r.trouble;
-    say::say_trouble(rt, g.line, line, call, r.at, trouble);
-    g.at_stage(Stage::Broken)
+// What a line asks for, where it is understood.
+fn understood(
+    rt: &impl Print,
+    g: Gathered,
+    call: Call,
+    line: &[u8],
+    found: Result<Request, Fault>,
+) -> Result<Request, Broken> {
+    match found {
+        Ok(r) => Ok(r),
+        Err(fault) => {
+            say::say_trouble(rt, g.line, line, call, fault);
+            Err(Broken)
+        }
+    }
 }
 
 // The end of a backlog has no other words.
-fn take_end(rt: &impl Print, g: Gathered, line: &[u8]) -> Gathered {
-    let r = request::request_without_blocks(line, Call::BacklogEnd);
-    if !r.is_fine() {
-        return broken(rt, g, Call::BacklogEnd, r, line);
-    }
-    g.at_stage(Stage::Closed)
+fn take_end(rt: &impl Print, g: Gathered, line: &[u8]) -> Result<Gathered, Broken> {
+    let found = request::request_without_blocks(line, Call::BacklogEnd);
+    understood(rt, g, Call::BacklogEnd, line, found)?;
+    Ok(Gathered { closed: true, ..g })
 }
 
 // The blocks of a commit and their bytes go after those before it. There is room for the most that each line has, so that of the
@@ -137,20 +112,14 @@ fn read_commit(
     g: Gathered,
     blocks: &mut [u32],
     bytes: &mut [u8],
-) -> Request
+) -> Result<Request, Fault>
     requires blocks_len { length blocks.old ≡ 5120 }
     requires bytes_len { length bytes.old ≡ 2621440 }
 {
-    if g.commits >= COMMITS {
-        return request::turned_back(line, Trouble::Commits);
-    }
     let block = g.blocks;
-    if block > BLOCKS - request::MOST {
-        return request::turned_back(line, Trouble::Commits);
-    }
     let byte = g.bytes;
-    if byte > BYTES - desk::LINE_BYTES {
-        return request::turned_back(line, Trouble::Commits);
+    if g.commits >= COMMITS || block > BLOCKS - request::MOST || byte > BYTES - desk::LINE_BYTES {
+        return Err(request::turned_back(line, Trouble::Commits));
     }
     let blocks_end = block + request::MOST;
     let bytes_end = byte + desk::LINE_BYTES;
@@ -211,15 +180,13 @@ fn take_commit(
     words: &mut [u32; WORDS],
     blocks: &mut [u32; BLOCKS],
     bytes: &mut [u8; BYTES],
-) -> Gathered {
-    let r = read_commit(line, call, g, blocks, bytes);
-    if !r.is_fine() {
-        return broken(rt, g, call, r, line);
-    }
+) -> Result<Gathered, Broken> {
+    let found = read_commit(line, call, g, blocks, bytes);
+    let r = understood(rt, g, call, line, found)?;
     let count = calls::within(r.count, request::MOST);
     let own = bytes_of(call, count);
     put_commit(words, g.commits, kind_of(call), r.first, count, own);
-    g.longer(count, own)
+    Ok(g.longer(count, own))
 }
 
 // A line of the backlog.
@@ -230,12 +197,11 @@ fn take_line(
     words: &mut [u32; WORDS],
     blocks: &mut [u32; BLOCKS],
     bytes: &mut [u8; BYTES],
-) -> Gathered {
-    let call = request::call_in_backlog(line);
-    match call {
-        Call::Nothing => g,
-        Call::BacklogEnd => take_end(rt, g, line),
-        _ => take_commit(rt, g, call, line, words, blocks, bytes),
+) -> Result<Gathered, Broken> {
+    match request::call_in_backlog(line) {
+        None => Ok(g),
+        Some(Call::BacklogEnd) => take_end(rt, g, line),
+        Some(call) => take_commit(rt, g, call, line, words, blocks, bytes),
     }
 }
 
@@ -249,36 +215,24 @@ fn take_next(
     words: &mut [u32; WORDS],
     blocks: &mut [u32; BLOCKS],
     bytes: &mut [u8; BYTES],
-) -> Gathered
+) -> Result<Gathered, Broken>
     requires { Placed reader }
 {
     let here = g.moved();
-    let standing = reader.standing();
-    match standing {
-        Standing::Whole => take_line(
-            rt,
-            here,
-            line_reader::line(window, reader),
-            words,
-            blocks,
-            bytes,
-        ),
-        Standing::Nothing => {
+    match line_reader::line(window, reader) {
+        Ok(Some(line)) => take_line(rt, here, line, words, blocks, bytes),
+        Ok(None) => {
             say::say_open_backlog(rt, first);
-            here.at_stage(Stage::Broken)
+            Err(Broken)
         }
-        Standing::Long => {
-            say::say_long_line(rt, here.line, LINE as u64);
-            here.at_stage(Stage::Broken)
-        }
-        _ => {
-            say::say_unreadable(rt, here.line);
-            here.at_stage(Stage::Broken)
+        Err(error) => {
+            desk::say_line_error(rt, here.line, error);
+            Err(Broken)
         }
     }
 }
 
-// The lines after the first one, up to the end. They are counted down like those of a paper.
+// The lines after the first one, up to the end. They are counted like those of a paper.
 pub fn gather(
     rt: &impl Print,
     input: &mut impl Read,
@@ -294,15 +248,21 @@ pub fn gather(
 {
     let mut reader = from;
     let mut gathered = Gathered::begun(first);
-    let mut left = u64::MAX;
-    while left > 0 {
+    for _ in 0..u64::MAX {
         reader = line_reader::next_line(input, window, reader);
-        gathered = take_next(rt, gathered, first, window, reader, words, blocks, bytes);
+        let taken = take_next(rt, gathered, first, window, reader, words, blocks, bytes);
         reader = reader.passed();
-        if !gathered.is_open() {
-            return Gathering { gathered, reader };
+        match taken {
+            Ok(g) if !g.closed => gathered = g,
+            Ok(g) => return Gathering {
+                gathered: Some(g),
+                reader,
+            },
+            Err(Broken) => break,
         }
-        left -= 1;
     }
-    Gathering { gathered, reader }
+    Gathering {
+        gathered: None,
+        reader,
+    }
 }

@@ -11,7 +11,7 @@ use desk::Desk;
 use line_reader::Reader;
 use std::io::{Print, Read};
 
-// The lines of a paper, one after the other. Nothing says that a paper ends, so they are counted down from a number that no run uses up.
+// The lines of a paper, one after the other. Nothing says that a paper ends, so they are counted up to a number that no run reaches.
 fn answer_lines(
     rt: &impl Print,
     input: &mut impl Read,
@@ -24,8 +24,7 @@ fn answer_lines(
     let mut window = [0u8; line_reader::WINDOW];
     let mut reader = Reader::opened();
     let mut desk = Desk::opened();
-    let mut left = u64::MAX;
-    while left > 0 {
+    for _ in 0..u64::MAX {
         reader = line_reader::next_line(input, &mut window, reader);
         let turn = backlog::answer_turn(
             rt,
@@ -42,9 +41,8 @@ fn answer_lines(
         desk = turn.desk;
         reader = turn.reader;
         if desk.stopped {
-            return;
+            break;
         }
-        left -= 1;
     }
 }
 

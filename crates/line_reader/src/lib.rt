@@ -1,7 +1,7 @@
 // The lines of an input, one after the other, by way of a window that the caller lends.
 #![tactic(auto)]
 
-ghost use Rattle.std.specs.Prelude.{◌≡◌, ℕ, ◌+◌, ◌≤◌, ◌<◌, length, get_or};
+ghost use Rattle.std.specs.Prelude.{◌≡◌, ℕ, ◌+◌, ◌≤◌, ◌<◌, length, get_or, IsTrue};
 ghost use Rattle.line_reader.specs.Reader.{line_bytes, window_bytes, Placed};
 
 use paper::tokens;
@@ -24,19 +24,13 @@ pub struct Reader {
     pub failed: bool,
 }
 
-// What is known of the line that is next.
-#[derive(Clone, Copy)]
-pub enum Standing {
-    // It is in the window, up to `sought`.
-    Whole,
-    // Its end is still to be read.
-    Open,
+// Why a line that is begun cannot be given.
+#[derive(Clone, Copy, PartialEq, Eq, Debug)]
+pub enum LineError {
     // It has more than LINE bytes.
     Long,
     // Its end cannot be read.
-    Failed,
-    // There is none.
-    Nothing,
+    Unreadable,
 }
 
 impl Reader {
@@ -52,27 +46,12 @@ impl Reader {
         }
     }
 
-    // The length is judged first, so that it does not matter how much of the input came with the last read.
-    pub fn standing(self) -> Standing
+    // Whether the end of the line that is next is still to be read.
+    fn is_open(self) -> bool
         requires { Placed self }
-        ensures { result ≡ Standing.Open → self.filled ≤ self.from + line_bytes }
+        ensures { IsTrue result → self.filled ≤ self.from + line_bytes }
     {
-        if self.sought - self.from > LINE {
-            return Standing::Long;
-        }
-        if self.sought < self.filled {
-            return Standing::Whole;
-        }
-        if self.failed {
-            return Standing::Failed;
-        }
-        if !self.ended {
-            return Standing::Open;
-        }
-        if self.from < self.filled {
-            return Standing::Whole;
-        }
-        Standing::Nothing
+        self.sought - self.from <= LINE && self.sought == self.filled && !self.failed && !self.ended
     }
 
     // The reader at the line after this one.
@@ -80,25 +59,13 @@ impl Reader {
         requires { Placed self }
         ensures { Placed result }
     {
-        let next = after(self.sought, self.filled);
+        let next = self.filled.min(self.sought + 1);
         Reader {
             from: next,
             sought: next,
-            filled: self.filled,
-            ended: self.ended,
-            failed: self.failed,
+            ..self
         }
     }
-}
-
-// The place after a newline at `i`, or the end where there is none.
-fn after(i: usize, end: usize) -> usize
-    ensures { result ≤ end }
-{
-    if i < end {
-        return i + 1;
-    }
-    end
 }
 
 // The first newline from `from` on and before `to`, or `to` where there is none.
@@ -110,14 +77,12 @@ fn newline_in(window: &[u8], from: usize, to: usize) -> usize
     ensures by_index { (k : ℕ) → k < result → from ≤ k → get_or window.now k 0 ≡ 10 → ⊥ }
     ensures result_value { result < to → get_or window.now result 0 ≡ 10 }
 {
-    let mut i = from;
-    while i < to {
-        if window[i] == 10 {
+    for i in from..to {
+        if window[i] == b'\n' {
             return i;
         }
-        i += 1;
     }
-    i
+    to
 }
 
 // Goes on with the search where it stopped.
@@ -126,20 +91,8 @@ fn seek(window: &[u8; WINDOW], r: Reader) -> Reader
     ensures { Placed result }
 {
     Reader {
-        from: r.from,
         sought: newline_in(window, r.sought, r.filled),
-        filled: r.filled,
-        ended: r.ended,
-        failed: r.failed,
-    }
-}
-
-// Moves what stands from `from` on to the front.
-fn move_to_front(window: &mut [u8; WINDOW], from: usize) {
-    let mut i = from;
-    while i < WINDOW {
-        window[i - from] = window[i];
-        i += 1;
+        ..r
     }
 }
 
@@ -152,13 +105,12 @@ fn make_room(window: &mut [u8; WINDOW], r: Reader) -> Reader
     if r.filled < WINDOW {
         return r;
     }
-    move_to_front(window, r.from);
+    window.copy_within(r.from.., 0);
     Reader {
         from: 0,
         sought: r.sought - r.from,
         filled: r.filled - r.from,
-        ended: r.ended,
-        failed: r.failed,
+        ..r
     }
 }
 
@@ -172,18 +124,15 @@ fn read_once(input: &mut impl Read, window: &mut [u8], r: Reader) -> Reader
     let filled = r.filled;
     match input.read(&mut window[filled..]) {
         Ok(count) => Reader {
-            from: r.from,
-            sought: r.sought,
             filled: filled + count,
             ended: count == 0,
             failed: false,
+            ..r
         },
         Err(_) => Reader {
-            from: r.from,
-            sought: r.sought,
-            filled,
             ended: false,
             failed: true,
+            ..r
         },
     }
 }
@@ -200,27 +149,36 @@ fn seek_further(input: &mut impl Read, window: &mut [u8; WINDOW], r: Reader) -> 
 }
 
 // Reads until the line that is next stands in the window, or cannot. One read at a time, so that a paper typed by hand is answered
-// line by line. Nothing says that the input ends, so the turns are counted down from a number that no run uses up.
+// line by line. Nothing says that the input ends, so the turns are a number that no run uses up.
 pub fn next_line(input: &mut impl Read, window: &mut [u8; WINDOW], from: Reader) -> Reader
     requires { Placed from }
     ensures { Placed result }
 {
     let mut r = seek(window, from);
-    let mut turns = u64::MAX;
-    while turns > 0 {
-        let standing = r.standing();
-        match standing {
-            Standing::Open => {
-                r = seek_further(input, window, r);
-            }
-            _ => return r,
+    for _ in 0..u64::MAX {
+        if !r.is_open() {
+            break;
         }
-        turns -= 1;
+        r = seek_further(input, window, r);
     }
     r
 }
 
-// The line that stands in the window, without a return at its end.
-pub fn line(window: &[u8; WINDOW], r: Reader) -> &[u8] {
-    tokens::trimmed(tokens::part(window, r.from, r.sought))
+// The line that is next, without a return at its end, or none where the input has ended. The length is judged first, so that it does
+// not matter how much of the input came with the last read. A line is open here only where its end could not be read.
+pub fn line(window: &[u8; WINDOW], r: Reader) -> Result<Option<&[u8]>, LineError>
+    requires { Placed r }
+{
+    if r.sought - r.from > LINE {
+        return Err(LineError::Long);
+    }
+    if r.sought == r.filled {
+        if r.failed || !r.ended {
+            return Err(LineError::Unreadable);
+        }
+        if r.from == r.filled {
+            return Ok(None);
+        }
+    }
+    Ok(Some(tokens::trimmed(&window[r.from..r.sought])))
 }

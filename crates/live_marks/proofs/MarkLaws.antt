@@ -36,14 +36,7 @@ pub turned_true : (b x : Bool) → b ≡ x → not b ≡ false → x ≡ true
 turned_true true x e n = sym e
 turned_true false x e n = absurd (true≢false n)
 
--- The sizes, tested one after the other.
-pub size_wrong : (g : Geometry) (bytes marks : ℕ) → geometry_fits g ≡ false → false ≡ sizes_fit g bytes marks
-size_wrong g bytes marks e = ap (λ (b : Bool). b && (eqb bytes (sector_bytes * g.n) && eqb marks (used_bytes g.n))) (sym e)
-
-pub size_right : (g : Geometry) (bytes marks : ℕ) (r : Bool) → geometry_fits g ≡ true → r ≡ (eqb bytes (sector_bytes * g.n) && eqb marks (used_bytes g.n))
-    → r ≡ sizes_fit g bytes marks
-size_right g bytes marks r e h = h ∙ ap (λ (b : Bool). b && (eqb bytes (sector_bytes * g.n) && eqb marks (used_bytes g.n))) (sym e)
-
+-- What the tests of the sizes say.
 pub record Sizes (g : Geometry) (bytes marks : ℕ) : Type 0 where
   pub volume : geometry_fits g ≡ true
   pub image : bytes ≡ sector_bytes * g.n

@@ -12,13 +12,7 @@ use geometry::Geometry;
 fn sizes_fit(g: Geometry, bytes: usize, marks: usize) -> bool
     ensures { result ≡ sizes_fit g bytes marks }
 {
-    if !g.fits() {
-        return false;
-    }
-    if bytes != Geometry::SECTOR * (g.n as usize) {
-        return false;
-    }
-    marks == g.used_bytes() as usize
+    g.fits() && bytes == Geometry::SECTOR * g.n as usize && marks == g.used_bytes() as usize
 }
 
 // The used map of the log that a scan finds, with room for the other tables of that log.
@@ -81,11 +75,5 @@ pub fn mark_live(image: &[u8], g: Geometry, used: &mut [u8]) -> bool
 pub fn is_live(used: &[u8], k: usize) -> bool
     ensures { result ≡ (not (eqb k 0) && bit_at used.now k) }
 {
-    if k == 0 {
-        return false;
-    }
-    if k / 8 >= used.len() {
-        return false;
-    }
-    bits::is_set(used, k)
+    k != 0 && k / 8 < used.len() && bits::is_set(used, k)
 }

@@ -1,8 +1,8 @@
 // The words NAME=NUMBER of a line, which stand anywhere after the call's name: the plug, and the settings of a drive.
 use crate::tokens;
-use crate::tokens::Number;
+use std::fmt;
 
-#[derive(Clone, Copy)]
+#[derive(Clone, Copy, PartialEq, Eq, Debug)]
 pub enum Keyword {
     // The plug: the stores that the call may make.
     Stores,
@@ -12,55 +12,49 @@ pub enum Keyword {
     Switch,
 }
 
+impl fmt::Display for Keyword {
+    fn fmt<W: fmt::Write>(&self, f: &mut fmt::Formatter<W>) -> fmt::Result {
+        f.write_str(match self {
+            Keyword::Stores => "stores=",
+            Keyword::Track => "track=",
+            Keyword::Tracks => "tracks=",
+            Keyword::Switch => "switch=",
+        })
+    }
+}
+
+// Where the number of a keyword begins: after the first =.
+fn value_start(word: &[u8]) -> usize {
+    tokens::after(word, tokens::find(word, 0, b'='))
+}
+
 // The keyword that a word begins with.
-#[derive(Clone, Copy)]
-pub enum Named {
-    Known(Keyword),
-    Nothing,
+pub fn keyword_of(word: &[u8]) -> Option<Keyword> {
+    match tokens::part(word, 0, value_start(word)) {
+        b"stores=" => Some(Keyword::Stores),
+        b"track=" => Some(Keyword::Track),
+        b"tracks=" => Some(Keyword::Tracks),
+        b"switch=" => Some(Keyword::Switch),
+        _ => None,
+    }
 }
 
-pub fn keyword_of(word: &[u8]) -> Named {
-    if tokens::begins_with(word, b"stores=") {
-        return Named::Known(Keyword::Stores);
-    }
-    if tokens::begins_with(word, b"track=") {
-        return Named::Known(Keyword::Track);
-    }
-    if tokens::begins_with(word, b"tracks=") {
-        return Named::Known(Keyword::Tracks);
-    }
-    if tokens::begins_with(word, b"switch=") {
-        return Named::Known(Keyword::Switch);
-    }
-    Named::Nothing
-}
-
-// The number of a keyword: what stands after the first =.
-pub fn value_in(word: &[u8]) -> Number {
-    let equals = tokens::find(word, 0, 61);
-    tokens::number_in(tokens::part(word, tokens::after(word, equals), word.len()))
+// The number of a keyword.
+pub fn value_in(word: &[u8]) -> Option<u32> {
+    tokens::number_in(tokens::part(word, value_start(word), word.len()))
 }
 
 // The numbers given.
-#[derive(Clone, Copy)]
+#[derive(Clone, Copy, Default)]
 pub struct Keywords {
-    pub stores: Number,
-    pub track: Number,
-    pub tracks: Number,
-    pub switch: Number,
+    pub stores: Option<u32>,
+    pub track: Option<u32>,
+    pub tracks: Option<u32>,
+    pub switch: Option<u32>,
 }
 
 impl Keywords {
-    pub fn none() -> Keywords {
-        Keywords {
-            stores: Number::Nothing,
-            track: Number::Nothing,
-            tracks: Number::Nothing,
-            switch: Number::Nothing,
-        }
-    }
-
-    pub fn value(self, keyword: Keyword) -> Number {
+    pub fn value(self, keyword: Keyword) -> Option<u32> {
         match keyword {
             Keyword::Stores => self.stores,
             Keyword::Track => self.track,
@@ -69,44 +63,24 @@ impl Keywords {
         }
     }
 
-    pub fn has(self, keyword: Keyword) -> bool {
-        let value = self.value(keyword);
-        match value {
-            Number::Value(_) => true,
-            Number::Nothing => false,
-        }
-    }
-
     pub fn with(self, keyword: Keyword, value: u32) -> Keywords {
-        let stores = self.stores;
-        let track = self.track;
-        let tracks = self.tracks;
-        let switch = self.switch;
-        let given = Number::Value(value);
+        let given = Some(value);
         match keyword {
             Keyword::Stores => Keywords {
                 stores: given,
-                track,
-                tracks,
-                switch,
+                ..self
             },
             Keyword::Track => Keywords {
-                stores,
                 track: given,
-                tracks,
-                switch,
+                ..self
             },
             Keyword::Tracks => Keywords {
-                stores,
-                track,
                 tracks: given,
-                switch,
+                ..self
             },
             Keyword::Switch => Keywords {
-                stores,
-                track,
-                tracks,
                 switch: given,
+                ..self
             },
         }
     }

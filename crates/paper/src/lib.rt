@@ -5,3 +5,4 @@ pub mod data;
 pub mod keywords;
 pub mod request;
 pub mod tokens;
+pub mod trouble;

@@ -1,13 +1,10 @@
 // A line of a paper, taken apart: the call, its numbers, its blocks and its keywords.
-use crate::data::{Data, Trouble};
-use crate::keywords::{Keyword, Keywords, Named};
-use crate::tokens::Number;
+use crate::keywords::{Keyword, Keywords};
+use crate::trouble::{Fault, Trouble};
 use crate::{data, keywords, tokens};
 
-#[derive(Clone, Copy)]
+#[derive(Clone, Copy, PartialEq, Eq, Debug)]
 pub enum Call {
-    // A blank line or a comment.
-    Nothing,
     Unknown,
     Format,
     Write,
@@ -27,7 +24,7 @@ pub enum Call {
     BacklogOther,
 }
 
-#[derive(Clone, Copy)]
+#[derive(Clone, Copy, Default)]
 pub struct Request {
     // The numbers of a call, as many as were taken: L and N, or the head, or the block to read.
     pub first: u32,
@@ -36,184 +33,49 @@ pub struct Request {
     // The blocks of a write or a drop that were taken.
     pub count: usize,
     pub keywords: Keywords,
-    // Where the line goes on, or where the trouble is.
+    // Where the line goes on.
     pub at: usize,
-    pub trouble: Trouble,
 }
 
 // The most blocks in a line.
 pub const MOST: usize = 128;
 
 // More stores than any call makes.
-const ENOUGH: u32 = 4_294_967_295;
+const ENOUGH: u32 = u32::MAX;
 
 impl Request {
-    fn fresh(at: usize) -> Request {
-        Request {
-            first: 0,
-            second: 0,
-            taken: 0,
-            count: 0,
-            keywords: Keywords::none(),
-            at,
-            trouble: Trouble::Fine,
-        }
-    }
-
-    pub fn wrong(self, at: usize, trouble: Trouble) -> Request {
-        let keywords = self.keywords;
-        Request {
-            first: self.first,
-            second: self.second,
-            taken: self.taken,
-            count: self.count,
-            keywords,
-            at,
-            trouble,
-        }
-    }
-
-    fn with_keywords(self, keywords: Keywords, at: usize) -> Request {
-        Request {
-            first: self.first,
-            second: self.second,
-            taken: self.taken,
-            count: self.count,
-            keywords,
-            at,
-            trouble: Trouble::Fine,
-        }
-    }
-
-    fn with_first(self, first: u32, at: usize) -> Request {
-        let keywords = self.keywords;
-        Request {
-            first,
-            second: self.second,
-            taken: 1,
-            count: self.count,
-            keywords,
-            at,
-            trouble: Trouble::Fine,
-        }
-    }
-
-    fn with_second(self, second: u32, at: usize) -> Request {
-        let keywords = self.keywords;
-        Request {
-            first: self.first,
-            second,
-            taken: 2,
-            count: self.count,
-            keywords,
-            at,
-            trouble: Trouble::Fine,
-        }
-    }
-
-    fn with_count(self, count: usize, at: usize) -> Request {
-        let keywords = self.keywords;
-        Request {
-            first: self.first,
-            second: self.second,
-            taken: self.taken,
-            count,
-            keywords,
-            at,
-            trouble: Trouble::Fine,
-        }
-    }
-
     // The stores that the call may make: enough where no plug is given.
     pub fn stores(self) -> u32 {
-        let given = self.keywords;
-        let stores = given.stores;
-        match stores {
-            Number::Value(value) => value,
-            Number::Nothing => ENOUGH,
-        }
-    }
-
-    pub fn is_fine(self) -> bool {
-        let trouble = self.trouble;
-        match trouble {
-            Trouble::Fine => true,
-            _ => false,
-        }
+        self.keywords.stores.unwrap_or(ENOUGH)
     }
 }
 
-// The calls that change the volume's blocks.
-fn commit_named(word: &[u8]) -> Call {
-    if tokens::is_word(word, b"format") {
-        return Call::Format;
-    }
-    if tokens::is_word(word, b"write") {
-        return Call::Write;
-    }
-    if tokens::is_word(word, b"drop") {
-        return Call::Drop;
-    }
-    Call::Unknown
-}
-
-// The lines that a backlog stands between.
-fn bound_named(word: &[u8]) -> Call {
-    if tokens::is_word(word, b"backlog") {
-        return Call::Backlog;
-    }
-    if tokens::is_word(word, b"end") {
-        return Call::End;
-    }
-    Call::Unknown
-}
-
-// The others.
-fn other_named(word: &[u8]) -> Call {
-    if tokens::is_word(word, b"read") {
-        return Call::Read;
-    }
-    if tokens::is_word(word, b"park") {
-        return Call::Park;
-    }
-    if tokens::is_word(word, b"recover") {
-        return Call::Recover;
-    }
-    if tokens::is_word(word, b"show") {
-        return Call::Show;
-    }
-    if tokens::is_word(word, b"sectors") {
-        return Call::Sectors;
-    }
-    bound_named(word)
-}
-
-// The call that a line asks for. A line whose first word begins with # is a comment.
-pub fn call_of(line: &[u8]) -> Call {
+// The call that a line asks for: none on a blank line, or in a comment, whose first word begins with #.
+pub fn call_of(line: &[u8]) -> Option<Call> {
     let start = tokens::word_start(line, 0);
-    if start >= line.len() {
-        return Call::Nothing;
-    }
-    if tokens::byte_at(line, start) == 35 {
-        return Call::Nothing;
-    }
-    let word = tokens::part(line, start, tokens::word_end(line, start));
-    let commit = commit_named(word);
-    match commit {
-        Call::Unknown => other_named(word),
-        _ => commit,
+    match tokens::part(line, start, tokens::word_end(line, start)) {
+        [] | [b'#', ..] => None,
+        b"format" => Some(Call::Format),
+        b"write" => Some(Call::Write),
+        b"drop" => Some(Call::Drop),
+        b"read" => Some(Call::Read),
+        b"park" => Some(Call::Park),
+        b"recover" => Some(Call::Recover),
+        b"show" => Some(Call::Show),
+        b"sectors" => Some(Call::Sectors),
+        b"backlog" => Some(Call::Backlog),
+        b"end" => Some(Call::End),
+        _ => Some(Call::Unknown),
     }
 }
 
 // What a line in a backlog is.
-pub fn call_in_backlog(line: &[u8]) -> Call {
-    let call = call_of(line);
-    match call {
-        Call::Nothing => Call::Nothing,
-        Call::Write => Call::BacklogWrite,
-        Call::Drop => Call::BacklogDrop,
-        Call::End => Call::BacklogEnd,
-        _ => Call::BacklogOther,
+pub fn call_in_backlog(line: &[u8]) -> Option<Call> {
+    match call_of(line)? {
+        Call::Write => Some(Call::BacklogWrite),
+        Call::Drop => Some(Call::BacklogDrop),
+        Call::End => Some(Call::BacklogEnd),
+        _ => Some(Call::BacklogOther),
     }
 }
 
@@ -221,33 +83,20 @@ pub fn call_in_backlog(line: &[u8]) -> Call {
 fn wanted(call: Call) -> u32 {
     match call {
         Call::Format => 2,
-        Call::Write => 1,
-        Call::Drop => 1,
-        Call::Read => 1,
-        Call::BacklogWrite => 1,
-        Call::BacklogDrop => 1,
+        Call::Write | Call::Drop | Call::Read | Call::BacklogWrite | Call::BacklogDrop => 1,
         _ => 0,
     }
 }
 
 fn makes_stores(call: Call) -> bool {
-    match call {
-        Call::Format => true,
-        Call::Write => true,
-        Call::Drop => true,
-        Call::Park => true,
-        Call::Recover => true,
-        Call::Backlog => true,
-        _ => false,
-    }
+    matches!(
+        call,
+        Call::Format | Call::Write | Call::Drop | Call::Park | Call::Recover | Call::Backlog
+    )
 }
 
 fn takes_settings(call: Call) -> bool {
-    match call {
-        Call::Format => true,
-        Call::Recover => true,
-        _ => false,
-    }
+    matches!(call, Call::Format | Call::Recover)
 }
 
 // Which calls take a keyword.
@@ -259,24 +108,18 @@ fn takes(call: Call, keyword: Keyword) -> bool {
 }
 
 fn takes_blocks(call: Call) -> bool {
-    match call {
-        Call::Write => true,
-        Call::Drop => true,
-        Call::BacklogWrite => true,
-        Call::BacklogDrop => true,
-        _ => false,
-    }
+    matches!(
+        call,
+        Call::Write | Call::Drop | Call::BacklogWrite | Call::BacklogDrop
+    )
 }
 
 // A keyword that a call does not take. In a backlog the plug is the first line's.
 fn not_taken(call: Call, keyword: Keyword) -> Trouble {
-    match keyword {
-        Keyword::Stores => match call {
-            Call::BacklogWrite => Trouble::BacklogStores,
-            Call::BacklogDrop => Trouble::BacklogStores,
-            Call::BacklogEnd => Trouble::BacklogStores,
-            _ => Trouble::KeywordHere(keyword),
-        },
+    match (keyword, call) {
+        (Keyword::Stores, Call::BacklogWrite | Call::BacklogDrop | Call::BacklogEnd) => {
+            Trouble::BacklogStores
+        }
         _ => Trouble::KeywordHere(keyword),
     }
 }
@@ -289,115 +132,100 @@ fn take_keyword(
     call: Call,
     keyword: Keyword,
     r: Request,
-) -> Request {
+) -> Result<Request, Fault> {
     if !takes(call, keyword) {
-        return r.wrong(at, not_taken(call, keyword));
+        return Err(not_taken(call, keyword).at(at));
     }
-    let given = r.keywords;
-    if given.has(keyword) {
-        return r.wrong(at, Trouble::KeywordTwice(keyword));
+    if r.keywords.value(keyword).is_some() {
+        return Err(Trouble::KeywordTwice(keyword).at(at));
     }
-    let number = keywords::value_in(word);
-    match number {
-        Number::Nothing => r.wrong(at, Trouble::Value(keyword)),
-        Number::Value(value) => r.with_keywords(given.with(keyword, value), end),
-    }
+    let value = keywords::value_in(word).ok_or(Trouble::Value(keyword).at(at))?;
+    Ok(Request {
+        keywords: r.keywords.with(keyword, value),
+        at: end,
+        ..r
+    })
 }
 
 // Whether a word of a call that takes settings has the form of a keyword.
 fn is_unknown(word: &[u8], call: Call) -> bool {
-    if !takes_settings(call) {
-        return false;
-    }
-    tokens::find(word, 0, 61) < word.len()
+    takes_settings(call) && word.contains(&b'=')
 }
 
 // One of the numbers after a call's name.
-fn take_number(word: &[u8], at: usize, end: usize, r: Request) -> Request {
-    let number = tokens::number_in(word);
-    match number {
-        Number::Nothing => r.wrong(at, Trouble::Number),
-        Number::Value(value) => {
-            if r.taken == 0 {
-                return r.with_first(value, end);
-            }
-            r.with_second(value, end)
-        }
+fn take_number(word: &[u8], at: usize, end: usize, r: Request) -> Result<Request, Fault> {
+    let value = tokens::number_in(word).ok_or(Trouble::Number.at(at))?;
+    if r.taken == 0 {
+        return Ok(Request {
+            first: value,
+            taken: 1,
+            at: end,
+            ..r
+        });
     }
+    Ok(Request {
+        second: value,
+        taken: 2,
+        at: end,
+        ..r
+    })
 }
 
 // A block's number goes into the list.
-fn take_block(r: Request, at: usize, end: usize, block: u32, blocks: &mut [u32]) -> Request {
+fn take_block(
+    r: Request,
+    at: usize,
+    end: usize,
+    block: u32,
+    blocks: &mut [u32],
+) -> Result<Request, Fault> {
     let count = r.count;
-    if count < blocks.len() {
-        blocks[count] = block;
-        return r.with_count(count + 1, end);
+    if count >= blocks.len() {
+        return Err(Trouble::Many.at(at));
     }
-    r.wrong(at, Trouble::Many)
+    blocks[count] = block;
+    Ok(Request {
+        count: count + 1,
+        at: end,
+        ..r
+    })
 }
 
 // B of a drop.
-fn take_drop(word: &[u8], at: usize, end: usize, r: Request, blocks: &mut [u32]) -> Request {
-    let number = tokens::number_in(word);
-    match number {
-        Number::Nothing => r.wrong(at, Trouble::Number),
-        Number::Value(block) => take_block(r, at, end, block, blocks),
-    }
+fn take_drop(
+    word: &[u8],
+    at: usize,
+    end: usize,
+    r: Request,
+    blocks: &mut [u32],
+) -> Result<Request, Fault> {
+    let block = tokens::number_in(word).ok_or(Trouble::Number.at(at))?;
+    take_block(r, at, end, block, blocks)
 }
 
 // The data of the block that is next in the list.
 fn fill_block(bytes: &mut [u8], count: usize, text: &[u8], hex: bool) {
     if count < MOST {
         let first = count * data::BLOCK;
-        let end = first + data::BLOCK;
-        if end <= bytes.len() {
-            data::fill(&mut bytes[first..end], text, hex);
+        if let Some(block) = bytes.get_mut(first..first + data::BLOCK) {
+            data::fill(block, text, hex);
         }
-    }
-}
-
-// DATA of a write, from `from` on, of the block that was named at `at`.
-fn take_data(
-    line: &[u8],
-    at: usize,
-    from: usize,
-    r: Request,
-    block: u32,
-    blocks: &mut [u32],
-    bytes: &mut [u8],
-) -> Request {
-    let found = data::data_at(line, from);
-    let trouble = found.trouble;
-    match trouble {
-        Trouble::Fine => {
-            fill_block(
-                bytes,
-                r.count,
-                tokens::part(line, found.from, found.to),
-                found.hex,
-            );
-            take_block(r, at, found.next, block, blocks)
-        }
-        _ => r.wrong(found.next, trouble),
     }
 }
 
 // B=DATA of a write.
-fn take_write(line: &[u8], at: usize, r: Request, blocks: &mut [u32], bytes: &mut [u8]) -> Request {
-    let equals = tokens::find(line, at, 61);
-    let number = tokens::number_in(tokens::part(line, at, equals));
-    match number {
-        Number::Nothing => r.wrong(at, Trouble::Block),
-        Number::Value(block) => take_data(
-            line,
-            at,
-            tokens::after(line, equals),
-            r,
-            block,
-            blocks,
-            bytes,
-        ),
-    }
+fn take_write(
+    line: &[u8],
+    at: usize,
+    r: Request,
+    blocks: &mut [u32],
+    bytes: &mut [u8],
+) -> Result<Request, Fault> {
+    let equals = tokens::find(line, at, b'=');
+    let block = tokens::number_in(tokens::part(line, at, equals)).ok_or(Trouble::Block.at(at))?;
+    let found = data::data_at(line, tokens::after(line, equals))?;
+    fill_block(bytes, r.count, found.text, found.hex);
+    take_block(r, at, found.next, block, blocks)
 }
 
 // A word that is no keyword: a number, a block, or nothing that this call takes.
@@ -409,20 +237,18 @@ fn take_other(
     r: Request,
     blocks: &mut [u32],
     bytes: &mut [u8],
-) -> Request {
+) -> Result<Request, Fault> {
     let word = tokens::part(line, at, end);
     if is_unknown(word, call) {
-        return r.wrong(at, Trouble::Keyword);
+        return Err(Trouble::Keyword.at(at));
     }
     if r.taken < wanted(call) {
         return take_number(word, at, end, r);
     }
     match call {
-        Call::Write => take_write(line, at, r, blocks, bytes),
-        Call::Drop => take_drop(word, at, end, r, blocks),
-        Call::BacklogWrite => take_write(line, at, r, blocks, bytes),
-        Call::BacklogDrop => take_drop(word, at, end, r, blocks),
-        _ => r.wrong(at, Trouble::More),
+        Call::Write | Call::BacklogWrite => take_write(line, at, r, blocks, bytes),
+        Call::Drop | Call::BacklogDrop => take_drop(word, at, end, r, blocks),
+        _ => Err(Trouble::More.at(at)),
     }
 }
 
@@ -434,13 +260,12 @@ fn take_word(
     r: Request,
     blocks: &mut [u32],
     bytes: &mut [u8],
-) -> Request {
+) -> Result<Request, Fault> {
     let end = tokens::word_end(line, at);
     let word = tokens::part(line, at, end);
-    let named = keywords::keyword_of(word);
-    match named {
-        Named::Known(keyword) => take_keyword(word, at, end, call, keyword, r),
-        Named::Nothing => take_other(line, at, end, call, r, blocks, bytes),
+    match keywords::keyword_of(word) {
+        Some(keyword) => take_keyword(word, at, end, call, keyword, r),
+        None => take_other(line, at, end, call, r, blocks, bytes),
     }
 }
 
@@ -451,64 +276,57 @@ fn take_words(
     call: Call,
     blocks: &mut [u32],
     bytes: &mut [u8],
-) -> Request {
-    let mut r = Request::fresh(from);
-    let mut turn = 0;
-    while turn < line.len() {
+) -> Result<Request, Fault> {
+    let mut r = Request {
+        at: from,
+        ..Request::default()
+    };
+    for _ in 0..line.len() {
         let at = tokens::word_start(line, r.at);
         if at >= line.len() {
-            return r;
+            break;
         }
-        r = take_word(line, at, call, r, blocks, bytes);
-        if !r.is_fine() {
-            return r;
-        }
-        turn += 1;
+        r = take_word(line, at, call, r, blocks, bytes)?;
     }
-    r
+    Ok(r)
 }
 
-// A request whose words end too soon.
-fn whole(line: &[u8], call: Call, r: Request) -> Request {
-    if !r.is_fine() {
-        return r;
-    }
+// A request whose words do not end too soon.
+fn whole(line: &[u8], call: Call, r: Request) -> Result<Request, Fault> {
     if r.taken < wanted(call) {
-        return r.wrong(line.len(), Trouble::FewNumbers);
+        return Err(Trouble::FewNumbers.at(line.len()));
     }
-    if takes_blocks(call) {
-        if r.count == 0 {
-            return r.wrong(line.len(), Trouble::FewBlocks);
-        }
+    if takes_blocks(call) && r.count == 0 {
+        return Err(Trouble::FewBlocks.at(line.len()));
     }
-    r
+    Ok(r)
 }
 
 // A line whose first word is turned back.
-pub fn turned_back(line: &[u8], trouble: Trouble) -> Request {
-    let start = tokens::word_start(line, 0);
-    Request::fresh(start).wrong(start, trouble)
+pub fn turned_back(line: &[u8], trouble: Trouble) -> Fault {
+    trouble.at(tokens::word_start(line, 0))
 }
 
 // What a line asks of a call. The blocks and their bytes go into the lists.
-pub fn request_of(line: &[u8], call: Call, blocks: &mut [u32], bytes: &mut [u8]) -> Request {
-    let start = tokens::word_start(line, 0);
+pub fn request_of(
+    line: &[u8],
+    call: Call,
+    blocks: &mut [u32],
+    bytes: &mut [u8],
+) -> Result<Request, Fault> {
     match call {
-        Call::Unknown => turned_back(line, Trouble::Call),
-        Call::End => turned_back(line, Trouble::End),
-        Call::BacklogOther => turned_back(line, Trouble::BacklogLine),
-        Call::Nothing => Request::fresh(start),
+        Call::Unknown => Err(turned_back(line, Trouble::Call)),
+        Call::End => Err(turned_back(line, Trouble::End)),
+        Call::BacklogOther => Err(turned_back(line, Trouble::BacklogLine)),
         _ => {
-            let from = tokens::word_end(line, start);
-            let r = take_words(line, from, call, blocks, bytes);
+            let from = tokens::word_end(line, tokens::word_start(line, 0));
+            let r = take_words(line, from, call, blocks, bytes)?;
             whole(line, call, r)
         }
     }
 }
 
 // The same of a call that names no blocks.
-pub fn request_without_blocks(line: &[u8], call: Call) -> Request {
-    let mut blocks = [0u32; 1];
-    let mut bytes = [0u8; 1];
-    request_of(line, call, &mut blocks, &mut bytes)
+pub fn request_without_blocks(line: &[u8], call: Call) -> Result<Request, Fault> {
+    request_of(line, call, &mut [0], &mut [0])
 }

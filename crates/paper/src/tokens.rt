@@ -1,156 +1,76 @@
 // The words of a line: bytes between spaces or tabs. Positions past the end of a line count as its end.
-ghost use Rattle.std.specs.Prelude.{◌≤◌};
-
-// A number that a word spells.
-#[derive(Clone, Copy)]
-pub enum Number {
-    Value(u32),
-    Nothing,
-}
 
 // The byte at i, and 0 past the end.
 pub fn byte_at(line: &[u8], i: usize) -> u8 {
-    if i < line.len() {
-        return line[i];
-    }
-    0
+    line.get(i).copied().unwrap_or(0)
 }
 
-// The bytes from `from` up to `to`; none where these are no positions of the line.
-pub fn part(line: &[u8], from: usize, to: usize) -> &[u8] {
-    if to <= line.len() {
-        if from <= to {
-            return &line[from..to];
-        }
-    }
-    &line[..0]
+// The items from `from` up to `to`, as the bytes of a line; none where these are no positions of the list.
+pub fn part<T>(items: &[T], from: usize, to: usize) -> &[T] {
+    items.get(from..to).unwrap_or(&[])
 }
 
 // The position after i.
 pub fn after(line: &[u8], i: usize) -> usize {
-    if i < line.len() {
-        return i + 1;
-    }
-    line.len()
+    i.saturating_add(1).min(line.len())
 }
 
 pub fn is_space(b: u8) -> bool {
-    if b == 9 {
-        return true;
+    matches!(b, b'\t' | b' ')
+}
+
+// The first place from `from` on whose byte passes a test.
+fn first_place<F: Fn(u8) -> bool>(line: &[u8], from: usize, test: F) -> usize
+    requires { F.IsAlwaysCallable test }
+{
+    for i in from..line.len() {
+        if test(line[i]) {
+            return i;
+        }
     }
-    b == 32
+    line.len()
 }
 
 // Where the next word begins, from `from` on.
 pub fn word_start(line: &[u8], from: usize) -> usize {
-    let mut i = from;
-    while i < line.len() {
-        if !is_space(line[i]) {
-            return i;
-        }
-        i += 1;
-    }
-    line.len()
+    first_place(line, from, |b| !is_space(b))
 }
 
 // Where the word ends that has begun by `from`.
 pub fn word_end(line: &[u8], from: usize) -> usize {
-    let mut i = from;
-    while i < line.len() {
-        if is_space(line[i]) {
-            return i;
-        }
-        i += 1;
-    }
-    line.len()
+    first_place(line, from, is_space)
 }
 
 // The first place of a byte from `from` on.
 pub fn find(line: &[u8], from: usize, b: u8) -> usize {
-    let mut i = from;
-    while i < line.len() {
-        if line[i] == b {
-            return i;
-        }
-        i += 1;
-    }
-    line.len()
-}
-
-// Whether a word begins with these bytes, none of which is 0.
-pub fn begins_with(word: &[u8], name: &[u8]) -> bool {
-    let mut i = 0;
-    while i < name.len() {
-        if byte_at(word, i) != name[i] {
-            return false;
-        }
-        i += 1;
-    }
-    true
+    first_place(line, from, |x| x == b)
 }
 
 // Whether a word is this one.
 pub fn is_word(word: &[u8], name: &[u8]) -> bool {
-    if word.len() != name.len() {
-        return false;
-    }
-    begins_with(word, name)
-}
-
-fn wide(b: u8) -> u64
-    ensures { result ≤ 255 }
-{
-    b as u64
+    word == name
 }
 
 // A number with one more decimal digit.
-fn extended(value: u32, b: u8) -> Number {
-    if b < 48 {
-        return Number::Nothing;
-    }
-    if b > 57 {
-        return Number::Nothing;
-    }
-    let more = (value as u64) * 10 + wide(b - 48);
-    if more > 4_294_967_295 {
-        return Number::Nothing;
-    }
-    Number::Value(more as u32)
+fn extended(value: u32, b: u8) -> Option<u32> {
+    let digit = char::from(b).to_digit(10)?;
+    value.checked_mul(10)?.checked_add(digit)
 }
 
-// The decimal number that a word spells, where it is at most 4,294,967,295.
-pub fn number_in(word: &[u8]) -> Number {
-    if word.len() == 0 {
-        return Number::Nothing;
+// The decimal number that a word spells, where it is at most 4,294,967,295. (The library's `parse` also takes a sign.)
+pub fn number_in(word: &[u8]) -> Option<u32> {
+    if word.is_empty() {
+        return None;
     }
-    let mut value = 0u32;
-    let mut i = 0;
-    while i < word.len() {
-        let next = extended(value, word[i]);
-        match next {
-            Number::Nothing => return Number::Nothing,
-            Number::Value(v) => {
-                value = v;
-            }
-        }
-        i += 1;
-    }
-    Number::Value(value)
+    word.iter().try_fold(0u32, |value, b| extended(value, *b))
 }
 
 // The end of a line's text that starts at `from`: the next newline, or the end of the paper.
 pub fn line_end(paper: &[u8], from: usize) -> usize {
-    find(paper, from, 10)
+    find(paper, from, b'\n')
 }
 
 // A line without the return before its newline.
 pub fn trimmed(line: &[u8]) -> &[u8] {
-    if line.len() == 0 {
-        return line;
-    }
-    let last = line.len() - 1;
-    if line[last] == 13 {
-        return part(line, 0, last);
-    }
-    line
+    line.strip_suffix(b"\r").unwrap_or(line)
 }

@@ -8,26 +8,15 @@ use geometry::Geometry;
 use std::io::Print;
 use wording::say;
 
-fn say_branch(rt: &impl Print, s: &[u8], i: usize)
-    requires { length s.now ≡ sector_bytes }
-{
-    if i < Geometry::BRANCH_ROOM {
-        say::say_count(rt, b" ", map_sector::branch_at(s, i));
-    }
-}
-
 fn say_branches(rt: &impl Print, s: &[u8])
     requires { length s.now ≡ sector_bytes }
 {
     let count = map_sector::branch_count(s) as usize;
     if count == 0 {
         say::say(rt, b" none");
-        return;
     }
-    let mut i = 0;
-    while i < count {
-        say_branch(rt, s, i);
-        i += 1;
+    for i in 0..count.min(Geometry::BRANCH_ROOM) {
+        say::say_count(rt, b" ", map_sector::branch_at(s, i));
     }
 }
 
@@ -59,28 +48,20 @@ fn say_kind(rt: &impl Print, s: &[u8], k: u32, g: Geometry)
 {
     if blocks::is_blank(s) {
         say::say(rt, b" blank");
-        return;
-    }
-    if k == 0 {
-        if park_record::is_park(s) {
-            say_park(rt, s);
-            return;
-        }
-    }
-    if map_sector::is_valid(s, g) {
+    } else if k == 0 && park_record::is_park(s) {
+        say_park(rt, s);
+    } else if map_sector::is_valid(s, g) {
         say_map(rt, s);
-        return;
+    } else {
+        say::say(rt, b" data");
     }
-    say::say(rt, b" data");
 }
 
 // The line of sector k of a volume, and whether it is live.
 pub fn say_sector(rt: &impl Print, s: &[u8], k: u32, g: Geometry, live: bool) {
     say::say_count(rt, b"sector ", k);
-    if s.len() == Geometry::SECTOR {
-        if 1 <= g.n {
-            say_kind(rt, s, k, g);
-        }
+    if s.len() == Geometry::SECTOR && 1 <= g.n {
+        say_kind(rt, s, k, g);
     }
     if live {
         say::say(rt, b"; live");

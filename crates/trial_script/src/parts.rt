@@ -1,6 +1,5 @@
 // The words of a line.
 use paper::tokens;
-use paper::tokens::Number;
 
 // Where word `count` of a line is looked for, from 0.
 fn skip(line: &[u8], count: u32) -> usize {
@@ -18,11 +17,7 @@ pub fn word(line: &[u8], count: u32) -> &[u8] {
 
 // Word `count` as a number; 0 where there is none, as in a call without an argument. (The form of the line is checked before.)
 pub fn number(line: &[u8], count: u32) -> u32 {
-    let found = tokens::number_in(word(line, count));
-    match found {
-        Number::Value(value) => value,
-        Number::Nothing => 0,
-    }
+    tokens::number_in(word(line, count)).unwrap_or(0)
 }
 
 pub fn has_word(line: &[u8], count: u32) -> bool {
@@ -30,11 +25,7 @@ pub fn has_word(line: &[u8], count: u32) -> bool {
 }
 
 pub fn is_number(line: &[u8], count: u32) -> bool {
-    let found = tokens::number_in(word(line, count));
-    match found {
-        Number::Value(_) => true,
-        Number::Nothing => false,
-    }
+    tokens::number_in(word(line, count)).is_some()
 }
 
 // The line without its first word.

@@ -5,49 +5,28 @@ use paper::request::Call;
 use state::State;
 use std::io::Print;
 
-// The refusal that has this number, by what the caller lends.
-fn lent_refusal(number: u32) -> Refusal {
-    if number == 1 {
-        return Refusal::Size;
-    }
-    if number == 2 {
-        return Refusal::BufferLength;
-    }
-    if number == 11 {
-        return Refusal::WrongSettings;
-    }
-    Refusal::CommitCount
-}
-
 // The refusal that has this number.
 fn refusal_of(number: u32) -> Refusal {
-    if number == 3 {
-        return Refusal::BlockNumbers;
+    match number {
+        1 => Refusal::Size,
+        2 => Refusal::BufferLength,
+        3 => Refusal::BlockNumbers,
+        4 => Refusal::WrongPhase,
+        5 => Refusal::Inconsistent,
+        6 => Refusal::NoRoom,
+        7 => Refusal::NumbersUsedUp,
+        11 => Refusal::WrongSettings,
+        _ => Refusal::CommitCount,
     }
-    if number == 4 {
-        return Refusal::WrongPhase;
-    }
-    if number == 5 {
-        return Refusal::Inconsistent;
-    }
-    if number == 6 {
-        return Refusal::NoRoom;
-    }
-    if number == 7 {
-        return Refusal::NumbersUsedUp;
-    }
-    lent_refusal(number)
 }
 
 // What a write or a drop answered, from its number and its cost.
 fn answer_of(number: u32, cost: Cost) -> Answer {
-    if number == 0 {
-        return Answer::Accepted(cost);
+    match number {
+        0 => Answer::Accepted(cost),
+        10 => Answer::PowerFailed(cost),
+        _ => Answer::Refused(refusal_of(number)),
     }
-    if number == 10 {
-        return Answer::PowerFailed(cost);
-    }
-    Answer::Refused(refusal_of(number))
 }
 
 // A commit of a backlog, with the state that it left.

@@ -2,8 +2,5 @@
 use Rattle.line_reader.specs.Reader.{Placed}
 use Rattle.exam.proofs.gather.gather.Given as goal
 
-abbrev pub invariant-loop-left : goal.invariant-loop-left
-invariant-loop-left g l = Placed l.reader
-
-abbrev pub decreases-loop-left : goal.decreases-loop-left
-decreases-loop-left g l = l.left
+abbrev pub invariant-loop : goal.invariant-loop
+invariant-loop g l = Placed l.reader
