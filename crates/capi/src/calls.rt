@@ -8,6 +8,7 @@ ghost use Rattle.batches.specs.Batch.{batch_of};
 ghost use Rattle.plain.specs.Plain.{state_of, settings_in};
 ghost use Rattle.capi.specs.Handed.{handed, in_numbers, read_handed, read_in_numbers, batch_handed, batch_in_numbers};
 
+use lending::Tables;
 use plain::{CBatchResult, CResult, CSettings, CState};
 
 // Makes an empty volume in the image, of what is given.
@@ -90,7 +91,7 @@ pub extern "C" fn vlog_read(
     ensures { read_handed result (memory image.now map.now places.now numbers.now used.now) out.new ≡ read_in_numbers c (read_of (state_of c) (memory image.now map.now places.now numbers.now used.now) block out.old) }
 {
     let s = plain::state_of(c);
-    let o = read::read(s, image, map, places, numbers, used, block, out);
+    let o = read::read(s, image, &Tables { map, places, numbers, used }, block, out);
     plain::result_of(c, o)
 }
 
@@ -108,7 +109,7 @@ pub extern "C" fn vlog_park(
     ensures { handed result (memory image.new map.now places.now numbers.now used.now) ≡ in_numbers c (park_of (state_of c) (memory image.old map.now places.now numbers.now used.now) allowance) }
 {
     let s = plain::state_of(c);
-    let o = park::park(s, image, map, places, numbers, used, allowance);
+    let o = park::park(s, image, &Tables { map, places, numbers, used }, allowance);
     plain::result_of(c, o)
 }
 

@@ -1,6 +1,7 @@
 // A batch on the board: its commits are made one after the other, each as the single write or drop that it is.
 use crate::{calls, refusals};
 use reference_board::board;
+use reference_board::kinds::{Call, Refusal};
 
 // Where the counts stand in a commit's words.
 const BLOCK_COUNT: u32 = 2;
@@ -9,11 +10,9 @@ const BYTE_COUNT: u32 = 3;
 
 // The counts of the first so many commits added up. (64 bits hold the sum of all that the board has room for.)
 fn sum(b: &[u32; board::SIZE], commits: u32, place: u32) -> u64 {
-    let mut sum = 0u64;
-    for i in 0..commits {
-        sum = std::num::wrapping_add_u64(sum, board::commit_word(b, i, place) as u64);
-    }
-    sum
+    (0..commits).fold(0, |sum: u64, i| {
+        sum.wrapping_add(board::commit_word(b, i, place) as u64)
+    })
 }
 
 // The commits lent. A rest of words does not count.
@@ -24,34 +23,20 @@ fn commits(b: &[u32; board::SIZE]) -> u32 {
 // Whether a batch's own buffers have the lengths that belong to each other.
 fn buffers_fit(b: &[u32; board::SIZE]) -> bool {
     let count = commits(b);
-    if board::get(b, board::COMMITS_LENGTH, 0) % 4 != 0 {
-        return false;
-    }
-    if board::get(b, board::BACKLOG_COUNT, 0) as u64 != sum(b, count, BLOCK_COUNT) {
-        return false;
-    }
-    if board::get(b, board::BACKLOG_BYTES, 0) as u64 != sum(b, count, BYTE_COUNT) {
-        return false;
-    }
-    board::get(b, board::ANSWERS_LENGTH, 0) as u64 == count as u64 * 5
+    board::get(b, board::COMMITS_LENGTH, 0) % 4 == 0
+        && board::get(b, board::BACKLOG_COUNT, 0) as u64 == sum(b, count, BLOCK_COUNT)
+        && board::get(b, board::BACKLOG_BYTES, 0) as u64 == sum(b, count, BYTE_COUNT)
+        && board::get(b, board::ANSWERS_LENGTH, 0) as u64 == count as u64 * 5
 }
 
-// What turns a batch back as a whole: 1, 11, 2 and 12; 0 where nothing does.
-fn refusal(b: &[u32; board::SIZE]) -> u32 {
-    let tables = refusals::of_tables(b);
-    if tables != 0 {
-        return tables;
-    }
-    if !buffers_fit(b) {
-        return 2;
-    }
-    if commits(b) == 0 {
-        return 12;
-    }
-    if commits(b) > 32 {
-        return 12;
-    }
-    0
+// What turns a batch back as a whole: 1, 11, 2 and 12.
+fn check(b: &[u32; board::SIZE]) -> Result<(), Refusal> {
+    refusals::of_tables(b)?;
+    refusals::ensure(buffers_fit(b), Refusal::BufferLength)?;
+    refusals::ensure(
+        1 <= commits(b) && commits(b) <= 32,
+        Refusal::CommitCount,
+    )
 }
 
 // Where the block numbers or the bytes of a commit begin: after those of the commits before it.
@@ -81,23 +66,23 @@ fn stand(b: &mut [u32; board::SIZE], i: u32, allowed: u32) {
     board::put(b, board::ALLOWED, 0, left);
 }
 
-fn turn_back(b: &mut [u32; board::SIZE], answer: u32) {
+fn turn_back(b: &mut [u32; board::SIZE], refusal: Refusal) {
     board::fill(b, board::ANSWER, board::ANSWER_WORDS, 0);
-    board::put(b, board::ANSWER, 0, answer);
+    board::refuse(b, refusal);
 }
 
-fn make_single(b: &mut [u32; board::SIZE], call: u32) {
-    board::put(b, board::CALL, 0, call);
+fn make_single(b: &mut [u32; board::SIZE], call: Call) {
+    board::put_call(b, call);
     calls::perform(b);
-    board::put(b, board::CALL, 0, board::BATCH);
+    board::put_call(b, Call::Batch);
 }
 
 // The commit that stands on the board. One that is neither a write nor a drop is 3.
 fn make(b: &mut [u32; board::SIZE], kind: u32) {
     match kind {
-        0 => make_single(b, 1),
-        1 => make_single(b, 2),
-        _ => turn_back(b, 3),
+        0 => make_single(b, Call::Write),
+        1 => make_single(b, Call::Drop),
+        _ => turn_back(b, Refusal::Arguments),
     }
 }
 
@@ -129,22 +114,16 @@ fn accept(b: &mut [u32; board::SIZE], i: u32, allowed: u32) -> bool {
     stand(b, i, allowed);
     make(b, kind);
     answer(b, i);
-    board::get(b, board::ANSWER, 0) == 0
-}
-
-fn accept_if(b: &mut [u32; board::SIZE], i: u32, allowed: u32, goes_on: bool) -> bool {
-    if goes_on {
-        return accept(b, i, allowed);
-    }
-    false
+    board::is_accepted(b)
 }
 
 // The commits, up to the first that is not accepted.
 fn make_all(b: &mut [u32; board::SIZE], allowed: u32) {
     let count = commits(b);
-    let mut goes_on = true;
     for i in 0..count {
-        goes_on = accept_if(b, i, allowed, goes_on);
+        if !accept(b, i, allowed) {
+            return;
+        }
     }
 }
 
@@ -162,11 +141,9 @@ fn carry_out(b: &mut [u32; board::SIZE]) {
 
 // Performs the batch that stands on the board, and leaves its answers there.
 pub fn perform(b: &mut [u32; board::SIZE]) {
-    let refused = refusal(b);
     board::put(b, board::COMMITS_ANSWERED, 0, 0);
-    if refused != 0 {
-        turn_back(b, refused);
-    } else {
-        carry_out(b);
+    match check(b) {
+        Ok(()) => carry_out(b),
+        Err(refusal) => turn_back(b, refusal),
     }
 }

@@ -1,16 +1,17 @@
 // The six single calls on the board.
 use crate::refusals;
+use reference_board::kinds::{Call, Phase, Refusal};
 use reference_board::{board, consistent, journal};
 use reference_commit::changes;
 use reference_recovery::{scanned, walked};
 
 // What a format or a recovery leaves in the state: the settings are those that it was given.
-fn put_state(b: &mut [u32; board::SIZE], n: u32, l: u32, tail: u32, number: u32, phase: u32) {
+fn put_state(b: &mut [u32; board::SIZE], n: u32, l: u32, tail: u32, number: u32, phase: Phase) {
     board::put(b, board::STATE_N, 0, n);
     board::put(b, board::STATE_L, 0, l);
     board::put(b, board::TAIL, 0, tail);
     board::put(b, board::NUMBER, 0, number);
-    board::put(b, board::PHASE, 0, phase);
+    board::put_phase(b, phase);
     board::copy(
         b,
         board::PER_TRACK,
@@ -22,7 +23,7 @@ fn put_state(b: &mut [u32; board::SIZE], n: u32, l: u32, tail: u32, number: u32,
 // A format or a recovery that came to no good end: N, L and the settings are known, the tables are zero.
 fn lose(b: &mut [u32; board::SIZE], n: u32, l: u32) {
     board::fill(b, board::LENT, board::TABLE_WORDS, 0);
-    put_state(b, n, l, 0, 0, 2);
+    put_state(b, n, l, 0, 0, Phase::Cut);
 }
 
 // The tables made are those lent from here on.
@@ -36,17 +37,10 @@ fn list_sectors(b: &mut [u32; board::SIZE], n: u32) {
     }
 }
 
-fn kind(piece: u32, p: u32) -> u32 {
-    if board::plus(piece, 1) == p {
-        return 1;
-    }
-    0
-}
-
 // Piece q of a format, in the sector after it and with that number; piece q - 1 lies in sector q.
 fn list_piece(b: &mut [u32; board::SIZE], q: u32, p: u32, l: u32) {
     let k = board::plus(q, 1);
-    journal::list_map(b, k, k, q, kind(q, p), l);
+    journal::list_map(b, k, k, q, k == p, l);
     if q > 0 {
         journal::list_branch(b, q);
     }
@@ -76,14 +70,14 @@ fn format(b: &mut [u32; board::SIZE]) {
     consistent::put_used(b, board::MADE, n, l);
     if journal::perform(b) {
         keep_made(b);
-        put_state(b, n, l, p, p, 0);
+        put_state(b, n, l, p, p, Phase::Running);
     } else {
         lose(b, n, l);
     }
 }
 
 fn cut(b: &mut [u32; board::SIZE]) {
-    board::put(b, board::PHASE, 0, 2);
+    board::put_phase(b, Phase::Cut);
 }
 
 // The tail and the number after a commit: its last member's.
@@ -139,7 +133,7 @@ fn park(b: &mut [u32; board::SIZE]) {
     let tail = board::get(b, board::TAIL, 0);
     journal::list_park(b, number, tail);
     if journal::perform(b) {
-        board::put(b, board::PHASE, 0, 1);
+        board::put_phase(b, Phase::Parked);
     } else {
         cut(b);
     }
@@ -151,7 +145,7 @@ fn finish(b: &mut [u32; board::SIZE], n: u32, l: u32) {
     let number = board::get(b, board::FOUND_NUMBER, 0);
     if journal::perform(b) {
         keep_made(b);
-        put_state(b, n, l, tail, number, 0);
+        put_state(b, n, l, tail, number, Phase::Running);
     } else {
         forget_way(b);
         lose(b, n, l);
@@ -164,10 +158,10 @@ fn forget_way(b: &mut [u32; board::SIZE]) {
     board::put(b, board::READS, 0, 0);
 }
 
-// The walk where it answers, otherwise the scan: 0, 8 or 9.
-fn find(b: &mut [u32; board::SIZE], n: u32, l: u32) -> u32 {
+// The walk where it answers, otherwise the scan.
+fn find(b: &mut [u32; board::SIZE], n: u32, l: u32) -> Result<(), Refusal> {
     if walked::walk(b, n, l) {
-        return 0;
+        return Ok(());
     }
     scanned::scan(b, n, l)
 }
@@ -175,47 +169,47 @@ fn find(b: &mut [u32; board::SIZE], n: u32, l: u32) -> u32 {
 fn recover(b: &mut [u32; board::SIZE]) {
     let n = board::get(b, board::IMAGE_LENGTH, 0) / 512;
     let l = board::get(b, board::BLOCK_COUNT, 0);
-    let found = find(b, n, l);
-    if found == 0 {
-        finish(b, n, l);
-    } else {
-        board::put(b, board::ANSWER, 0, found);
-        lose(b, n, l);
+    match find(b, n, l) {
+        Ok(()) => finish(b, n, l),
+        Err(refusal) => {
+            board::refuse(b, refusal);
+            lose(b, n, l);
+        }
     }
 }
 
-fn carry_out(b: &mut [u32; board::SIZE], call: u32) {
+// A batch is no single call (`backlog`).
+fn carry_out(b: &mut [u32; board::SIZE], call: Call) {
     match call {
-        0 => format(b),
-        1 => commit(b, true),
-        2 => commit(b, false),
-        3 => read(b),
-        4 => park(b),
-        _ => recover(b),
+        Call::Format => format(b),
+        Call::Write => commit(b, true),
+        Call::Drop => commit(b, false),
+        Call::Read => read(b),
+        Call::Park => park(b),
+        Call::Recover => recover(b),
+        Call::Batch => {}
     }
 }
 
-fn refusal(b: &mut [u32; board::SIZE], call: u32) -> u32 {
+fn check(b: &mut [u32; board::SIZE], call: Call) -> Result<(), Refusal> {
     match call {
-        0 => refusals::of_image(b),
-        1 => refusals::of_commit(b, true),
-        2 => refusals::of_commit(b, false),
-        3 => refusals::of_read(b),
-        4 => refusals::of_park(b),
-        _ => refusals::of_image(b),
+        Call::Format | Call::Recover => refusals::of_image(b),
+        Call::Write => refusals::of_commit(b, true),
+        Call::Drop => refusals::of_commit(b, false),
+        Call::Read => refusals::of_read(b),
+        Call::Park => refusals::of_park(b),
+        Call::Batch => refusals::of_tables(b),
     }
 }
 
 // Performs the single call that stands on the board, and leaves its answer there.
 pub fn perform(b: &mut [u32; board::SIZE]) {
-    let call = board::get(b, board::CALL, 0);
+    let call = board::call(b);
     board::fill(b, board::ANSWER, board::ANSWER_WORDS, 0);
     board::put(b, board::LISTED, 0, 0);
     board::put(b, board::FILLED, 0, 0);
-    let refused = refusal(b, call);
-    if refused != 0 {
-        board::put(b, board::ANSWER, 0, refused);
-    } else {
-        carry_out(b, call);
+    match check(b, call) {
+        Ok(()) => carry_out(b, call),
+        Err(refusal) => board::refuse(b, refusal),
     }
 }

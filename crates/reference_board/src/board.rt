@@ -1,5 +1,6 @@
 // The board: one array of words with everything that a call is lent and hands back. The image lies on it word by word, the used map with a word
 // a sector. A word past its end reads as 0 and is not written.
+use crate::kinds::{Call, Phase, Refusal};
 
 // The most sectors and blocks of a volume. Its pieces are 50 at most, and there is room for more.
 pub const N_MOST: u32 = 1040;
@@ -20,7 +21,7 @@ pub const STATE_L: u32 = 1;
 pub const TAIL: u32 = 2;
 
 pub const NUMBER: u32 = 3;
-// 0 running, 1 parked, 2 cut.
+// `kinds::Phase`, by its number.
 pub const PHASE: u32 = 4;
 // The drive's settings: sectors a track, tracks, and the head switch in sector times.
 pub const PER_TRACK: u32 = 5;
@@ -32,10 +33,10 @@ pub const SWITCH: u32 = 7;
 pub const SETTING_WORDS: u32 = 3;
 
 pub const STATE_WORDS: u32 = 8;
-// Which call: 0 format, 1 write, 2 drop, 3 read, 4 park, 5 recover, and this one a batch.
+// `kinds::Call`, by its number.
 pub const CALL: u32 = 8;
 
-pub const BATCH: u32 = 6;
+pub const BATCH: u32 = Call::Batch as u32;
 // What a format or a recover is given: L, and the settings in the order of the state.
 pub const BLOCK_COUNT: u32 = 9;
 
@@ -62,11 +63,11 @@ pub const NUMBERS_LENGTH: u32 = 19;
 pub const USED_LENGTH: u32 = 20;
 // The bytes of a write, or of a read's buffer.
 pub const BYTES_LENGTH: u32 = 21;
-// What was answered: 0, or the refusal's number.
+// What was answered: 0, or the number of a `kinds::Refusal`.
 pub const ANSWER: u32 = 22;
 
 pub const STORES: u32 = 23;
-// 1 walk, 2 scan.
+// 0, or the number of a `kinds::Way`.
 pub const WAY: u32 = 24;
 // The sectors read.
 pub const READS: u32 = 25;
@@ -163,17 +164,17 @@ pub const SIZE: usize = LIST as usize + (1 + COUNT_MOST as usize + P_MOST as usi
 
 // The sum, with wrapping.
 pub fn plus(x: u32, y: u32) -> u32 {
-    std::num::wrapping_add_u32(x, y)
+    x.wrapping_add(y)
 }
 
 // The difference, with wrapping.
 pub fn minus(x: u32, y: u32) -> u32 {
-    std::num::wrapping_sub_u32(x, y)
+    x.wrapping_sub(y)
 }
 
 // The bytes of so many sectors, with wrapping.
 pub fn bytes(sectors: u32) -> u32 {
-    (sectors as u64 * 512 % 4_294_967_296) as u32
+    sectors.wrapping_mul(512)
 }
 
 fn get_at(board: &[u32; SIZE], at: usize) -> u32 {
@@ -196,6 +197,31 @@ pub fn get(board: &[u32; SIZE], from: u32, i: u32) -> u32 {
 
 pub fn put(board: &mut [u32; SIZE], from: u32, i: u32, x: u32) {
     put_at(board, from as usize + i as usize, x);
+}
+
+// The call that stands on the board.
+pub fn call(board: &[u32; SIZE]) -> Call {
+    Call::from(get(board, CALL, 0))
+}
+
+pub fn put_call(board: &mut [u32; SIZE], call: Call) {
+    put(board, CALL, 0, call as u32);
+}
+
+pub fn phase(board: &[u32; SIZE]) -> Phase {
+    Phase::from(get(board, PHASE, 0))
+}
+
+pub fn put_phase(board: &mut [u32; SIZE], phase: Phase) {
+    put(board, PHASE, 0, phase as u32);
+}
+
+pub fn is_accepted(board: &[u32; SIZE]) -> bool {
+    get(board, ANSWER, 0) == 0
+}
+
+pub fn refuse(board: &mut [u32; SIZE], refusal: Refusal) {
+    put(board, ANSWER, 0, refusal as u32);
 }
 
 // Word i of the k-th sector of those that begin at `from`.
@@ -261,35 +287,20 @@ pub fn fill_sector(board: &mut [u32; SIZE], from: u32, k: u32, x: u32) {
 }
 
 pub fn is_zero_sector(board: &[u32; SIZE], from: u32, k: u32) -> bool {
-    for i in 0..128u32 {
-        if word(board, from, k, i) != 0 {
-            return false;
-        }
-    }
-    true
+    (0..128u32).all(|i| word(board, from, k, i) == 0)
 }
 
 // Pieces of a map of l entries: l / 96, rounded up.
 pub fn pieces(l: u32) -> u32 {
-    if l % 96 == 0 {
-        return l / 96;
-    }
-    l / 96 + 1
+    l.div_ceil(96)
 }
 
 // Bytes of a used map: one bit a sector.
 pub fn used_bytes(n: u32) -> u32 {
-    if n % 8 == 0 {
-        return n / 8;
-    }
-    n / 8 + 1
+    n.div_ceil(8)
 }
 
 // The sum of a sector's words, with wrapping.
 pub fn sum(board: &[u32; SIZE], from: u32, k: u32) -> u32 {
-    let mut s = 0u32;
-    for i in 0..128u32 {
-        s = plus(s, word(board, from, k, i));
-    }
-    s
+    (0..128u32).fold(0, |s, i| plus(s, word(board, from, k, i)))
 }

@@ -28,7 +28,7 @@ fn tally_entries(b: &mut [u32; board::SIZE], t: u32, l: u32) {
 }
 
 fn tally_place(b: &mut [u32; board::SIZE], t: u32, q: u32) {
-    let place = board::get(b, board::plus(t, board::PLACES), q);
+    let place = place_at(b, t, q);
     tally_sector(b, place);
 }
 
@@ -46,24 +46,15 @@ fn tally(b: &mut [u32; board::SIZE], t: u32, l: u32) {
 }
 
 fn entries_in_range(b: &[u32; board::SIZE], t: u32, n: u32, l: u32) -> bool {
-    for i in 0..l {
-        let entry = board::get(b, t, i);
-        if entry != 0 {
-            if !valid::is_place(sector_of(entry), n) {
-                return false;
-            }
-        }
-    }
-    true
+    (0..l).all(|i| entry_fits(board::get(b, t, i), n))
+}
+
+fn entry_fits(entry: u32, n: u32) -> bool {
+    entry == 0 || valid::is_place(sector_of(entry), n)
 }
 
 fn places_in_range(b: &[u32; board::SIZE], t: u32, n: u32, p: u32) -> bool {
-    for q in 0..p {
-        if !valid::is_place(board::get(b, board::plus(t, board::PLACES), q), n) {
-            return false;
-        }
-    }
-    true
+    (0..p).all(|q| valid::is_place(place_at(b, t, q), n))
 }
 
 // What the used map has to say of sector k.
@@ -76,36 +67,28 @@ fn used_of(b: &[u32; board::SIZE], k: u32) -> u32 {
 
 // The used bits are sector 0 and the sectors named, none of them twice.
 fn used_agrees(b: &[u32; board::SIZE], t: u32, n: u32) -> bool {
-    for k in 0..n {
-        let bit = board::get(b, board::plus(t, board::USED), k);
-        if bit > 1 {
-            return false;
-        }
-        if bit != used_of(b, k) {
-            return false;
-        }
-    }
-    true
+    (0..n).all(|k| {
+        let bit = bit_at(b, t, k);
+        bit <= 1 && bit == used_of(b, k)
+    })
 }
 
 // The bits after sector n - 1, up to the end of its byte, are zero.
 fn spare_zero(b: &[u32; board::SIZE], t: u32, n: u32) -> bool {
-    for i in 0..8u32 {
-        if board::get(b, board::plus(t, board::USED), board::plus(n, i)) != 0 {
-            return false;
-        }
-    }
-    true
+    (0..8u32).all(|i| bit_at(b, t, board::plus(n, i)) == 0)
 }
 
-pub fn free_count(b: &[u32; board::SIZE], t: u32, n: u32) -> u32 {
-    let mut free = 0u32;
-    for k in 0..n {
-        if board::get(b, board::plus(t, board::USED), k) == 0 {
-            free = board::plus(free, 1);
-        }
-    }
-    free
+pub fn free_count(b: &[u32; board::SIZE], t: u32, n: u32) -> usize {
+    (0..n).filter(|k| bit_at(b, t, *k) == 0).count()
+}
+
+// The word that stands for a sector's used bit.
+pub fn bit_at(b: &[u32; board::SIZE], t: u32, k: u32) -> u32 {
+    board::get(b, board::plus(t, board::USED), k)
+}
+
+pub fn place_at(b: &[u32; board::SIZE], t: u32, q: u32) -> u32 {
+    board::get(b, board::plus(t, board::PLACES), q)
 }
 
 pub fn number_at(b: &[u32; board::SIZE], t: u32, q: u32) -> u32 {
@@ -114,45 +97,21 @@ pub fn number_at(b: &[u32; board::SIZE], t: u32, q: u32) -> u32 {
 
 // Whether a piece before q has its number.
 fn has_equal(b: &[u32; board::SIZE], t: u32, q: u32) -> bool {
-    for r in 0..q {
-        if number_at(b, t, r) == number_at(b, t, q) {
-            return true;
-        }
-    }
-    false
+    (0..q).any(|r| number_at(b, t, r) == number_at(b, t, q))
 }
 
 fn numbers_fit(b: &[u32; board::SIZE], t: u32, p: u32) -> bool {
-    for q in 0..p {
-        if number_at(b, t, q) == 0 {
-            return false;
-        }
-        if has_equal(b, t, q) {
-            return false;
-        }
-    }
-    true
+    (0..p).all(|q| number_at(b, t, q) != 0 && !has_equal(b, t, q))
 }
 
 fn is_greatest(b: &[u32; board::SIZE], t: u32, p: u32, number: u32) -> bool {
-    for q in 0..p {
-        if number_at(b, t, q) > number {
-            return false;
-        }
-    }
-    true
+    (0..p).all(|q| number_at(b, t, q) <= number)
 }
 
 // Whether some piece lives in the tail's sector with the tail's number, and no number is greater.
 fn tail_fits(b: &[u32; board::SIZE], t: u32, p: u32, tail: u32, number: u32) -> bool {
-    for q in 0..p {
-        if number_at(b, t, q) == number {
-            if board::get(b, board::plus(t, board::PLACES), q) == tail {
-                return is_greatest(b, t, p, number);
-            }
-        }
-    }
-    false
+    (0..p).any(|q| number_at(b, t, q) == number && place_at(b, t, q) == tail)
+        && is_greatest(b, t, p, number)
 }
 
 pub fn is_consistent(
@@ -164,26 +123,14 @@ pub fn is_consistent(
     number: u32,
 ) -> bool {
     let p = board::pieces(l);
-    if !entries_in_range(b, t, n, l) {
-        return false;
-    }
-    if !places_in_range(b, t, n, p) {
-        return false;
-    }
     tally(b, t, l);
-    if !used_agrees(b, t, n) {
-        return false;
-    }
-    if !spare_zero(b, t, n) {
-        return false;
-    }
-    if free_count(b, t, n) < p {
-        return false;
-    }
-    if !numbers_fit(b, t, p) {
-        return false;
-    }
-    tail_fits(b, t, p, tail, number)
+    entries_in_range(b, t, n, l)
+        && places_in_range(b, t, n, p)
+        && used_agrees(b, t, n)
+        && spare_zero(b, t, n)
+        && free_count(b, t, n) >= p as usize
+        && numbers_fit(b, t, p)
+        && tail_fits(b, t, p, tail, number)
 }
 
 fn mark_used(b: &mut [u32; board::SIZE], t: u32, k: u32) {
@@ -205,37 +152,19 @@ pub fn put_used(b: &mut [u32; board::SIZE], t: u32, n: u32, l: u32) {
 }
 
 fn entries_agree(b: &[u32; board::SIZE], k: u32, q: u32, l: u32) -> bool {
-    for i in 0..l {
-        if i / 96 == q {
-            if board::get(b, board::LENT, i) != board::word(b, board::IMAGE, k, 32 + i % 96) {
-                return false;
-            }
-        }
-    }
-    true
+    (0..l).filter(|i| *i / 96 == q).all(|i| board::get(b, board::LENT, i)
+        == board::word(b, board::IMAGE, k, 32 + i % 96))
 }
 
 // Whether the live place of piece q is signed with that piece, its number and its entries.
 fn lives(b: &[u32; board::SIZE], q: u32, n: u32, l: u32) -> bool {
-    let k = board::get(b, board::plus(board::LENT, board::PLACES), q);
-    if !valid::is_valid(b, k, n, l) {
-        return false;
-    }
-    if valid::piece_of(b, k) != q {
-        return false;
-    }
-    if valid::number_of(b, k) != number_at(b, board::LENT, q) {
-        return false;
-    }
-    entries_agree(b, k, q, l)
+    let k = place_at(b, board::LENT, q);
+    valid::is_valid(b, k, n, l)
+        && valid::piece_of(b, k) == q
+        && valid::number_of(b, k) == number_at(b, board::LENT, q)
+        && entries_agree(b, k, q, l)
 }
 
 pub fn all_live(b: &[u32; board::SIZE], n: u32, l: u32) -> bool {
-    let p = board::pieces(l);
-    for q in 0..p {
-        if !lives(b, q, n, l) {
-            return false;
-        }
-    }
-    true
+    (0..board::pieces(l)).all(|q| lives(b, q, n, l))
 }

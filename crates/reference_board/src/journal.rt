@@ -1,4 +1,5 @@
 // The list of a call's stores: places and whole sectors, in the order in which they are made.
+use crate::kinds::Refusal;
 use crate::{board, valid};
 
 // Lists a store at k of one of the sectors of words: the first of them is zero.
@@ -52,12 +53,12 @@ pub fn begins_with_mark(b: &[u32; board::SIZE], i: u32) -> bool {
 }
 
 // Lists a map sector that has no branches and no entries yet.
-pub fn list_map(b: &mut [u32; board::SIZE], k: u32, number: u32, piece: u32, kind: u32, l: u32) {
+pub fn list_map(b: &mut [u32; board::SIZE], k: u32, number: u32, piece: u32, closes: bool, l: u32) {
     list_words(b, k);
     put_last(b, 0, valid::MAP_MARK);
     put_last(b, 2, number);
     put_last(b, 4, piece);
-    put_last(b, 5, kind);
+    put_last(b, 5, u32::from(closes));
     put_last(b, 7, l);
 }
 
@@ -69,11 +70,9 @@ pub fn list_branch(b: &mut [u32; board::SIZE], x: u32) {
 }
 
 fn put_made_entry(b: &mut [u32; board::SIZE], piece: u32, i: u32) {
-    if i < 96 {
-        if piece < 256 {
-            let entry = board::get(b, board::MADE, piece * 96 + i);
-            put_last(b, 32 + i, entry);
-        }
+    if i < 96 && piece < 256 {
+        let entry = board::get(b, board::MADE, piece * 96 + i);
+        put_last(b, 32 + i, entry);
     }
 }
 
@@ -115,18 +114,16 @@ pub fn perform(b: &mut [u32; board::SIZE]) -> bool {
         board::put(b, board::STORES, 0, listed);
         return true;
     }
-    board::put(b, board::ANSWER, 0, 10);
+    board::refuse(b, Refusal::PowerCut);
     board::put(b, board::STORES, 0, allowed);
     false
 }
 
 // The delays to the first so many stores of a commit, added up.
 fn skipped_for(b: &[u32; board::SIZE], made: u32) -> u32 {
-    let mut skipped = 0u32;
-    for j in 0..made {
-        skipped = board::plus(skipped, board::get(b, board::LIST_DELAYS, j));
-    }
-    skipped
+    (0..made).fold(0, |skipped, j| {
+        board::plus(skipped, board::get(b, board::LIST_DELAYS, j))
+    })
 }
 
 // Of a commit whose stores are made, as many as were allowed: the delays to these.

@@ -5,5 +5,6 @@
 pub mod board;
 pub mod consistent;
 pub mod journal;
+pub mod kinds;
 pub mod places;
 pub mod valid;

@@ -1,8 +1,8 @@
 // Placing: where the next sector of a commit goes. The drive is that of the state, whose settings were judged before.
 use crate::{board, consistent};
 
-// A free sector, and how long it is until it comes under the head. Sector 0, which is never free, stands for none.
-#[derive(Clone, Copy)]
+// A free sector, and how long it is until it comes under the head.
+#[derive(Clone, Copy, Default)]
 struct Found {
     sector: u32,
     delay: u32,
@@ -54,35 +54,24 @@ fn delay(b: &[u32; board::SIZE], from: u32, k: u32) -> u32 {
 }
 
 fn is_free(b: &[u32; board::SIZE], k: u32) -> bool {
-    board::get(b, board::plus(board::MADE, board::USED), k) == 0
+    consistent::bit_at(b, board::MADE, k) == 0
 }
 
 // The free sector of least delay. All are tried, in ascending order, so that of two that tie the lower stays.
-fn nearest(b: &[u32; board::SIZE], from: u32, n: u32) -> Found {
-    let mut best = Found {
-        sector: 0,
-        delay: 0,
-    };
-    for k in 1..n {
-        if is_free(b, k) {
-            best = nearer(best, k, delay(b, from, k));
-        }
-    }
-    best
-}
-
-fn nearer(best: Found, k: u32, delay: u32) -> Found {
-    if best.sector != 0 {
-        if best.delay <= delay {
-            return best;
-        }
-    }
-    Found { sector: k, delay }
+fn nearest(b: &[u32; board::SIZE], from: u32, n: u32) -> Option<Found> {
+    (1..n)
+        .filter(|k| is_free(b, *k))
+        .map(|k| Found {
+            sector: k,
+            delay: delay(b, from, k),
+        })
+        .min_by_key(|found| found.delay)
 }
 
 // Takes the next free sector, for the store that is listed next. It stays taken to the end of the commit, and nothing is freed before that.
 pub fn take(b: &mut [u32; board::SIZE], n: u32) -> u32 {
-    let found = nearest(b, board::get(b, board::NEXT, 0), n);
+    // A commit is turned back where there is no room for it, so there is one.
+    let found = nearest(b, board::get(b, board::NEXT, 0), n).unwrap_or_default();
     let k = found.sector;
     let store = board::get(b, board::LISTED, 0);
     let next = after(k, per_track(b));
@@ -104,5 +93,5 @@ fn after(k: u32, per_track: u32) -> u32 {
 
 // Whether a commit has the room that it needs: so many blocks, and P.
 pub fn has_room(b: &[u32; board::SIZE], n: u32, l: u32, count: u32) -> bool {
-    consistent::free_count(b, board::LENT, n) as u64 >= count as u64 + board::pieces(l) as u64
+    consistent::free_count(b, board::LENT, n) >= count as usize + board::pieces(l) as usize
 }

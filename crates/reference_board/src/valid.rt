@@ -8,10 +8,7 @@ pub const PARK_MARK: u32 = 827_346_006;
 
 // Whether a place is a sector that may be named: 1 to n - 1.
 pub fn is_place(k: u32, n: u32) -> bool {
-    if k == 0 {
-        return false;
-    }
-    k < n
+    k != 0 && k < n
 }
 
 fn branch_fits(x: u32, counts: bool, n: u32) -> bool {
@@ -23,12 +20,7 @@ fn branch_fits(x: u32, counts: bool, n: u32) -> bool {
 
 fn branches_fit(b: &[u32; board::SIZE], k: u32, n: u32) -> bool {
     let count = board::word(b, board::IMAGE, k, 6);
-    for i in 0..24u32 {
-        if !branch_fits(board::word(b, board::IMAGE, k, 8 + i), i < count, n) {
-            return false;
-        }
-    }
-    true
+    (0..24u32).all(|i| branch_fits(board::word(b, board::IMAGE, k, 8 + i), i < count, n))
 }
 
 // Whether block `i` of a piece lies past L.
@@ -38,50 +30,25 @@ fn is_past(piece: u32, i: u32, l: u32) -> bool {
 
 fn entries_fit(b: &[u32; board::SIZE], k: u32, l: u32) -> bool {
     let piece = board::word(b, board::IMAGE, k, 4);
-    for i in 0..96u32 {
-        if is_past(piece, i, l) {
-            if board::word(b, board::IMAGE, k, 32 + i) != 0 {
-                return false;
-            }
-        }
-    }
-    true
+    (0..96u32).all(|i| !is_past(piece, i, l) || board::word(b, board::IMAGE, k, 32 + i) == 0)
 }
 
 // Words 3 to 7: zero, the piece, the kind, the count of branches, L.
 fn fields_fit(b: &[u32; board::SIZE], k: u32, l: u32) -> bool {
-    if board::word(b, board::IMAGE, k, 3) != 0 {
-        return false;
-    }
-    if board::word(b, board::IMAGE, k, 4) >= board::pieces(l) {
-        return false;
-    }
-    if board::word(b, board::IMAGE, k, 5) > 1 {
-        return false;
-    }
-    if board::word(b, board::IMAGE, k, 6) > 24 {
-        return false;
-    }
-    board::word(b, board::IMAGE, k, 7) == l
+    board::word(b, board::IMAGE, k, 3) == 0
+        && board::word(b, board::IMAGE, k, 4) < board::pieces(l)
+        && board::word(b, board::IMAGE, k, 5) <= 1
+        && board::word(b, board::IMAGE, k, 6) <= 24
+        && board::word(b, board::IMAGE, k, 7) == l
 }
 
 pub fn is_valid(b: &[u32; board::SIZE], k: u32, n: u32, l: u32) -> bool {
-    if board::word(b, board::IMAGE, k, 0) != MAP_MARK {
-        return false;
-    }
-    if number_of(b, k) == 0 {
-        return false;
-    }
-    if board::sum(b, board::IMAGE, k) != 0 {
-        return false;
-    }
-    if !fields_fit(b, k, l) {
-        return false;
-    }
-    if !branches_fit(b, k, n) {
-        return false;
-    }
-    entries_fit(b, k, l)
+    board::word(b, board::IMAGE, k, 0) == MAP_MARK
+        && number_of(b, k) != 0
+        && board::sum(b, board::IMAGE, k) == 0
+        && fields_fit(b, k, l)
+        && branches_fit(b, k, n)
+        && entries_fit(b, k, l)
 }
 
 pub fn number_of(b: &[u32; board::SIZE], k: u32) -> u32 {
@@ -93,21 +60,12 @@ pub fn piece_of(b: &[u32; board::SIZE], k: u32) -> u32 {
 }
 
 pub fn is_closing(b: &[u32; board::SIZE], k: u32, n: u32, l: u32) -> bool {
-    if board::word(b, board::IMAGE, k, 5) != 1 {
-        return false;
-    }
-    is_valid(b, k, n, l)
+    board::word(b, board::IMAGE, k, 5) == 1 && is_valid(b, k, n, l)
 }
 
 // Whether sector 0 is a park record.
 pub fn is_park(b: &[u32; board::SIZE]) -> bool {
-    if board::word(b, board::IMAGE, 0, 0) != PARK_MARK {
-        return false;
-    }
-    for i in 4..128u32 {
-        if board::word(b, board::IMAGE, 0, i) != 0 {
-            return false;
-        }
-    }
-    board::sum(b, board::IMAGE, 0) == 0
+    board::word(b, board::IMAGE, 0, 0) == PARK_MARK
+        && (4..128u32).all(|i| board::word(b, board::IMAGE, 0, i) == 0)
+        && board::sum(b, board::IMAGE, 0) == 0
 }

@@ -1,7 +1,7 @@
 // The branches of a commit's first member, from the remaining live sectors: those of pieces that are not touched.
 use reference_board::{board, consistent};
 
-fn is_touched(b: &[u32; board::SIZE], q: u32) -> bool {
+pub fn is_touched(b: &[u32; board::SIZE], q: u32) -> bool {
     board::get(b, board::TOUCHED, q) != 0
 }
 
@@ -9,22 +9,14 @@ fn is_reached(b: &[u32; board::SIZE], q: u32) -> bool {
     board::get(b, board::REACHED, q) != 0
 }
 
-// The remaining piece that lives in sector k; p where none does.
-fn remaining_at(b: &[u32; board::SIZE], k: u32, p: u32) -> u32 {
-    for q in 0..p {
-        if !is_touched(b, q) {
-            if board::get(b, board::plus(board::LENT, board::PLACES), q) == k {
-                return q;
-            }
-        }
-    }
-    p
+// The remaining piece that lives in sector k.
+fn remaining_at(b: &[u32; board::SIZE], k: u32, p: u32) -> Option<u32> {
+    (0..p).find(|q| !is_touched(b, *q) && consistent::place_at(b, board::LENT, *q) == k)
 }
 
 // Follows one branch of piece q: its target is reached where it is a remaining sector with a lower number.
 fn follow(b: &mut [u32; board::SIZE], q: u32, target: u32, p: u32) {
-    let r = remaining_at(b, target, p);
-    if r < p {
+    if let Some(r) = remaining_at(b, target, p) {
         if consistent::number_at(b, board::LENT, r) < consistent::number_at(b, board::LENT, q) {
             board::put(b, board::REACHED, r, 1);
         }
@@ -45,11 +37,9 @@ fn follow_all(b: &mut [u32; board::SIZE], q: u32, k: u32, p: u32) {
 }
 
 fn spread_from(b: &mut [u32; board::SIZE], q: u32, p: u32) {
-    if !is_touched(b, q) {
-        if is_reached(b, q) {
-            let k = board::get(b, board::plus(board::LENT, board::PLACES), q);
-            follow_all(b, q, k, p);
-        }
+    if !is_touched(b, q) && is_reached(b, q) {
+        let k = consistent::place_at(b, board::LENT, q);
+        follow_all(b, q, k, p);
     }
 }
 
@@ -59,14 +49,8 @@ fn spread_once(b: &mut [u32; board::SIZE], p: u32) {
     }
 }
 
-fn reached_count(b: &[u32; board::SIZE], p: u32) -> u32 {
-    let mut count = 0u32;
-    for q in 0..p {
-        if is_reached(b, q) {
-            count = board::plus(count, 1);
-        }
-    }
-    count
+fn reached_count(b: &[u32; board::SIZE], p: u32) -> usize {
+    (0..p).filter(|q| is_reached(b, *q)).count()
 }
 
 // One round, which says whether something more was reached.
@@ -78,38 +62,25 @@ fn spread_more(b: &mut [u32; board::SIZE], p: u32) -> bool {
 
 // Follows branches until nothing more is reached: at most p rounds.
 fn spread(b: &mut [u32; board::SIZE], p: u32) {
-    let mut more = true;
-    for round in 0..p {
-        more = spread_if(b, p, more);
+    for _ in 0..p {
+        if !spread_more(b, p) {
+            return;
+        }
     }
 }
 
-fn spread_if(b: &mut [u32; board::SIZE], p: u32, more: bool) -> bool {
-    if more {
-        return spread_more(b, p);
-    }
-    false
+fn is_judged(b: &[u32; board::SIZE], q: u32) -> bool {
+    board::get(b, board::JUDGED, q) != 0
 }
 
-// The newest remaining piece that is not judged yet; p where all are.
-fn newest(b: &[u32; board::SIZE], p: u32) -> u32 {
-    let mut best = p;
-    for q in 0..p {
-        best = newer(b, best, q, p);
-    }
-    best
+// The newest remaining piece that is not judged yet.
+fn newest(b: &[u32; board::SIZE], p: u32) -> Option<u32> {
+    (0..p)
+        .filter(|q| !is_touched(b, *q) && !is_judged(b, *q))
+        .reduce(|best, q| newer(b, best, q))
 }
 
-fn newer(b: &[u32; board::SIZE], best: u32, q: u32, p: u32) -> u32 {
-    if is_touched(b, q) {
-        return best;
-    }
-    if board::get(b, board::JUDGED, q) != 0 {
-        return best;
-    }
-    if best == p {
-        return q;
-    }
+fn newer(b: &[u32; board::SIZE], best: u32, q: u32) -> u32 {
     if consistent::number_at(b, board::LENT, q) > consistent::number_at(b, board::LENT, best) {
         return q;
     }
@@ -118,7 +89,7 @@ fn newer(b: &[u32; board::SIZE], best: u32, q: u32, p: u32) -> u32 {
 
 fn list_piece(b: &mut [u32; board::SIZE], q: u32, p: u32) {
     let count = board::get(b, board::BRANCH_COUNT, 0);
-    let place = board::get(b, board::plus(board::LENT, board::PLACES), q);
+    let place = consistent::place_at(b, board::LENT, q);
     board::put(b, board::BRANCHES, count, place);
     board::put(b, board::BRANCH_COUNT, 0, board::plus(count, 1));
     board::put(b, board::REACHED, q, 1);
@@ -127,8 +98,7 @@ fn list_piece(b: &mut [u32; board::SIZE], q: u32, p: u32) {
 
 // Judges the newest remaining piece: it is listed unless it is reached already.
 fn judge(b: &mut [u32; board::SIZE], p: u32) {
-    let q = newest(b, p);
-    if q < p {
+    if let Some(q) = newest(b, p) {
         board::put(b, board::JUDGED, q, 1);
         if !is_reached(b, q) {
             list_piece(b, q, p);
@@ -137,7 +107,7 @@ fn judge(b: &mut [u32; board::SIZE], p: u32) {
 }
 
 fn judge_all(b: &mut [u32; board::SIZE], p: u32) {
-    for turn in 0..p {
+    for _ in 0..p {
         judge(b, p);
     }
 }

@@ -46,14 +46,8 @@ fn empty_all(b: &mut [u32; board::SIZE], count: u32) {
     }
 }
 
-fn touched_count(b: &[u32; board::SIZE], p: u32) -> u32 {
-    let mut count = 0u32;
-    for q in 0..p {
-        if board::get(b, board::TOUCHED, q) != 0 {
-            count = board::plus(count, 1);
-        }
-    }
-    count
+fn last_touched(b: &[u32; board::SIZE], p: u32) -> Option<u32> {
+    (0..p).rev().find(|q| branches::is_touched(b, *q))
 }
 
 fn list_chosen(b: &mut [u32; board::SIZE], i: u32) {
@@ -78,17 +72,9 @@ fn list_branches(b: &mut [u32; board::SIZE], members: u32) {
     }
 }
 
-// 1 for the last of the members.
-fn kind(member: u32, touched: u32) -> u32 {
-    if member == touched {
-        return 1;
-    }
-    0
-}
-
-fn list_member(b: &mut [u32; board::SIZE], q: u32, k: u32, number: u32, kind: u32, l: u32) {
+fn list_member(b: &mut [u32; board::SIZE], q: u32, k: u32, number: u32, closes: bool, l: u32) {
     let before = board::get(b, board::MEMBERS, 0);
-    journal::list_map(b, k, number, q, kind, l);
+    journal::list_map(b, k, number, q, closes, l);
     list_branches(b, before);
     journal::list_entries(b, q);
     journal::balance(b);
@@ -101,25 +87,26 @@ fn put_member(b: &mut [u32; board::SIZE], q: u32, k: u32, number: u32, member: u
     board::put(b, board::MEMBERS, 0, member);
 }
 
-fn place_member(b: &mut [u32; board::SIZE], q: u32, n: u32, l: u32, touched: u32) {
+fn place_member(b: &mut [u32; board::SIZE], q: u32, n: u32, l: u32, closes: bool) {
     let member = board::plus(board::get(b, board::MEMBERS, 0), 1);
     let number = board::plus(board::get(b, board::NUMBER, 0), member);
     let k = places::take(b, n);
-    list_member(b, q, k, number, kind(member, touched), l);
+    list_member(b, q, k, number, closes, l);
     put_member(b, q, k, number, member);
 }
 
-fn place_piece(b: &mut [u32; board::SIZE], q: u32, n: u32, l: u32, touched: u32) {
-    if board::get(b, board::TOUCHED, q) != 0 {
-        place_member(b, q, n, l, touched);
+fn place_piece(b: &mut [u32; board::SIZE], q: u32, n: u32, l: u32, closes: bool) {
+    if branches::is_touched(b, q) {
+        place_member(b, q, n, l, closes);
     }
 }
 
+// The last of the members closes the commit.
 fn place_members(b: &mut [u32; board::SIZE], n: u32, l: u32) {
     let p = board::pieces(l);
-    let touched = touched_count(b, p);
+    let last = last_touched(b, p);
     for q in 0..p {
-        place_piece(b, q, n, l, touched);
+        place_piece(b, q, n, l, last == Some(q));
     }
 }
 

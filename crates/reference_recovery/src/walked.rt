@@ -1,47 +1,46 @@
 // The walk: the log from its tail, as the park record names it.
 use crate::scanned;
+use reference_board::kinds::Way;
 use reference_board::{board, consistent, valid};
 
 // Whether there is a park record whose tail is signed, closing and has its number.
 fn starts(b: &[u32; board::SIZE], n: u32, l: u32) -> bool {
-    if !valid::is_park(b) {
-        return false;
-    }
     let tail = board::word(b, board::IMAGE, 0, 3);
-    if !valid::is_place(tail, n) {
-        return false;
-    }
-    if !valid::is_closing(b, tail, n, l) {
-        return false;
-    }
-    valid::number_of(b, tail) == board::word(b, board::IMAGE, 0, 2)
+    valid::is_park(b)
+        && valid::is_place(tail, n)
+        && valid::is_closing(b, tail, n, l)
+        && valid::number_of(b, tail) == board::word(b, board::IMAGE, 0, 2)
 }
 
 fn is_done(b: &[u32; board::SIZE], q: u32) -> bool {
     board::get(b, board::DONE, q) != 0
 }
 
-// The piece whose waiting sector is the newest; p where none waits. A sector that waits is never 0.
-fn newest_waiting(b: &[u32; board::SIZE], p: u32) -> u32 {
-    let mut best = p;
-    for q in 0..p {
-        best = newer(b, best, q, p);
+// The sector that waits for piece q. It is never 0.
+fn waiting_for(b: &[u32; board::SIZE], q: u32) -> Option<u32> {
+    match board::get(b, board::WAITING, q) {
+        0 => None,
+        k => Some(k),
     }
-    best
 }
 
-fn newer(b: &[u32; board::SIZE], best: u32, q: u32, p: u32) -> u32 {
-    if is_done(b, q) {
-        return best;
-    }
-    let k = board::get(b, board::WAITING, q);
-    if k == 0 {
-        return best;
-    }
-    if best == p {
-        return q;
-    }
-    if valid::number_of(b, k) > valid::number_of(b, board::get(b, board::WAITING, best)) {
+fn waits(b: &[u32; board::SIZE], q: u32) -> bool {
+    !is_done(b, q) && waiting_for(b, q).is_some()
+}
+
+// The piece whose waiting sector is the newest.
+fn newest_waiting(b: &[u32; board::SIZE], p: u32) -> Option<u32> {
+    (0..p)
+        .filter(|q| waits(b, *q))
+        .reduce(|best, q| newer(b, best, q))
+}
+
+fn waiting_number(b: &[u32; board::SIZE], q: u32) -> u32 {
+    valid::number_of(b, board::get(b, board::WAITING, q))
+}
+
+fn newer(b: &[u32; board::SIZE], best: u32, q: u32) -> u32 {
+    if waiting_number(b, q) > waiting_number(b, best) {
         return q;
     }
     best
@@ -49,25 +48,17 @@ fn newer(b: &[u32; board::SIZE], best: u32, q: u32, p: u32) -> u32 {
 
 // Whether a target counts for the sector that holds the branch: signed, lower in number, and of a piece not done.
 fn counts(b: &[u32; board::SIZE], target: u32, holder: u32, n: u32, l: u32) -> bool {
-    if !valid::is_valid(b, target, n, l) {
-        return false;
-    }
-    if valid::number_of(b, target) >= valid::number_of(b, holder) {
-        return false;
-    }
-    !is_done(b, valid::piece_of(b, target))
+    valid::is_valid(b, target, n, l)
+        && valid::number_of(b, target) < valid::number_of(b, holder)
+        && !is_done(b, valid::piece_of(b, target))
 }
 
 // For a piece the highest waits, of equal ones the first read.
 fn wait(b: &mut [u32; board::SIZE], target: u32) {
     let q = valid::piece_of(b, target);
-    let waiting = board::get(b, board::WAITING, q);
-    if waiting == 0 {
+    let number = valid::number_of(b, target);
+    if waiting_for(b, q).is_none_or(|k| number > valid::number_of(b, k)) {
         board::put(b, board::WAITING, q, target);
-    } else {
-        if valid::number_of(b, target) > valid::number_of(b, waiting) {
-            board::put(b, board::WAITING, q, target);
-        }
     }
 }
 
@@ -89,8 +80,7 @@ fn read_branches(b: &mut [u32; board::SIZE], holder: u32, n: u32, l: u32) {
 // Takes the newest waiting sector, where one waits.
 fn step(b: &mut [u32; board::SIZE], n: u32, l: u32) {
     let p = board::pieces(l);
-    let q = newest_waiting(b, p);
-    if q < p {
+    if let Some(q) = newest_waiting(b, p) {
         let k = board::get(b, board::WAITING, q);
         board::put(b, board::DONE, q, 1);
         scanned::take(b, k, q, l);
@@ -100,28 +90,21 @@ fn step(b: &mut [u32; board::SIZE], n: u32, l: u32) {
 
 fn steps(b: &mut [u32; board::SIZE], n: u32, l: u32) {
     let p = board::pieces(l);
-    for turn in 0..p {
+    for _ in 0..p {
         step(b, n, l);
     }
 }
 
 fn all_done(b: &[u32; board::SIZE], p: u32) -> bool {
-    for q in 0..p {
-        if !is_done(b, q) {
-            return false;
-        }
-    }
-    true
+    (0..p).all(|q| is_done(b, q))
 }
 
 // 2, and the branches of the live sectors.
 fn sectors_read(b: &[u32; board::SIZE], p: u32) -> u32 {
-    let mut read = 2u32;
-    for q in 0..p {
-        let k = board::get(b, board::plus(board::MADE, board::PLACES), q);
-        read = board::plus(read, board::word(b, board::IMAGE, k, 6));
-    }
-    read
+    (0..p).fold(2, |read, q| {
+        let k = consistent::place_at(b, board::MADE, q);
+        board::plus(read, board::word(b, board::IMAGE, k, 6))
+    })
 }
 
 // Walks from the tail, and makes the tables of what it takes.
@@ -155,6 +138,6 @@ pub fn walk(b: &mut [u32; board::SIZE], n: u32, l: u32) -> bool {
     }
     let read = sectors_read(b, board::pieces(l));
     scanned::list_park_sector(b);
-    scanned::put_found(b, tail, 1, read);
+    scanned::put_found(b, tail, Way::Walk, read);
     true
 }

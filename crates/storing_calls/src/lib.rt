@@ -1,6 +1,7 @@
 // The calls that may store, by name: programs choose one here, and pass on what it is lent.
 #![tactic(auto)]
 
+use lending::Tables;
 use geometry::Settings;
 use state::{Outcome, State};
 
@@ -34,7 +35,7 @@ pub fn perform(
             s, image, map, places, numbers, used, head, blocks, bytes, stores,
         ),
         Storing::Drop => write::drop(s, image, map, places, numbers, used, head, blocks, stores),
-        Storing::Park => park::park(s, image, map, places, numbers, used, stores),
+        Storing::Park => park::park(s, image, &Tables { map, places, numbers, used }, stores),
         Storing::Recover => recover::recover(
             s, image, map, places, numbers, used, settings, stores,
         ),

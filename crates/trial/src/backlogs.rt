@@ -1,6 +1,8 @@
 // Plug-pulls of a backlog in words: three commits on the volume of the other plug-pulls, after its first write.
+use crate::copies::on_copy;
 use crate::{cuts, plugs};
 use reference_board::board;
+use reference_board::kinds::Call;
 use std::io::Print;
 use trial_board::{backlog, cells, stand};
 use wording::say;
@@ -41,35 +43,30 @@ fn accept(b: &mut [u32; board::SIZE], commits: u32) {
 // The plain disk as it would be with the first so many commits.
 fn settle_first(b: &mut [u32; board::SIZE], commits: u32) {
     accept(b, commits);
-    cells::set(b, board::CALL, board::BATCH);
+    board::put_call(b, Call::Batch);
     cells::set(b, board::ANSWER, 0);
     cells::set(b, board::COMMITS_ANSWERED, commits);
     trial_disk::settle_call(b);
 }
 
 fn shows_first(b: &[u32; board::SIZE], commits: u32) -> bool {
-    let mut c = [0u32; board::SIZE];
-    cells::keep(&mut c, b);
-    settle_first(&mut c, commits);
-    trial_shown::shows(&c, 0)
+    on_copy(b, |c| {
+        settle_first(c, commits);
+        trial_shown::shows(c, 0)
+    })
 }
 
-// How many of the commits the volume shows, the first ones; 4 where it shows something else.
-fn shown(b: &[u32; board::SIZE]) -> u32 {
-    for commits in 0..4u32 {
-        if shows_first(b, commits) {
-            return commits;
-        }
-    }
-    4
+// How many of the commits the volume shows, the first ones.
+fn shown(b: &[u32; board::SIZE]) -> Option<u32> {
+    (0..4u32).find(|commits| shows_first(b, *commits))
 }
 
 fn say_shown(rt: &impl Print, b: &[u32; board::SIZE]) {
     match shown(b) {
-        0 => say::say(rt, b"; it shows none of the three.\n"),
-        1 => say::say(rt, b"; it shows the first.\n"),
-        2 => say::say(rt, b"; it shows the first two.\n"),
-        3 => say::say(rt, b"; it shows all three.\n"),
+        Some(0) => say::say(rt, b"; it shows none of the three.\n"),
+        Some(1) => say::say(rt, b"; it shows the first.\n"),
+        Some(2) => say::say(rt, b"; it shows the first two.\n"),
+        Some(3) => say::say(rt, b"; it shows all three.\n"),
         _ => say::say(rt, b"; it shows something else.\n"),
     }
 }
@@ -87,20 +84,20 @@ fn say_answers(rt: &impl Print, b: &[u32; board::SIZE]) {
 
 // The backlog with so many stores, and what a recovery then shows.
 fn pull(rt: &impl Print, b: &[u32; board::SIZE], stores: u32) {
-    let mut c = [0u32; board::SIZE];
-    cells::keep(&mut c, b);
-    cells::set(&mut c, board::ALLOWED, stores);
-    cuts::perform(&mut c);
-    say::say_count(
-        rt,
-        b"A backlog of three commits, the plug pulled after ",
-        stores,
-    );
-    say::say(rt, b" of 5 stores: answers");
-    say_answers(rt, &c);
-    cuts::recover(&mut c, stand::ENOUGH);
-    plugs::say_recovery(rt, &c);
-    say_shown(rt, &c);
+    on_copy(b, |c| {
+        cells::set(c, board::ALLOWED, stores);
+        cuts::perform(c);
+        say::say_count(
+            rt,
+            b"A backlog of three commits, the plug pulled after ",
+            stores,
+        );
+        say::say(rt, b" of 5 stores: answers");
+        say_answers(rt, c);
+        cuts::recover(c, stand::ENOUGH);
+        plugs::say_recovery(rt, c);
+        say_shown(rt, c);
+    });
 }
 
 fn pull_each(rt: &impl Print, b: &[u32; board::SIZE], count: u32) {

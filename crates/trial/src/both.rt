@@ -1,17 +1,21 @@
 // A call by both implementations: the code is lent what stands on the board, and what it leaves is compared.
 use crate::both_batches;
 use reference_board::board;
+use reference_board::kinds::Call;
+use lending::Tables;
 use state::Outcome;
 use storing_calls::Storing;
 use trial_board::cells;
+use trial_board::difference::Difference;
 
-fn storing(call: u32) -> Storing {
+// The storing call of a call that is no read and no batch.
+fn storing(call: Call) -> Storing {
     match call {
-        0 => Storing::Format,
-        1 => Storing::Write,
-        2 => Storing::Drop,
-        4 => Storing::Park,
-        _ => Storing::Recover,
+        Call::Format => Storing::Format,
+        Call::Write => Storing::Write,
+        Call::Drop => Storing::Drop,
+        Call::Park => Storing::Park,
+        Call::Recover | Call::Read | Call::Batch => Storing::Recover,
     }
 }
 
@@ -27,14 +31,11 @@ fn call(
     bytes: &mut [u8],
 ) -> Outcome {
     let s = trial_lent::state_of(b);
-    match cells::get(b, board::CALL) {
-        3 => read::read(
+    match board::call(b) {
+        Call::Read => read::read(
             s,
             image,
-            map,
-            places,
-            numbers,
-            used,
+            &Tables { map, places, numbers, used },
             cells::get(b, board::BLOCKS),
             bytes,
         ),
@@ -96,7 +97,7 @@ fn single_loaded(
     used: &mut [u8; trial_lent::USED_BYTES],
     blocks: &mut [u32; trial_lent::BLOCKS],
     bytes: &mut [u8; trial_lent::DATA_BYTES],
-) -> u32 {
+) -> Result<(), Difference> {
     trial_lent::load_bytes(image, b, board::IMAGE, cells::image_words(b));
     trial_lent::load_words(map, b, board::LENT, board::get(b, board::MAP_LENGTH, 0));
     trial_lent::load_words(places, b, board::LENT + board::PLACES, board::P_MOST);
@@ -106,13 +107,11 @@ fn single_loaded(
     trial_lent::load_data(bytes, b);
     let done = lend(b, image, map, places, numbers, used, blocks, bytes);
     reference::calls::perform(b);
-    trial_lent::first_of(
-        trial_lent::answer_differs(done, b),
-        trial_lent::memory_differs(b, image, map, places, numbers, used, bytes),
-    )
+    trial_lent::compare_answers(done, b)?;
+    trial_lent::compare_memory(b, image, map, places, numbers, used, bytes)
 }
 
-fn single(b: &mut [u32; board::SIZE]) -> u32 {
+fn single(b: &mut [u32; board::SIZE]) -> Result<(), Difference> {
     let mut image = [0u8; trial_lent::IMAGE_BYTES];
     let mut map = [0u32; trial_lent::MAP_WORDS];
     let mut places = [0u32; trial_lent::PIECES];
@@ -133,8 +132,8 @@ fn single(b: &mut [u32; board::SIZE]) -> u32 {
 }
 
 // Performs the call that stands on the board by both implementations, and says what differs afterwards.
-pub fn both(b: &mut [u32; board::SIZE]) -> u32 {
-    if cells::get(b, board::CALL) == board::BATCH {
+pub fn both(b: &mut [u32; board::SIZE]) -> Result<(), Difference> {
+    if board::call(b) == Call::Batch {
         return both_batches::both(b);
     }
     single(b)

@@ -2,6 +2,7 @@
 use reference_board::board;
 use state::BatchOutcome;
 use trial_board::cells;
+use trial_board::difference::Difference;
 
 // Lends the parts of the arrays that have the lengths on the board.
 fn lend(
@@ -53,7 +54,7 @@ fn answer_loaded(
     blocks: &mut [u32; trial_lent::BLOCKS],
     bytes: &mut [u8; trial_lent::DATA_BYTES],
     answers: &mut [u32; trial_lent::ANSWER_WORDS],
-) -> u32 {
+) -> Result<(), Difference> {
     trial_lent::load_words(commits, b, board::COMMITS, board::COMMITS_MOST * 4);
     trial_lent::load_words(blocks, b, board::BACKLOG_BLOCKS, board::COUNT_MOST);
     trial_lent::load_backlog(bytes, b);
@@ -62,7 +63,7 @@ fn answer_loaded(
         b, image, map, places, numbers, used, commits, blocks, bytes, answers,
     );
     reference::backlog::perform(b);
-    trial_lent::batch_differs(done, b, answers)
+    trial_lent::compare_batches(done, b, answers)
 }
 
 // Performs the batch by both implementations, the code on this memory, and says what differs between their answers.
@@ -73,7 +74,7 @@ fn answer(
     places: &mut [u32],
     numbers: &mut [u32],
     used: &mut [u8],
-) -> u32 {
+) -> Result<(), Difference> {
     let mut commits = [0u32; trial_lent::COMMIT_WORDS];
     let mut blocks = [0u32; trial_lent::BLOCKS];
     let mut bytes = [0u8; trial_lent::DATA_BYTES];
@@ -101,21 +102,18 @@ fn both_loaded(
     places: &mut [u32; trial_lent::PIECES],
     numbers: &mut [u32; trial_lent::PIECES],
     used: &mut [u8; trial_lent::USED_BYTES],
-) -> u32 {
+) -> Result<(), Difference> {
     trial_lent::load_bytes(image, b, board::IMAGE, cells::image_words(b));
     trial_lent::load_words(map, b, board::LENT, cells::get(b, board::MAP_LENGTH));
     trial_lent::load_words(places, b, board::LENT + board::PLACES, board::P_MOST);
     trial_lent::load_words(numbers, b, board::LENT + board::NUMBERS, board::P_MOST);
     trial_lent::load_used(used, b, board::USED_WORDS / 8);
-    let differs = answer(b, image, map, places, numbers, used);
-    trial_lent::first_of(
-        differs,
-        trial_lent::volume_differs(b, image, map, places, numbers, used),
-    )
+    answer(b, image, map, places, numbers, used)?;
+    trial_lent::compare_volumes(b, image, map, places, numbers, used)
 }
 
 // Performs the batch that stands on the board by both implementations, and says what differs afterwards.
-pub fn both(b: &mut [u32; board::SIZE]) -> u32 {
+pub fn both(b: &mut [u32; board::SIZE]) -> Result<(), Difference> {
     let mut image = [0u8; trial_lent::IMAGE_BYTES];
     let mut map = [0u32; trial_lent::MAP_WORDS];
     let mut places = [0u32; trial_lent::PIECES];

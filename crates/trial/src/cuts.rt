@@ -1,16 +1,19 @@
 // Calls by both implementations, and the power cut at each of their stores.
 use crate::both;
+use crate::copies::{count_on_copy, on_copy};
 use reference_board::board;
+use reference_board::kinds::Call;
+use trial_board::difference::Difference;
 use trial_board::stand::Volume;
 use trial_board::{cells, counts, stand};
 use trial_choice::settings;
 
 // Performs the call that stands on the board, and holds one implementation to the other.
 pub fn perform(b: &mut [u32; board::SIZE]) {
-    let call = cells::get(b, board::CALL);
-    let differs = both::both(b);
+    let call = board::call(b);
+    let found = both::both(b);
     cells::add(b, cells::CALLS, 1);
-    cells::note(b, differs);
+    cells::note(b, found);
     counts::count_answer(b);
     counts::count_kind(b, call);
 }
@@ -19,7 +22,7 @@ pub fn perform(b: &mut [u32; board::SIZE]) {
 pub fn recover(b: &mut [u32; board::SIZE], stores: u32) {
     stand::scramble(b);
     settings::give(b);
-    cells::set(b, board::CALL, 5);
+    board::put_call(b, Call::Recover);
     cells::set(b, board::BYTES_LENGTH, 0);
     cells::set(b, board::ALLOWED, stores);
     perform(b);
@@ -28,29 +31,27 @@ pub fn recover(b: &mut [u32; board::SIZE], stores: u32) {
 // A recovery with enough stores is accepted, and shows the plain disk.
 fn recover_whole(b: &mut [u32; board::SIZE], spread: u32) {
     recover(b, stand::ENOUGH);
-    let accepted = cells::get(b, board::ANSWER) == 0;
-    cells::hold(b, accepted, cells::NOT_RECOVERED);
+    let accepted = board::is_accepted(b);
+    cells::hold(b, accepted, Difference::NotRecovered);
     trial_shown::compare(b, spread);
 }
 
 // That, of the image of a board that stays as it is. Its stores are answered.
 pub fn after(b: &mut [u32; board::SIZE], spread: u32) -> u32 {
-    let mut c = [0u32; board::SIZE];
-    cells::keep(&mut c, b);
-    recover_whole(&mut c, spread);
-    cells::carry(b, &c);
-    cells::get(&c, board::STORES)
+    count_on_copy(b, |c| {
+        recover_whole(c, spread);
+        cells::get(c, board::STORES)
+    })
 }
 
 // A recovery that is cut after so many stores, and a whole one after it.
 fn recover_cut(b: &mut [u32; board::SIZE], stores: u32, spread: u32) {
-    let mut c = [0u32; board::SIZE];
-    cells::keep(&mut c, b);
-    recover(&mut c, stores);
-    counts::hold_cut(&mut c, stores);
-    cells::add(&mut c, cells::RECOVERY_CUTS, 1);
-    recover_whole(&mut c, spread);
-    cells::carry(b, &c);
+    count_on_copy(b, |c| {
+        recover(c, stores);
+        counts::hold_cut(c, stores);
+        cells::add(c, cells::RECOVERY_CUTS, 1);
+        recover_whole(c, spread);
+    });
 }
 
 // Recoveries of an image: whole, and cut at each of their stores.
@@ -63,23 +64,23 @@ pub fn recover_everywhere(b: &mut [u32; board::SIZE], spread: u32) {
 
 // The call cut after so many stores, and every recovery of what that leaves. Of a batch the plain disk has what was accepted before.
 fn cut_once(b: &mut [u32; board::SIZE], stores: u32, spread: u32) {
-    let mut c = [0u32; board::SIZE];
-    cells::keep(&mut c, b);
-    cells::set(&mut c, board::ALLOWED, stores);
-    perform(&mut c);
-    counts::hold_cut(&mut c, stores);
-    trial_disk::settle_call(&mut c);
-    recover_everywhere(&mut c, spread);
-    cells::carry(b, &c);
+    count_on_copy(b, |c| {
+        cells::set(c, board::ALLOWED, stores);
+        perform(c);
+        counts::hold_cut(c, stores);
+        trial_disk::settle_call(c);
+        recover_everywhere(c, spread);
+    });
 }
 
 // The stores that the call on the board needs; 0 where it is refused.
 fn stores_needed(b: &[u32; board::SIZE]) -> u32 {
-    let mut c = [0u32; board::SIZE];
-    cells::keep(&mut c, b);
-    cells::set(&mut c, board::ALLOWED, stand::ENOUGH);
-    both::both(&mut c);
-    cells::get(&c, board::STORES)
+    on_copy(b, |c| {
+        cells::set(c, board::ALLOWED, stand::ENOUGH);
+        // Whether they agree is held when the call is made.
+        let _ = both::both(c);
+        cells::get(c, board::STORES)
+    })
 }
 
 // The call that stands on the board, cut at each of its stores.
@@ -91,20 +92,19 @@ fn cut_at_each(b: &mut [u32; board::SIZE], needed: u32, spread: u32) {
 
 // The call with just the stores that it needs, and a recovery of what that leaves.
 fn make_just(b: &mut [u32; board::SIZE], needed: u32, spread: u32) {
-    let mut c = [0u32; board::SIZE];
-    cells::keep(&mut c, b);
-    cells::set(&mut c, board::ALLOWED, needed);
-    perform(&mut c);
-    trial_disk::settle_call(&mut c);
-    after(&mut c, spread);
-    cells::carry(b, &c);
+    count_on_copy(b, |c| {
+        cells::set(c, board::ALLOWED, needed);
+        perform(c);
+        trial_disk::settle_call(c);
+        after(c, spread);
+    });
 }
 
 // Every cut of the call that stands on the board. A batch is also made with just enough stores: its last commit has none left over.
 pub fn cut_everywhere(b: &mut [u32; board::SIZE], spread: u32) {
     let needed = stores_needed(b);
     cut_at_each(b, needed, spread);
-    if cells::get(b, board::CALL) == board::BATCH {
+    if board::call(b) == Call::Batch {
         make_just(b, needed, spread);
     }
 }

@@ -34,7 +34,7 @@ fn step(b: &mut [u32; board::SIZE], often: u32) {
 }
 
 fn steps(b: &mut [u32; board::SIZE], calls: u32, often: u32) {
-    for i in 0..calls {
+    for _ in 0..calls {
         step(b, often);
     }
 }
@@ -65,7 +65,7 @@ fn live_late(b: &mut [u32; board::SIZE], volume: Volume, often: u32) {
 // So many histories of a volume whose numbers end soon: 7 in the middle of a batch too.
 pub fn run_late(b: &mut [u32; board::SIZE], volume: Volume, spread: u32, times: u32, often: u32) {
     cells::set(b, cells::SPREAD, spread);
-    for i in 0..times {
+    for _ in 0..times {
         live_late(b, volume, often);
     }
 }

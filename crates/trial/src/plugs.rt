@@ -1,13 +1,15 @@
 // Some plug-pulls in words: a volume of 200 blocks in 12 sectors, whose blocks 5 and 100 are written twice.
+use crate::copies::on_copy;
 use crate::cuts;
 use reference_board::board;
+use reference_board::kinds::{Call, Way};
 use std::io::Print;
 use trial_board::stand::Volume;
 use trial_board::{cells, stand};
 use wording::say;
 
 fn stand_write(b: &mut [u32; board::SIZE], head: u32) {
-    cells::set(b, board::CALL, 1);
+    board::put_call(b, Call::Write);
     cells::set(b, board::HEAD, head);
     cells::set(b, board::BYTES_LENGTH, 1024);
     cells::set(b, board::ALLOWED, stand::ENOUGH);
@@ -38,7 +40,7 @@ fn say_answer(rt: &impl Print, b: &[u32; board::SIZE], stores: u32, needed: u32)
 }
 
 pub fn say_recovery(rt: &impl Print, b: &[u32; board::SIZE]) {
-    if cells::get(b, board::WAY) == 1 {
+    if cells::get(b, board::WAY) == Way::Walk as u32 {
         say::say(rt, b". A recovery walks, ");
     } else {
         say::say(rt, b". A recovery scans, ");
@@ -49,7 +51,7 @@ pub fn say_recovery(rt: &impl Print, b: &[u32; board::SIZE]) {
 
 // The plain disk as it would be with the second write.
 fn settle_second(b: &mut [u32; board::SIZE]) {
-    cells::set(b, board::CALL, 1);
+    board::put_call(b, Call::Write);
     cells::set(b, board::ANSWER, 0);
     trial_disk::settle_call(b);
 }
@@ -79,13 +81,13 @@ fn say_end(rt: &impl Print, b: &mut [u32; board::SIZE]) {
 
 // The second write with so many stores, and what a recovery then shows.
 fn pull(rt: &impl Print, b: &[u32; board::SIZE], stores: u32) {
-    let mut c = [0u32; board::SIZE];
-    cells::keep(&mut c, b);
-    cells::set(&mut c, board::ALLOWED, stores);
-    cuts::perform(&mut c);
-    say::say(rt, b"A second write of blocks 5 and 100");
-    say_answer(rt, &c, stores, 4);
-    say_end(rt, &mut c);
+    on_copy(b, |c| {
+        cells::set(c, board::ALLOWED, stores);
+        cuts::perform(c);
+        say::say(rt, b"A second write of blocks 5 and 100");
+        say_answer(rt, c, stores, 4);
+        say_end(rt, c);
+    });
 }
 
 fn pull_each(rt: &impl Print, b: &[u32; board::SIZE], count: u32) {
@@ -96,31 +98,31 @@ fn pull_each(rt: &impl Print, b: &[u32; board::SIZE], count: u32) {
 
 // The second write cut before its closing sector, and the plug pulled in the recovery too.
 fn pull_twice(rt: &impl Print, b: &[u32; board::SIZE]) {
-    let mut c = [0u32; board::SIZE];
-    cells::keep(&mut c, b);
-    cells::set(&mut c, board::ALLOWED, 3);
-    cuts::perform(&mut c);
-    cuts::recover(&mut c, 0);
-    say::say(rt, b"The recovery after 3 of them");
-    say_answer(rt, &c, 0, 1);
-    say_end(rt, &mut c);
+    on_copy(b, |c| {
+        cells::set(c, board::ALLOWED, 3);
+        cuts::perform(c);
+        cuts::recover(c, 0);
+        say::say(rt, b"The recovery after 3 of them");
+        say_answer(rt, c, 0, 1);
+        say_end(rt, c);
+    });
 }
 
 fn stand_park(b: &mut [u32; board::SIZE], stores: u32) {
-    cells::set(b, board::CALL, 4);
+    board::put_call(b, Call::Park);
     cells::set(b, board::BYTES_LENGTH, 0);
     cells::set(b, board::ALLOWED, stores);
 }
 
 // A park in place of the second write.
 fn pull_park(rt: &impl Print, b: &[u32; board::SIZE], stores: u32) {
-    let mut c = [0u32; board::SIZE];
-    cells::keep(&mut c, b);
-    stand_park(&mut c, stores);
-    cuts::perform(&mut c);
-    say::say(rt, b"A park instead");
-    say_answer(rt, &c, stores, 1);
-    say_end(rt, &mut c);
+    on_copy(b, |c| {
+        stand_park(c, stores);
+        cuts::perform(c);
+        say::say(rt, b"A park instead");
+        say_answer(rt, c, stores, 1);
+        say_end(rt, c);
+    });
 }
 
 pub fn run(rt: &impl Print, b: &mut [u32; board::SIZE]) {

@@ -2,15 +2,17 @@
 use crate::cuts;
 use paper::tokens;
 use reference_board::board;
+use reference_board::kinds::Call;
 use std::io::Print;
 use trial_board::cells;
-use trial_script::form::{Kind, Wrong};
+use trial_board::difference::Difference;
+use trial_script::form::{BadLine, Kind};
 use trial_script::{form, parts};
 
 // So many bytes of a script are read.
 pub const MOST: usize = 65_536;
 
-fn perform(b: &mut [u32; board::SIZE], call: u32, argument: u32) {
+fn perform(b: &mut [u32; board::SIZE], call: Call, argument: u32) {
     trial_script::stand_call(b, call, argument);
     cuts::perform(b);
     trial_disk::settle_call(b);
@@ -25,20 +27,18 @@ fn carry_out_other(b: &mut [u32; board::SIZE], line: &[u8], kind: Kind) {
     }
 }
 
-fn carry_out(rt: &impl Print, b: &mut [u32; board::SIZE], line: &[u8], kind: Kind) {
-    let call = trial_script::call_of(kind);
-    if call > board::BATCH {
-        carry_out_other(b, line, kind);
-        return;
+fn carry_out(b: &mut [u32; board::SIZE], line: &[u8], kind: Kind) {
+    match trial_script::call_of(kind) {
+        Some(call) => perform(b, call, parts::number(line, 1)),
+        None => carry_out_other(b, line, kind),
     }
-    perform(b, call, parts::number(line, 1));
 }
 
 // A line that is not of its form is reported and not carried out.
-fn refuse(rt: &impl Print, b: &mut [u32; board::SIZE], line: &[u8], kind: Kind, wrong: Wrong) {
-    let word = form::found(line, wrong);
-    trial_report::say_bad_line(rt, cells::get(b, cells::LINE), word, kind, wrong);
-    cells::hold(b, false, cells::SAMPLE);
+fn refuse(rt: &impl Print, b: &mut [u32; board::SIZE], line: &[u8], bad: BadLine) {
+    let word = form::found(line, bad);
+    trial_report::say_bad_line(rt, cells::get(b, cells::LINE), word, bad);
+    cells::hold(b, false, Difference::Sample);
 }
 
 fn carry_out_line(rt: &impl Print, b: &mut [u32; board::SIZE], line: &[u8]) {
@@ -46,11 +46,9 @@ fn carry_out_line(rt: &impl Print, b: &mut [u32; board::SIZE], line: &[u8]) {
     if parts::is_passed(line) {
         return;
     }
-    let kind = form::kind_of(line);
-    let wrong = form::wrong_in(line);
-    match wrong {
-        Wrong::Nothing => carry_out(rt, b, line, kind),
-        _ => refuse(rt, b, line, kind, wrong),
+    match form::check(line) {
+        Ok(kind) => carry_out(b, line, kind),
+        Err(bad) => refuse(rt, b, line, bad),
     }
 }
 
@@ -66,9 +64,8 @@ fn carry_out_at(rt: &impl Print, b: &mut [u32; board::SIZE], text: &[u8], at: us
 
 // The lines of a script. Each takes a byte at least.
 pub fn run(rt: &impl Print, b: &mut [u32; board::SIZE], text: &[u8]) {
-    let most = text.len();
     let mut at = 0usize;
-    for i in 0..most {
+    for _ in 0..text.len() {
         at = carry_out_at(rt, b, text, at);
     }
 }
@@ -76,5 +73,5 @@ pub fn run(rt: &impl Print, b: &mut [u32; board::SIZE], text: &[u8]) {
 // A script that is longer than what is read: a line may be cut, so none is carried out.
 pub fn refuse_all(rt: &impl Print, b: &mut [u32; board::SIZE]) {
     trial_report::say_too_long(rt, MOST as u32);
-    cells::hold(b, false, cells::SAMPLE);
+    cells::hold(b, false, Difference::Sample);
 }

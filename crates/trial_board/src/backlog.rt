@@ -1,6 +1,7 @@
 // A backlog on the board: commits are added one after the other, and a batch is lent them all.
 use crate::cells;
 use reference_board::board;
+use reference_board::kinds::Call;
 
 // No commits.
 pub fn clear(b: &mut [u32; board::SIZE]) {
@@ -17,21 +18,17 @@ fn fit(x: u32, y: u32, most: u32) -> bool {
 
 // Whether there is room for the blocks and the bytes that stand on the board.
 fn has_room(b: &[u32; board::SIZE]) -> bool {
-    if cells::get(b, board::COMMITS_LENGTH) / 4 >= board::COMMITS_MOST {
-        return false;
-    }
-    if !fit(
-        cells::get(b, board::BACKLOG_COUNT),
-        cells::get(b, board::COUNT),
-        board::COUNT_MOST,
-    ) {
-        return false;
-    }
-    fit(
-        cells::get(b, board::BACKLOG_BYTES),
-        cells::get(b, board::BYTES_LENGTH),
-        board::COUNT_MOST * 512,
-    )
+    cells::get(b, board::COMMITS_LENGTH) / 4 < board::COMMITS_MOST
+        && fit(
+            cells::get(b, board::BACKLOG_COUNT),
+            cells::get(b, board::COUNT),
+            board::COUNT_MOST,
+        )
+        && fit(
+            cells::get(b, board::BACKLOG_BYTES),
+            cells::get(b, board::BYTES_LENGTH),
+            board::COUNT_MOST * 512,
+        )
 }
 
 fn add_lists(b: &mut [u32; board::SIZE]) {
@@ -90,27 +87,18 @@ fn mark_answers(b: &mut [u32; board::SIZE], mark: u32) {
 
 // The backlog stands on the board as a batch. The words of its answers count up from a mark, so that they are known again.
 pub fn stand(b: &mut [u32; board::SIZE], mark: u32) {
-    cells::set(b, board::CALL, board::BATCH);
+    board::put_call(b, Call::Batch);
     cells::set(b, cells::MARK, mark);
     mark_answers(b, mark);
 }
 
 // The mark of the k-th answer.
 fn mark_of(b: &[u32; board::SIZE], k: u32) -> u32 {
-    let twice = board::plus(k, k);
-    board::plus(
-        cells::get(b, cells::MARK),
-        board::plus(k, board::plus(twice, twice)),
-    )
+    board::plus(cells::get(b, cells::MARK), k.wrapping_mul(5))
 }
 
 // Whether the words of the k-th answer are as they came.
 pub fn is_untouched(b: &[u32; board::SIZE], k: u32) -> bool {
     let mark = mark_of(b, k);
-    for i in 0..5u32 {
-        if board::answer_word(b, k, i) != board::plus(mark, i) {
-            return false;
-        }
-    }
-    true
+    (0..5u32).all(|i| board::answer_word(b, k, i) == board::plus(mark, i))
 }

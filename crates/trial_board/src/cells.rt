@@ -1,5 +1,8 @@
 // What the trial keeps on the board beside the volume.
+use crate::difference;
+use crate::difference::Difference;
 use reference_board::board;
+use reference_board::kinds::Call;
 
 // The generator's state.
 pub const SEED: u32 = board::CALLER;
@@ -88,15 +91,6 @@ pub const BACKLOG_SEEDS: u32 = board::CALLER + 152;
 // The plain disk: a seed for each block.
 pub const DISK: u32 = board::CALLER + 256;
 
-// What may differ, beside what the comparison of both finds (1 to 12, 17 and 18).
-pub const PLAIN_DISK: u32 = 13;
-
-pub const CUT_ANSWER: u32 = 14;
-
-pub const NOT_RECOVERED: u32 = 15;
-
-pub const SAMPLE: u32 = 16;
-
 pub fn get(b: &[u32; board::SIZE], cell: u32) -> u32 {
     board::get(b, cell, 0)
 }
@@ -110,31 +104,29 @@ pub fn add(b: &mut [u32; board::SIZE], cell: u32, x: u32) {
     set(b, cell, sum);
 }
 
-fn note_first(b: &mut [u32; board::SIZE], what: u32) {
+fn note_first(b: &mut [u32; board::SIZE], what: Difference) {
     if get(b, DIFFERENCES) == 0 {
         let call = get(b, board::CALL);
         let calls = get(b, CALLS);
         let line = get(b, LINE);
-        set(b, FIRST, what);
+        set(b, FIRST, what as u32);
         set(b, FIRST_CALL, call);
         set(b, FIRST_AT, calls);
         set(b, FIRST_LINE, line);
     }
 }
 
-// Notes a difference, where there is one.
-pub fn note(b: &mut [u32; board::SIZE], what: u32) {
-    if what != 0 {
+// Notes what differs, if anything does.
+pub fn note(b: &mut [u32; board::SIZE], found: Result<(), Difference>) {
+    if let Err(what) = found {
         note_first(b, what);
         add(b, DIFFERENCES, 1);
     }
 }
 
 // Notes a difference where something does not hold.
-pub fn hold(b: &mut [u32; board::SIZE], holds: bool, what: u32) {
-    if !holds {
-        note(b, what);
-    }
+pub fn hold(b: &mut [u32; board::SIZE], holds: bool, what: Difference) {
+    note(b, difference::ensure(holds, what));
 }
 
 fn keep_one(c: &mut [u32; board::SIZE], b: &[u32; board::SIZE], from: u32, i: u32) {
@@ -154,7 +146,7 @@ pub fn image_words(b: &[u32; board::SIZE]) -> u32 {
 
 // Words of a batch's bytes; none where the call is another.
 fn backlog_words(b: &[u32; board::SIZE]) -> u32 {
-    if get(b, board::CALL) == board::BATCH {
+    if board::call(b) == Call::Batch {
         return get(b, board::BACKLOG_BYTES) / 4;
     }
     0
@@ -181,5 +173,5 @@ pub fn carry(b: &mut [u32; board::SIZE], c: &[u32; board::SIZE]) {
 pub fn balance(b: &mut [u32; board::SIZE], k: u32) {
     board::put_word(b, board::IMAGE, k, 1, 0);
     let sum = board::sum(b, board::IMAGE, k);
-    board::put_word(b, board::IMAGE, k, 1, std::num::wrapping_sub_u32(0, sum));
+    board::put_word(b, board::IMAGE, k, 1, board::minus(0, sum));
 }

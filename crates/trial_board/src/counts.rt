@@ -1,14 +1,13 @@
 // What is counted of a call, once both implementations have performed it.
 use crate::cells;
+use crate::difference::Difference;
 use reference_board::board;
+use reference_board::kinds::{Call, Refusal, Way};
 
 // Whether the commit that was planned last writes every piece, with fewer blocks than pieces.
 fn is_fold(b: &[u32; board::SIZE]) -> bool {
     let p = board::pieces(cells::get(b, board::STATE_L));
-    if cells::get(b, board::MEMBERS) != p {
-        return false;
-    }
-    cells::get(b, board::COUNT) < p
+    cells::get(b, board::MEMBERS) == p && cells::get(b, board::COUNT) < p
 }
 
 fn count_fold(b: &mut [u32; board::SIZE], cell: u32) {
@@ -53,15 +52,15 @@ fn count_accepted(b: &mut [u32; board::SIZE]) {
 }
 
 fn count_commit(b: &mut [u32; board::SIZE]) {
-    match cells::get(b, board::ANSWER) {
-        0 => count_accepted(b),
-        10 => count_fold(b, cells::FOLD_CUTS),
-        _ => {}
+    if board::is_accepted(b) {
+        count_accepted(b);
+    } else if cells::get(b, board::ANSWER) == Refusal::PowerCut as u32 {
+        count_fold(b, cells::FOLD_CUTS);
     }
 }
 
 fn count_way(b: &mut [u32; board::SIZE]) {
-    if cells::get(b, board::WAY) == 1 {
+    if cells::get(b, board::WAY) == Way::Walk as u32 {
         cells::add(b, cells::WALKS, 1);
     }
 }
@@ -89,13 +88,12 @@ fn count_batch(b: &mut [u32; board::SIZE]) {
     }
 }
 
-pub fn count_kind(b: &mut [u32; board::SIZE], call: u32) {
+pub fn count_kind(b: &mut [u32; board::SIZE], call: Call) {
     match call {
-        1 => count_commit(b),
-        2 => count_commit(b),
-        5 => count_way(b),
-        board::BATCH => count_batch(b),
-        _ => {}
+        Call::Write | Call::Drop => count_commit(b),
+        Call::Recover => count_way(b),
+        Call::Batch => count_batch(b),
+        Call::Format | Call::Read | Call::Park => {}
     }
 }
 
@@ -112,7 +110,7 @@ fn last_answer(b: &[u32; board::SIZE]) -> u32 {
 
 // What a call answered to its last commit, or as a whole.
 fn end_of(b: &[u32; board::SIZE]) -> u32 {
-    if cells::get(b, board::CALL) == board::BATCH {
+    if board::call(b) == Call::Batch {
         return last_answer(b);
     }
     cells::get(b, board::ANSWER)
@@ -120,9 +118,9 @@ fn end_of(b: &[u32; board::SIZE]) -> u32 {
 
 // Holds a cut call to its answer: 10, and exactly the stores allowed.
 pub fn hold_cut(b: &mut [u32; board::SIZE], stores: u32) {
-    let answered = end_of(b) == 10;
+    let answered = end_of(b) == Refusal::PowerCut as u32;
     let made = cells::get(b, board::STORES) == stores;
-    cells::hold(b, answered, cells::CUT_ANSWER);
-    cells::hold(b, made, cells::CUT_ANSWER);
+    cells::hold(b, answered, Difference::CutAnswer);
+    cells::hold(b, made, Difference::CutAnswer);
     cells::add(b, cells::CUTS, 1);
 }

@@ -5,4 +5,5 @@ pub mod backlog;
 pub mod cells;
 pub mod chance;
 pub mod counts;
+pub mod difference;
 pub mod stand;

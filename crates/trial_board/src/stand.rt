@@ -1,6 +1,7 @@
 // Calls that stand on the board, and memory as a plug leaves it.
 use crate::cells;
 use reference_board::board;
+use reference_board::kinds::Call;
 
 // More stores than any call makes.
 pub const ENOUGH: u32 = 100000;
@@ -69,7 +70,7 @@ pub fn put_settings(b: &mut [u32; board::SIZE], per_track: u32, tracks: u32, swi
 pub fn stand_format(b: &mut [u32; board::SIZE], volume: Volume) {
     put_lengths(b, volume.l, volume.n);
     put_settings(b, volume.per_track(), volume.tracks, volume.switch);
-    cells::set(b, board::CALL, 0);
+    board::put_call(b, Call::Format);
     cells::set(b, board::BYTES_LENGTH, 0);
     cells::set(b, board::ALLOWED, ENOUGH);
 }

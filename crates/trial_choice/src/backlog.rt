@@ -1,6 +1,7 @@
 // Random backlogs: how many commits, of which kind, right ones and wrong ones.
 use crate::commits;
 use reference_board::board;
+use reference_board::kinds::Call;
 use trial_board::{backlog, cells, chance};
 
 fn less_one(b: &mut [u32; board::SIZE], cell: u32) {
@@ -18,7 +19,7 @@ fn name_past(b: &mut [u32; board::SIZE]) {
 fn name_twice(b: &mut [u32; board::SIZE]) {
     let block = cells::get(b, board::BLOCKS);
     trial_disk::name_block(b, block, 1);
-    if cells::get(b, board::CALL) == 1 {
+    if board::call(b) == Call::Write {
         cells::add(b, board::BYTES_LENGTH, 512);
     }
 }
@@ -34,8 +35,8 @@ fn put_head_past(b: &mut [u32; board::SIZE]) {
 }
 
 // A kind that is neither a write nor a drop, whatever its bytes.
-fn put_kind(b: &mut [u32; board::SIZE], call: u32) {
-    cells::set(b, board::CALL, call);
+fn put_kind(b: &mut [u32; board::SIZE], call: Call) {
+    board::put_call(b, call);
     cells::add(b, board::BYTES_LENGTH, 1);
 }
 
@@ -48,8 +49,8 @@ fn spoil(b: &mut [u32; board::SIZE]) {
         3 => name_twice(b),
         4 => name_none(b),
         5 => put_head_past(b),
-        6 => put_kind(b, 3),
-        _ => put_kind(b, 0),
+        6 => put_kind(b, Call::Read),
+        _ => put_kind(b, Call::Format),
     }
 }
 
@@ -90,7 +91,7 @@ fn choose_commit(b: &mut [u32; board::SIZE], small: bool) {
     }
 }
 
-// The call that stands on the board says the kind: 0 for a write, which is call 1, and so on.
+// The call that stands on the board says the kind: the one before its number, so that a write is 0 and a drop 1.
 fn add(b: &mut [u32; board::SIZE], small: bool) {
     choose_commit(b, small);
     let kind = board::minus(cells::get(b, board::CALL), 1);
@@ -98,7 +99,7 @@ fn add(b: &mut [u32; board::SIZE], small: bool) {
 }
 
 fn add_more(b: &mut [u32; board::SIZE], commits: u32, small: bool) {
-    for i in 0..commits {
+    for _ in 0..commits {
         add(b, small);
     }
 }
@@ -139,10 +140,8 @@ fn spoil_length(b: &mut [u32; board::SIZE]) {
 
 // Every sixteenth backlog that has commits has a wrong length.
 fn spoil_lengths(b: &mut [u32; board::SIZE]) {
-    if cells::get(b, board::COMMITS_LENGTH) > 0 {
-        if chance::below(b, 16) == 0 {
-            spoil_length(b);
-        }
+    if cells::get(b, board::COMMITS_LENGTH) > 0 && chance::below(b, 16) == 0 {
+        spoil_length(b);
     }
 }
 

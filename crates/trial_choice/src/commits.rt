@@ -1,22 +1,15 @@
 // Random writes and drops: their blocks and their heads.
 use reference_board::board;
+use reference_board::kinds::Call;
 use trial_board::{cells, chance};
 
 // Where this many blocks may be dropped at once, the history is mostly of drops.
 pub const MANY: u32 = 16;
 
-// Goes on by so many of the blocks that are written, at most 3.
+// Goes on by so many of the blocks that are written.
 fn go_on(b: &mut [u32; board::SIZE], steps: u32) {
     let spread = cells::get(b, cells::SPREAD);
-    match steps {
-        1 => cells::add(b, cells::CURSOR, spread),
-        2 => cells::add(b, cells::CURSOR, board::plus(spread, spread)),
-        _ => cells::add(
-            b,
-            cells::CURSOR,
-            board::plus(spread, board::plus(spread, spread)),
-        ),
-    }
+    cells::add(b, cells::CURSOR, spread.wrapping_mul(steps));
 }
 
 // Names the next block of a write or a drop, unless the blocks are used up.
@@ -31,7 +24,7 @@ fn choose_block(b: &mut [u32; board::SIZE], step: u32) {
 }
 
 fn choose_more(b: &mut [u32; board::SIZE], count: u32, step: u32) {
-    for i in 0..count {
+    for _ in 0..count {
         choose_block(b, step);
     }
 }
@@ -41,7 +34,7 @@ fn at_spread(block: u32, spread: u32) -> u32 {
     if spread == 0 {
         return block;
     }
-    std::num::wrapping_sub_u32(block, block % spread)
+    board::minus(block, block % spread)
 }
 
 // Names 1 to `most` blocks, ascending, from a random one on; each time 1 to `step` further.
@@ -56,10 +49,7 @@ pub fn choose_blocks(b: &mut [u32; board::SIZE], most: u32, step: u32) {
 
 // Of many sectors every fourth head is one of the last, so that commits wrap there too.
 fn head_for(x: u32, n: u32) -> u32 {
-    if n < 512 {
-        return x;
-    }
-    if x % 4 != 0 {
+    if n < 512 || x % 4 != 0 {
         return x;
     }
     n - 1 - x / 4 % 16
@@ -77,7 +67,7 @@ pub fn choose_write_of(b: &mut [u32; board::SIZE], most: u32) {
     choose_head(b);
     let bytes = board::bytes(cells::get(b, board::COUNT));
     cells::set(b, board::BYTES_LENGTH, bytes);
-    cells::set(b, board::CALL, 1);
+    board::put_call(b, Call::Write);
 }
 
 fn choose_next(b: &mut [u32; board::SIZE], step: u32) {
@@ -90,7 +80,7 @@ fn choose_next(b: &mut [u32; board::SIZE], step: u32) {
 fn choose_row(b: &mut [u32; board::SIZE], first: u32, count: u32, step: u32) {
     cells::set(b, cells::CURSOR, first);
     cells::set(b, board::COUNT, 0);
-    for i in 0..count {
+    for _ in 0..count {
         choose_next(b, step);
     }
 }
@@ -119,7 +109,7 @@ pub fn choose_drop_of(b: &mut [u32; board::SIZE], most: u32) {
     choose_dropped(b, most);
     choose_head(b);
     cells::set(b, board::BYTES_LENGTH, 0);
-    cells::set(b, board::CALL, 2);
+    board::put_call(b, Call::Drop);
 }
 
 // A write and a drop of as many blocks as the history's may have.

@@ -28,7 +28,7 @@ fn change_field(b: &mut [u32; board::SIZE], k: u32) {
 // Member for closing, and closing for member.
 fn change_kind(b: &mut [u32; board::SIZE], k: u32) {
     let kind = board::word(b, board::IMAGE, k, 5);
-    board::put_word(b, board::IMAGE, k, 5, std::num::wrapping_sub_u32(1, kind));
+    board::put_word(b, board::IMAGE, k, 5, board::minus(1, kind));
     cells::balance(b, k);
 }
 
@@ -40,7 +40,7 @@ fn change_number(b: &mut [u32; board::SIZE], k: u32) {
         board::IMAGE,
         k,
         2,
-        board::plus(number, std::num::wrapping_sub_u32(more, 2)),
+        board::plus(number, board::minus(more, 2)),
     );
     cells::balance(b, k);
 }
@@ -89,7 +89,7 @@ fn damage(b: &mut [u32; board::SIZE]) {
 }
 
 pub fn damage_more(b: &mut [u32; board::SIZE], times: u32) {
-    for i in 0..times {
+    for _ in 0..times {
         damage(b);
     }
 }

@@ -4,39 +4,20 @@ use trial_board::stand::Volume;
 use trial_board::{cells, chance, stand};
 
 fn divides(d: u32, n: u32) -> bool {
-    if d == 0 {
-        return false;
-    }
-    n % d == 0
-}
-
-fn greater(best: u32, d: u32, n: u32) -> u32 {
-    if divides(d, n) {
-        return d;
-    }
-    best
+    d != 0 && n % d == 0
 }
 
 // The greatest divisor of n up to `most`.
 fn divisor(n: u32, most: u32) -> u32 {
-    let mut best = 1u32;
-    let end = board::plus(most, 1);
-    for d in 2..end {
-        best = greater(best, d, n);
-    }
-    best
-}
-
-fn at_most(x: u32, most: u32) -> u32 {
-    if x < most {
-        return x;
-    }
-    most
+    (2..board::plus(most, 1))
+        .rev()
+        .find(|d| divides(*d, n))
+        .unwrap_or(1)
 }
 
 // How many tracks n sectors are dealt out to.
 fn choose_tracks(b: &mut [u32; board::SIZE], n: u32) -> u32 {
-    let most = chance::below(b, at_most(n, 256));
+    let most = chance::below(b, n.min(256));
     divisor(n, board::plus(most, 1))
 }
 
@@ -47,7 +28,7 @@ fn choose_switch(b: &mut [u32; board::SIZE], per_track: u32) -> u32 {
         0 => 0,
         1 => 1,
         2 => x % 8,
-        3 => at_most(board::plus(per_track, x % 8), 255),
+        3 => board::plus(per_track, x % 8).min(255),
         _ => x,
     }
 }
@@ -97,10 +78,8 @@ pub fn give(b: &mut [u32; board::SIZE]) {
 // Settings for a recovery that may be refused: every eighth are wrong, where they are varied.
 pub fn give_any(b: &mut [u32; board::SIZE]) {
     give(b);
-    if cells::get(b, cells::VARIED) != 0 {
-        if chance::below(b, 8) == 0 {
-            spoil(b, board::GIVEN_PER_TRACK);
-        }
+    if cells::get(b, cells::VARIED) != 0 && chance::below(b, 8) == 0 {
+        spoil(b, board::GIVEN_PER_TRACK);
     }
 }
 

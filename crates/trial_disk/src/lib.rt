@@ -2,17 +2,19 @@
 #![tactic(auto)]
 
 use reference_board::board;
+use reference_board::kinds::Call;
 use trial_board::cells;
+use trial_board::difference::Difference;
 
 fn mixed(seed: u32, i: u32) -> u32 {
-    ((seed as u64 * 2654435761 + i as u64 * 40503) % 4294967296) as u32
+    board::plus(seed.wrapping_mul(2_654_435_761), i.wrapping_mul(40_503))
 }
 
 // A block that is a map sector in all but its first byte on the volume: mark, balance, number, piece 0, closing, L.
 fn forged(seed: u32, l: u32, i: u32) -> u32 {
     match i {
         0 => 827_149_398,
-        1 => std::num::wrapping_sub_u32(
+        1 => board::minus(
             0,
             board::plus(board::plus(827_149_398, seed), board::plus(1, l)),
         ),
@@ -92,11 +94,9 @@ fn settle_single(b: &mut [u32; board::SIZE], drops: bool) {
 
 // How many blocks the first so many commits of a backlog name.
 fn blocks_before(b: &[u32; board::SIZE], commits: u32) -> u32 {
-    let mut before = 0u32;
-    for i in 0..commits {
-        before = board::plus(before, board::commit_word(b, i, 2));
-    }
-    before
+    (0..commits).fold(0, |before, i| {
+        board::plus(before, board::commit_word(b, i, 2))
+    })
 }
 
 // A commit of a backlog, where it was accepted.
@@ -124,14 +124,13 @@ fn settle_batch(b: &mut [u32; board::SIZE]) {
 
 // What the plain disk sees of a call: an accepted write or drop, and those of a batch one after the other. After a format it is zeros.
 fn settle(b: &mut [u32; board::SIZE]) {
-    let call = cells::get(b, board::CALL);
-    if cells::get(b, board::ANSWER) == 0 {
-        match call {
-            0 => board::fill(b, cells::DISK, board::L_MOST, 0),
-            1 => settle_single(b, false),
-            2 => settle_single(b, true),
-            board::BATCH => settle_batch(b),
-            _ => {}
+    if board::is_accepted(b) {
+        match board::call(b) {
+            Call::Format => board::fill(b, cells::DISK, board::L_MOST, 0),
+            Call::Write => settle_single(b, false),
+            Call::Drop => settle_single(b, true),
+            Call::Batch => settle_batch(b),
+            Call::Read | Call::Park | Call::Recover => {}
         }
     }
 }
@@ -140,20 +139,13 @@ fn settle(b: &mut [u32; board::SIZE]) {
 fn is_out(b: &[u32; board::SIZE]) -> bool {
     let seed = board::get(b, cells::DISK, board::get(b, board::BLOCKS, 0));
     let l = cells::get(b, board::BLOCK_COUNT);
-    for i in 0..128u32 {
-        if board::get(b, board::OUT, i) != content(seed, l, i) {
-            return false;
-        }
-    }
-    true
+    (0..128u32).all(|i| board::get(b, board::OUT, i) == content(seed, l, i))
 }
 
 fn hold_read(b: &mut [u32; board::SIZE]) {
-    if cells::get(b, board::CALL) == 3 {
-        if cells::get(b, board::ANSWER) == 0 {
-            let same = is_out(b);
-            cells::hold(b, same, cells::PLAIN_DISK);
-        }
+    if board::call(b) == Call::Read && board::is_accepted(b) {
+        let same = is_out(b);
+        cells::hold(b, same, Difference::PlainDisk);
     }
 }
 

@@ -4,9 +4,11 @@
 ghost use Rattle.std.specs.Prelude.{◌≤◌};
 
 use geometry::{Drive, Geometry, Settings};
-use reference_board::board;
+use reference_board::kinds::Call;
+use reference_board::{board, kinds};
 use state::{BatchOutcome, Outcome, Phase, State};
 use trial_board::cells;
+use trial_board::difference::{Difference, ensure};
 
 // What there is room for in the arrays that are lent: the image's bytes, the map's words, those of the other two tables, the used map's bytes, the
 // blocks of a call, and their bytes.
@@ -27,19 +29,20 @@ pub const COMMIT_WORDS: usize = board::COMMITS_MOST as usize * 4;
 
 pub const ANSWER_WORDS: usize = board::COMMITS_MOST as usize * 5;
 
-fn phase_of(number: u32) -> Phase {
-    match number {
-        0 => Phase::Running,
-        1 => Phase::Parked,
-        _ => Phase::Cut,
+fn phase_of(b: &[u32; board::SIZE]) -> Phase {
+    match board::phase(b) {
+        kinds::Phase::Running => Phase::Running,
+        kinds::Phase::Parked => Phase::Parked,
+        kinds::Phase::Cut => Phase::Cut,
     }
 }
 
-fn phase_number(phase: Phase) -> u32 {
+// The phase as it stands on the board.
+fn on_board(phase: Phase) -> kinds::Phase {
     match phase {
-        Phase::Running => 0,
-        Phase::Parked => 1,
-        Phase::Cut => 2,
+        Phase::Running => kinds::Phase::Running,
+        Phase::Parked => kinds::Phase::Parked,
+        Phase::Cut => kinds::Phase::Cut,
     }
 }
 
@@ -71,7 +74,7 @@ pub fn state_of(b: &[u32; board::SIZE]) -> State {
         geometry,
         tail: board::get(b, board::TAIL, 0),
         number: board::get(b, board::NUMBER, 0),
-        phase: phase_of(board::get(b, board::PHASE, 0)),
+        phase: phase_of(b),
         drive,
     }
 }
@@ -116,10 +119,7 @@ pub fn load_bytes(bytes: &mut [u8], b: &[u32; board::SIZE], from: u32, count: u3
 }
 
 fn is_byte(bytes: &[u8], at: usize, x: u8) -> bool {
-    if at < bytes.len() {
-        return bytes[at] == x;
-    }
-    false
+    at < bytes.len() && bytes[at] == x
 }
 
 // Four bytes as a word, the lowest first.
@@ -129,19 +129,11 @@ fn word_of(a: u8, b: u8, c: u8, d: u8) -> u32 {
 
 fn is_word(bytes: &[u8], i: u32, x: u32) -> bool {
     let at = i as usize * 4;
-    if at + 3 < bytes.len() {
-        return word_of(bytes[at], bytes[at + 1], bytes[at + 2], bytes[at + 3]) == x;
-    }
-    false
+    at + 3 < bytes.len() && word_of(bytes[at], bytes[at + 1], bytes[at + 2], bytes[at + 3]) == x
 }
 
 fn same_bytes(bytes: &[u8], b: &[u32; board::SIZE], from: u32, count: u32) -> bool {
-    for i in 0..count {
-        if !is_word(bytes, i, board::get(b, from, i)) {
-            return false;
-        }
-    }
-    true
+    (0..count).all(|i| is_word(bytes, i, board::get(b, from, i)))
 }
 
 fn put_word(words: &mut [u32], i: u32, x: u32) {
@@ -166,12 +158,7 @@ fn word_at(words: &[u32], i: u32) -> u32 {
 }
 
 fn same_words(words: &[u32], b: &[u32; board::SIZE], from: u32, count: u32) -> bool {
-    for i in 0..count {
-        if word_at(words, i) != board::get(b, from, i) {
-            return false;
-        }
-    }
-    true
+    (0..count).all(|i| word_at(words, i) == board::get(b, from, i))
 }
 
 fn bit(b: &[u32; board::SIZE], j: u32, i: u32) -> u8
@@ -203,12 +190,7 @@ pub fn load_used(used: &mut [u8], b: &[u32; board::SIZE], count: u32) {
 }
 
 fn same_used(used: &[u8], b: &[u32; board::SIZE], count: u32) -> bool {
-    for j in 0..count {
-        if !is_byte(used, j as usize, used_byte(b, j)) {
-            return false;
-        }
-    }
-    true
+    (0..count).all(|j| is_byte(used, j as usize, used_byte(b, j)))
 }
 
 // A length that stands on the board, where it is at most `most`, and otherwise 0.
@@ -224,7 +206,7 @@ pub fn length(b: &[u32; board::SIZE], cell: u32, most: usize) -> usize
 
 // The bytes that go with the call: a read's buffer, or a write's.
 pub fn load_data(bytes: &mut [u8], b: &[u32; board::SIZE]) {
-    if board::get(b, board::CALL, 0) == 3 {
+    if board::call(b) == Call::Read {
         load_bytes(bytes, b, board::OUT, 128);
     } else {
         load_bytes(
@@ -243,137 +225,120 @@ pub fn load_backlog(bytes: &mut [u8], b: &[u32; board::SIZE]) {
 }
 
 fn same_out(bytes: &[u8], b: &[u32; board::SIZE]) -> bool {
-    if board::get(b, board::CALL, 0) == 3 {
-        return same_bytes(bytes, b, board::OUT, 128);
-    }
-    true
+    board::call(b) != Call::Read || same_bytes(bytes, b, board::OUT, 128)
 }
 
 fn same_drive(d: Drive, b: &[u32; board::SIZE]) -> bool {
-    if d.sectors != board::get(b, board::PER_TRACK, 0) {
-        return false;
-    }
-    if d.tracks != board::get(b, board::TRACKS, 0) {
-        return false;
-    }
-    d.switch == board::get(b, board::SWITCH, 0)
+    d.sectors == board::get(b, board::PER_TRACK, 0)
+        && d.tracks == board::get(b, board::TRACKS, 0)
+        && d.switch == board::get(b, board::SWITCH, 0)
 }
 
 fn same_state(s: State, b: &[u32; board::SIZE]) -> bool {
     let g = s.geometry;
     let d = s.drive;
-    if !same_drive(d, b) {
-        return false;
-    }
-    if g.n != board::get(b, board::STATE_N, 0) {
-        return false;
-    }
-    if g.l != board::get(b, board::STATE_L, 0) {
-        return false;
-    }
-    if s.tail != board::get(b, board::TAIL, 0) {
-        return false;
-    }
-    if s.number != board::get(b, board::NUMBER, 0) {
-        return false;
-    }
     let phase = s.phase;
-    phase_number(phase) == board::get(b, board::PHASE, 0)
+    same_drive(d, b)
+        && g.n == board::get(b, board::STATE_N, 0)
+        && g.l == board::get(b, board::STATE_L, 0)
+        && s.tail == board::get(b, board::TAIL, 0)
+        && s.number == board::get(b, board::NUMBER, 0)
+        && on_board(phase) as u32 == board::get(b, board::PHASE, 0)
 }
 
-// What differs between two answers: 1 the answer, 2 the stores, 12 the sectors skipped, 3 the way, 4 the sectors read, 5 the state; 0 nothing.
-pub fn answer_differs(done: Outcome, b: &[u32; board::SIZE]) -> u32 {
+// Whether a cell of the board has what the code says.
+fn same(x: u32, b: &[u32; board::SIZE], cell: u32, what: Difference) -> Result<(), Difference> {
+    ensure(x == board::get(b, cell, 0), what)
+}
+
+// Holds an answer to the board's.
+pub fn compare_answers(done: Outcome, b: &[u32; board::SIZE]) -> Result<(), Difference> {
     let answer = done.answer;
-    if answer.number() != board::get(b, board::ANSWER, 0) {
-        return 1;
-    }
-    if answer.stores() != board::get(b, board::STORES, 0) {
-        return 2;
-    }
-    if answer.skipped() != board::get(b, board::SKIPPED, 0) {
-        return 12;
-    }
-    if answer.way() != board::get(b, board::WAY, 0) {
-        return 3;
-    }
-    if answer.sectors_read() != board::get(b, board::READS, 0) {
-        return 4;
-    }
     let state = done.state;
-    if !same_state(state, b) {
-        return 5;
-    }
-    0
+    same(answer.number(), b, board::ANSWER, Difference::Answers)?;
+    same(answer.stores(), b, board::STORES, Difference::Stores)?;
+    same(answer.skipped(), b, board::SKIPPED, Difference::Skipped)?;
+    same(answer.way(), b, board::WAY, Difference::Ways)?;
+    same(
+        answer.sectors_read(),
+        b,
+        board::READS,
+        Difference::SectorsRead,
+    )?;
+    ensure(same_state(state, b), Difference::States)
 }
 
-// The same of two batches: 1 the answer to the call as a whole, 2 the stores, 12 the sectors skipped, 17 how many commits were answered, 5 the
-// state, 18 the words of the answers; 0 nothing.
-pub fn batch_differs(done: BatchOutcome, b: &[u32; board::SIZE], answers: &[u32]) -> u32 {
-    if answer::verdict_number(done.verdict) != board::get(b, board::ANSWER, 0) {
-        return 1;
-    }
+// The same of a batch: the answer to the call as a whole, how many commits were answered, and the words of their answers.
+pub fn compare_batches(
+    done: BatchOutcome,
+    b: &[u32; board::SIZE],
+    answers: &[u32],
+) -> Result<(), Difference> {
     let cost = done.cost;
-    if cost.stores != board::get(b, board::STORES, 0) {
-        return 2;
-    }
-    if cost.skipped != board::get(b, board::SKIPPED, 0) {
-        return 12;
-    }
-    if done.answered != board::get(b, board::COMMITS_ANSWERED, 0) {
-        return 17;
-    }
     let state = done.state;
-    if !same_state(state, b) {
-        return 5;
-    }
-    if !same_words(answers, b, board::ANSWERS, board::COMMITS_MOST * 5) {
-        return 18;
-    }
-    0
+    same(
+        answer::verdict_number(done.verdict),
+        b,
+        board::ANSWER,
+        Difference::Answers,
+    )?;
+    same(cost.stores, b, board::STORES, Difference::Stores)?;
+    same(cost.skipped, b, board::SKIPPED, Difference::Skipped)?;
+    same(
+        done.answered,
+        b,
+        board::COMMITS_ANSWERED,
+        Difference::CommitsAnswered,
+    )?;
+    ensure(same_state(state, b), Difference::States)?;
+    ensure(
+        same_words(answers, b, board::ANSWERS, board::COMMITS_MOST * 5),
+        Difference::CommitAnswers,
+    )
 }
 
-// What differs between two tables: 7 the map, 8 the places, 9 the numbers, 10 the used map; 0 nothing.
-fn tables_differ(
+// Holds tables to those lent on the board.
+fn compare_tables(
     b: &[u32; board::SIZE],
     map: &[u32],
     places: &[u32],
     numbers: &[u32],
     used: &[u8],
-) -> u32 {
-    if !same_words(map, b, board::LENT, board::get(b, board::MAP_LENGTH, 0)) {
-        return 7;
-    }
+) -> Result<(), Difference> {
+    let l = board::get(b, board::MAP_LENGTH, 0);
     let p = board::get(b, board::PLACES_LENGTH, 0);
-    if !same_words(places, b, board::LENT + board::PLACES, p) {
-        return 8;
-    }
     let q = board::get(b, board::NUMBERS_LENGTH, 0);
-    if !same_words(numbers, b, board::LENT + board::NUMBERS, q) {
-        return 9;
-    }
-    if !same_used(used, b, board::get(b, board::USED_LENGTH, 0)) {
-        return 10;
-    }
-    0
+    let u = board::get(b, board::USED_LENGTH, 0);
+    ensure(same_words(map, b, board::LENT, l), Difference::Maps)?;
+    ensure(
+        same_words(places, b, board::LENT + board::PLACES, p),
+        Difference::Places,
+    )?;
+    ensure(
+        same_words(numbers, b, board::LENT + board::NUMBERS, q),
+        Difference::Numbers,
+    )?;
+    ensure(same_used(used, b, u), Difference::UsedMaps)
 }
 
-// What differs between two volumes in memory: 6 the image, or a table; 0 nothing.
-pub fn volume_differs(
+// Holds a volume in memory to the board's: its image and its tables.
+pub fn compare_volumes(
     b: &[u32; board::SIZE],
     image: &[u8],
     map: &[u32],
     places: &[u32],
     numbers: &[u32],
     used: &[u8],
-) -> u32 {
-    if !same_bytes(image, b, board::IMAGE, cells::image_words(b)) {
-        return 6;
-    }
-    tables_differ(b, map, places, numbers, used)
+) -> Result<(), Difference> {
+    ensure(
+        same_bytes(image, b, board::IMAGE, cells::image_words(b)),
+        Difference::Images,
+    )?;
+    compare_tables(b, map, places, numbers, used)
 }
 
-// The same, and 11 the bytes of a read.
-pub fn memory_differs(
+// The same, and the bytes of a read.
+pub fn compare_memory(
     b: &[u32; board::SIZE],
     image: &[u8],
     map: &[u32],
@@ -381,17 +346,7 @@ pub fn memory_differs(
     numbers: &[u32],
     used: &[u8],
     bytes: &[u8],
-) -> u32 {
-    if !same_out(bytes, b) {
-        return 11;
-    }
-    volume_differs(b, image, map, places, numbers, used)
-}
-
-// Where one of two comparisons found something.
-pub fn first_of(x: u32, y: u32) -> u32 {
-    if x != 0 {
-        return x;
-    }
-    y
+) -> Result<(), Difference> {
+    ensure(same_out(bytes, b), Difference::BytesRead)?;
+    compare_volumes(b, image, map, places, numbers, used)
 }

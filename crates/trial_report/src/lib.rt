@@ -3,47 +3,48 @@
 
 use paper::tokens;
 use reference_board::board;
+use reference_board::kinds::Call;
 use std::io::Print;
 use trial_board::cells;
+use trial_board::difference::Difference;
 use trial_board::stand::Volume;
-use trial_script::form::{Kind, Wrong};
+use trial_script::form::{BadLine, Kind, Wrong};
 use wording::say;
 
-fn say_call(rt: &impl Print, call: u32) {
+fn name_of(call: Call) -> &'static [u8] {
     match call {
-        0 => say::say(rt, b"a format"),
-        1 => say::say(rt, b"a write"),
-        2 => say::say(rt, b"a drop"),
-        3 => say::say(rt, b"a read"),
-        4 => say::say(rt, b"a park"),
-        5 => say::say(rt, b"a recover"),
-        _ => say::say(rt, b"a batch"),
+        Call::Format => b"a format",
+        Call::Write => b"a write",
+        Call::Drop => b"a drop",
+        Call::Read => b"a read",
+        Call::Park => b"a park",
+        Call::Recover => b"a recover",
+        Call::Batch => b"a batch",
     }
 }
 
-fn say_what(rt: &impl Print, what: u32) {
+fn text_of(what: Difference) -> &'static [u8] {
     match what {
-        1 => say::say(rt, b"the answers differ"),
-        2 => say::say(rt, b"the counts of stores differ"),
-        3 => say::say(rt, b"the ways differ"),
-        4 => say::say(rt, b"the sectors read differ"),
-        5 => say::say(rt, b"the states differ"),
-        6 => say::say(rt, b"the images differ"),
-        7 => say::say(rt, b"the maps differ"),
-        8 => say::say(rt, b"the live places differ"),
-        9 => say::say(rt, b"the live numbers differ"),
-        10 => say::say(rt, b"the used maps differ"),
-        11 => say::say(rt, b"the bytes read differ"),
-        12 => say::say(rt, b"the sectors skipped differ"),
-        13 => say::say(rt, b"a block is not the plain disk's"),
-        14 => say::say(rt, b"a cut call did not make its stores and answer 10"),
-        15 => say::say(rt, b"a recovery was not accepted"),
-        17 => say::say(rt, b"the counts of commits answered differ"),
-        18 => say::say(rt, b"the answers to the commits of a batch differ"),
-        _ => say::say(
-            rt,
-            b"a fact of the script does not hold, or a line is not of a known form",
-        ),
+        Difference::Answers => b"the answers differ",
+        Difference::Stores => b"the counts of stores differ",
+        Difference::Ways => b"the ways differ",
+        Difference::SectorsRead => b"the sectors read differ",
+        Difference::States => b"the states differ",
+        Difference::Images => b"the images differ",
+        Difference::Maps => b"the maps differ",
+        Difference::Places => b"the live places differ",
+        Difference::Numbers => b"the live numbers differ",
+        Difference::UsedMaps => b"the used maps differ",
+        Difference::BytesRead => b"the bytes read differ",
+        Difference::Skipped => b"the sectors skipped differ",
+        Difference::PlainDisk => b"a block is not the plain disk's",
+        Difference::CutAnswer => b"a cut call did not make its stores and answer 10",
+        Difference::NotRecovered => b"a recovery was not accepted",
+        Difference::CommitsAnswered => b"the counts of commits answered differ",
+        Difference::CommitAnswers => b"the answers to the commits of a batch differ",
+        Difference::Sample => {
+            b"a fact of the script does not hold, or a line is not of a known form"
+        }
     }
 }
 
@@ -52,9 +53,9 @@ fn say_first(rt: &impl Print, b: &[u32; board::SIZE]) {
         return;
     }
     say::say(rt, b"; the first: ");
-    say_what(rt, cells::get(b, cells::FIRST));
+    say::say(rt, text_of(Difference::from(cells::get(b, cells::FIRST))));
     say::say(rt, b", in or after ");
-    say_call(rt, cells::get(b, cells::FIRST_CALL));
+    say::say(rt, name_of(Call::from(cells::get(b, cells::FIRST_CALL))));
     say::say_count(rt, b", call ", cells::get(b, cells::FIRST_AT));
     if cells::get(b, cells::FIRST_LINE) > 0 {
         say::say_count(rt, b", line ", cells::get(b, cells::FIRST_LINE));
@@ -121,45 +122,6 @@ pub fn say_script(rt: &impl Print, b: &[u32; board::SIZE]) {
     say_differences(rt, b);
 }
 
-// The forms of lines that go with a call, and of calls.
-fn say_call_form(rt: &impl Print, kind: Kind) {
-    match kind {
-        Kind::Volume => say::say(rt, b"volume L N"),
-        Kind::Drive => say::say(rt, b"drive PER-TRACK TRACKS SWITCH"),
-        Kind::Block => say::say(rt, b"block B SEED"),
-        Kind::Blocks => say::say(rt, b"blocks FIRST STEP COUNT"),
-        Kind::Stores => say::say(rt, b"stores K"),
-        Kind::BytesMore => say::say(rt, b"bytes-more K"),
-        Kind::Commit => say::say(rt, b"commit KIND HEAD"),
-        Kind::Commits => say::say(rt, b"commits KIND HEAD FIRST COUNT"),
-        Kind::Format => say::say(rt, b"format"),
-        Kind::Write => say::say(rt, b"write HEAD"),
-        Kind::Drop => say::say(rt, b"drop HEAD"),
-        Kind::Read => say::say(rt, b"read B"),
-        Kind::Park => say::say(rt, b"park"),
-        Kind::Recover => say::say(rt, b"recover"),
-        _ => say::say(rt, b"batch"),
-    }
-}
-
-// The form of a line by its kind.
-fn say_form(rt: &impl Print, kind: Kind) {
-    match kind {
-        Kind::Is => say::say(rt, b"is NAME [INDEX] VALUE"),
-        Kind::Answers => say::say(rt, b"answers K ANSWER STORES SKIPPED TAIL NUMBER"),
-        Kind::Untouched => say::say(rt, b"untouched K"),
-        Kind::Sector => say::say(rt, b"sector K WORD VALUE"),
-        Kind::Blank => say::say(rt, b"blank K"),
-        Kind::Shows => say::say(rt, b"shows"),
-        Kind::Rejects => say::say(rt, b"rejects LINE"),
-        Kind::Set => say::say(rt, b"set NAME [INDEX] VALUE"),
-        Kind::Put => say::say(rt, b"put K WORD VALUE"),
-        Kind::Balance => say::say(rt, b"balance K"),
-        Kind::Copy => say::say(rt, b"copy K J"),
-        _ => say_call_form(rt, kind),
-    }
-}
-
 // The start of what was found, where it is long.
 fn shortened(text: &[u8]) -> &[u8] {
     if text.len() > 40 {
@@ -187,39 +149,39 @@ fn say_first_words(rt: &impl Print) {
 }
 
 fn say_wrong(rt: &impl Print, word: &[u8], kind: Kind, wrong: Wrong) {
+    say::say(rt, kind.text());
     match wrong {
-        Wrong::Nothing => {}
-        Wrong::FirstWord => {
-            say_first_words(rt);
-            say_found(rt, word, 0);
-        }
         Wrong::Name(i) => {
-            say_form(rt, kind);
             say::say(rt, b", the NAME a known one");
             say_found(rt, word, i);
         }
         Wrong::Number(i) => {
-            say_form(rt, kind);
             say::say(rt, b", with numbers up to 4294967295");
             say_found(rt, word, i);
         }
-        Wrong::Missing(_) => {
-            say_form(rt, kind);
-            say::say(rt, b", found the end of the line");
-        }
+        Wrong::Missing => say::say(rt, b", found the end of the line"),
         Wrong::TooMany(i) => {
-            say_form(rt, kind);
             say::say(rt, b" and no more");
             say_found(rt, word, i);
         }
     }
 }
 
+fn say_bad(rt: &impl Print, word: &[u8], bad: BadLine) {
+    match bad {
+        BadLine::FirstWord => {
+            say_first_words(rt);
+            say_found(rt, word, 0);
+        }
+        BadLine::Form(kind, wrong) => say_wrong(rt, word, kind, wrong),
+    }
+}
+
 // A line that is not of a known form: what was expected, and the word that stands there.
-pub fn say_bad_line(rt: &impl Print, number: u32, word: &[u8], kind: Kind, wrong: Wrong) {
+pub fn say_bad_line(rt: &impl Print, number: u32, word: &[u8], bad: BadLine) {
     say::say_count(rt, b"line ", number);
     say::say(rt, b": expected ");
-    say_wrong(rt, word, kind, wrong);
+    say_bad(rt, word, bad);
     say::say(rt, b"\n");
 }
 
@@ -248,18 +210,8 @@ fn say_volume(rt: &impl Print, family: &[u8], volume: Volume) {
     say_drive(rt, volume);
 }
 
-pub fn say_history(rt: &impl Print, b: &[u32; board::SIZE], volume: Volume) {
-    say_volume(rt, b"histories", volume);
-    say_course(rt, b);
-}
-
-// Histories of volumes whose numbers end soon.
-pub fn say_late_history(rt: &impl Print, b: &[u32; board::SIZE], volume: Volume) {
-    say_volume(rt, b"histories to the last number", volume);
-    say_course(rt, b);
-}
-
-fn say_course(rt: &impl Print, b: &[u32; board::SIZE]) {
+pub fn say_history(rt: &impl Print, b: &[u32; board::SIZE], family: &[u8], volume: Volume) {
+    say_volume(rt, family, volume);
     say::say_count(rt, b": ", cells::get(b, cells::CALLS));
     say_answers(rt, b);
     say::say_count(rt, b"; ", cells::get(b, cells::CUTS));
@@ -286,13 +238,8 @@ fn say_kinds(rt: &impl Print, b: &[u32; board::SIZE]) {
     say_some(rt, b, cells::BLOCKS_READ, b" blocks as on the plain disk");
 }
 
-// Damage in the image, or in memory.
-pub fn say_damage(rt: &impl Print, b: &[u32; board::SIZE], image: bool, volume: Volume) {
-    if image {
-        say_volume(rt, b"damaged images", volume);
-    } else {
-        say_volume(rt, b"damaged memory", volume);
-    }
+pub fn say_damage(rt: &impl Print, b: &[u32; board::SIZE], family: &[u8], volume: Volume) {
+    say_volume(rt, family, volume);
     say::say_count(rt, b": ", cells::get(b, cells::CALLS));
     say_answers(rt, b);
     say::say_count(rt, b"; ", cells::get(b, cells::WALKS));

@@ -1,6 +1,5 @@
 // The forms of a script's lines: what may follow the first word. A line is held to its form before anything of it is carried out.
 use crate::{cell, parts};
-use paper::tokens;
 use reference_board::board;
 
 // A line by its first word.
@@ -32,7 +31,40 @@ pub enum Kind {
     Put,
     Balance,
     Copy,
-    Unknown,
+}
+
+impl Kind {
+    // The form of such a line, as it is written for people.
+    pub fn text(self) -> &'static [u8] {
+        match self {
+            Kind::Volume => b"volume L N",
+            Kind::Drive => b"drive PER-TRACK TRACKS SWITCH",
+            Kind::Block => b"block B SEED",
+            Kind::Blocks => b"blocks FIRST STEP COUNT",
+            Kind::Stores => b"stores K",
+            Kind::BytesMore => b"bytes-more K",
+            Kind::Commit => b"commit KIND HEAD",
+            Kind::Commits => b"commits KIND HEAD FIRST COUNT",
+            Kind::Format => b"format",
+            Kind::Write => b"write HEAD",
+            Kind::Drop => b"drop HEAD",
+            Kind::Read => b"read B",
+            Kind::Park => b"park",
+            Kind::Recover => b"recover",
+            Kind::Batch => b"batch",
+            Kind::Is => b"is NAME [INDEX] VALUE",
+            Kind::Answers => b"answers K ANSWER STORES SKIPPED TAIL NUMBER",
+            Kind::Untouched => b"untouched K",
+            Kind::Sector => b"sector K WORD VALUE",
+            Kind::Blank => b"blank K",
+            Kind::Shows => b"shows",
+            Kind::Rejects => b"rejects LINE",
+            Kind::Set => b"set NAME [INDEX] VALUE",
+            Kind::Put => b"put K WORD VALUE",
+            Kind::Balance => b"balance K",
+            Kind::Copy => b"copy K J",
+        }
+    }
 }
 
 // What follows: so many numbers; a name and so many numbers; words of any kind.
@@ -41,115 +73,76 @@ enum Form {
     Numbers { least: u32, most: u32 },
     Named { least: u32, most: u32 },
     Words,
-    Nothing,
 }
 
-// The first word that is not as its form asks, counted from 0; one past the last where a word is missing.
+// The first word that is not as its form asks, counted from 0.
 #[derive(Clone, Copy)]
 pub enum Wrong {
-    Nothing,
-    FirstWord,
     Name(u32),
     Number(u32),
-    Missing(u32),
+    Missing,
     TooMany(u32),
 }
 
-fn argument_kind(first: &[u8]) -> Kind {
-    if tokens::is_word(first, b"volume") {
-        return Kind::Volume;
-    }
-    if tokens::is_word(first, b"drive") {
-        return Kind::Drive;
-    }
-    if tokens::is_word(first, b"block") {
-        return Kind::Block;
-    }
-    if tokens::is_word(first, b"blocks") {
-        return Kind::Blocks;
-    }
-    if tokens::is_word(first, b"stores") {
-        return Kind::Stores;
-    }
-    if tokens::is_word(first, b"bytes-more") {
-        return Kind::BytesMore;
-    }
-    if tokens::is_word(first, b"commit") {
-        return Kind::Commit;
-    }
-    if tokens::is_word(first, b"commits") {
-        return Kind::Commits;
-    }
-    call_kind(first)
+// A line that is not carried out.
+#[derive(Clone, Copy)]
+pub enum BadLine {
+    // Its first word is no kind's.
+    FirstWord,
+    Form(Kind, Wrong),
 }
 
-fn call_kind(first: &[u8]) -> Kind {
-    if tokens::is_word(first, b"format") {
-        return Kind::Format;
+fn argument_kind(first: &[u8]) -> Option<Kind> {
+    match first {
+        b"volume" => Some(Kind::Volume),
+        b"drive" => Some(Kind::Drive),
+        b"block" => Some(Kind::Block),
+        b"blocks" => Some(Kind::Blocks),
+        b"stores" => Some(Kind::Stores),
+        b"bytes-more" => Some(Kind::BytesMore),
+        b"commit" => Some(Kind::Commit),
+        b"commits" => Some(Kind::Commits),
+        _ => call_kind(first),
     }
-    if tokens::is_word(first, b"write") {
-        return Kind::Write;
-    }
-    if tokens::is_word(first, b"drop") {
-        return Kind::Drop;
-    }
-    if tokens::is_word(first, b"read") {
-        return Kind::Read;
-    }
-    if tokens::is_word(first, b"park") {
-        return Kind::Park;
-    }
-    if tokens::is_word(first, b"recover") {
-        return Kind::Recover;
-    }
-    if tokens::is_word(first, b"batch") {
-        return Kind::Batch;
-    }
-    fact_kind(first)
 }
 
-fn fact_kind(first: &[u8]) -> Kind {
-    if tokens::is_word(first, b"is") {
-        return Kind::Is;
+fn call_kind(first: &[u8]) -> Option<Kind> {
+    match first {
+        b"format" => Some(Kind::Format),
+        b"write" => Some(Kind::Write),
+        b"drop" => Some(Kind::Drop),
+        b"read" => Some(Kind::Read),
+        b"park" => Some(Kind::Park),
+        b"recover" => Some(Kind::Recover),
+        b"batch" => Some(Kind::Batch),
+        _ => fact_kind(first),
     }
-    if tokens::is_word(first, b"answers") {
-        return Kind::Answers;
-    }
-    if tokens::is_word(first, b"untouched") {
-        return Kind::Untouched;
-    }
-    if tokens::is_word(first, b"sector") {
-        return Kind::Sector;
-    }
-    if tokens::is_word(first, b"blank") {
-        return Kind::Blank;
-    }
-    if tokens::is_word(first, b"shows") {
-        return Kind::Shows;
-    }
-    if tokens::is_word(first, b"rejects") {
-        return Kind::Rejects;
-    }
-    damage_kind(first)
 }
 
-fn damage_kind(first: &[u8]) -> Kind {
-    if tokens::is_word(first, b"set") {
-        return Kind::Set;
+fn fact_kind(first: &[u8]) -> Option<Kind> {
+    match first {
+        b"is" => Some(Kind::Is),
+        b"answers" => Some(Kind::Answers),
+        b"untouched" => Some(Kind::Untouched),
+        b"sector" => Some(Kind::Sector),
+        b"blank" => Some(Kind::Blank),
+        b"shows" => Some(Kind::Shows),
+        b"rejects" => Some(Kind::Rejects),
+        _ => damage_kind(first),
     }
-    if tokens::is_word(first, b"put") {
-        return Kind::Put;
-    }
-    if tokens::is_word(first, b"balance") {
-        return Kind::Balance;
-    }
-    if tokens::is_word(first, b"copy") {
-        return Kind::Copy;
-    }
-    Kind::Unknown
 }
 
-pub fn kind_of(line: &[u8]) -> Kind {
+fn damage_kind(first: &[u8]) -> Option<Kind> {
+    match first {
+        b"set" => Some(Kind::Set),
+        b"put" => Some(Kind::Put),
+        b"balance" => Some(Kind::Balance),
+        b"copy" => Some(Kind::Copy),
+        _ => None,
+    }
+}
+
+fn kind_of(line: &[u8]) -> Option<Kind> {
     argument_kind(parts::word(line, 0))
 }
 
@@ -188,85 +181,73 @@ fn form_of(kind: Kind) -> Form {
         Kind::Put => numbers(3),
         Kind::Balance => numbers(1),
         Kind::Copy => numbers(2),
-        Kind::Unknown => Form::Nothing,
     }
 }
 
 // Word i where a number may stand, and must where it is needed.
-fn number_wrong(line: &[u8], i: u32, needed: bool) -> Wrong {
+fn check_number(line: &[u8], i: u32, needed: bool) -> Result<(), Wrong> {
+    if parts::is_number(line, i) {
+        return Ok(());
+    }
     if parts::has_word(line, i) {
-        if parts::is_number(line, i) {
-            return Wrong::Nothing;
-        }
-        return Wrong::Number(i);
+        return Err(Wrong::Number(i));
     }
-    if needed {
-        return Wrong::Missing(i);
-    }
-    Wrong::Nothing
+    if needed { Err(Wrong::Missing) } else { Ok(()) }
 }
 
 // The numbers from word `first` on.
-fn numbers_wrong(line: &[u8], first: u32, least: u32, most: u32) -> Wrong {
-    let mut i = 0u32;
-    while i < most {
-        let wrong = number_wrong(line, board::plus(first, i), i < least);
-        match wrong {
-            Wrong::Nothing => {}
-            _ => return wrong,
-        }
-        i += 1;
+fn check_numbers(line: &[u8], first: u32, least: u32, most: u32) -> Result<(), Wrong> {
+    for i in 0..most {
+        check_number(line, board::plus(first, i), i < least)?;
     }
     let end = board::plus(first, most);
     if parts::has_word(line, end) {
-        return Wrong::TooMany(end);
+        return Err(Wrong::TooMany(end));
     }
-    Wrong::Nothing
+    Ok(())
 }
 
 // A name, and the numbers after it.
-fn named_wrong(line: &[u8], least: u32, most: u32) -> Wrong {
-    if !parts::has_word(line, 1) {
-        return Wrong::Missing(1);
+fn check_named(line: &[u8], least: u32, most: u32) -> Result<(), Wrong> {
+    check_words(line)?;
+    if cell::cell_of(parts::word(line, 1)).is_none() {
+        return Err(Wrong::Name(1));
     }
-    if !cell::is_name(parts::word(line, 1)) {
-        return Wrong::Name(1);
-    }
-    numbers_wrong(line, 2, least, most)
+    check_numbers(line, 2, least, most)
 }
 
-fn words_wrong(line: &[u8]) -> Wrong {
+fn check_words(line: &[u8]) -> Result<(), Wrong> {
     if parts::has_word(line, 1) {
-        return Wrong::Nothing;
+        return Ok(());
     }
-    Wrong::Missing(1)
+    Err(Wrong::Missing)
 }
 
-// What is wrong with a line.
-pub fn wrong_in(line: &[u8]) -> Wrong {
-    let form = form_of(kind_of(line));
+fn check_form(line: &[u8], form: Form) -> Result<(), Wrong> {
     match form {
-        Form::Numbers { least, most } => numbers_wrong(line, 1, least, most),
-        Form::Named { least, most } => named_wrong(line, least, most),
-        Form::Words => words_wrong(line),
-        Form::Nothing => Wrong::FirstWord,
+        Form::Numbers { least, most } => check_numbers(line, 1, least, most),
+        Form::Named { least, most } => check_named(line, least, most),
+        Form::Words => check_words(line),
     }
 }
 
-pub fn is_right(line: &[u8]) -> bool {
-    let wrong = wrong_in(line);
-    match wrong {
-        Wrong::Nothing => true,
-        _ => false,
+// The kind of a line that is as its form asks, or what is wrong with it.
+pub fn check(line: &[u8]) -> Result<Kind, BadLine> {
+    match kind_of(line) {
+        None => Err(BadLine::FirstWord),
+        Some(kind) => match check_form(line, form_of(kind)) {
+            Ok(()) => Ok(kind),
+            Err(wrong) => Err(BadLine::Form(kind, wrong)),
+        },
     }
 }
 
 // The word that is wrong.
-pub fn found(line: &[u8], wrong: Wrong) -> &[u8] {
-    match wrong {
-        Wrong::Name(i) => parts::word(line, i),
-        Wrong::Number(i) => parts::word(line, i),
-        Wrong::TooMany(i) => parts::word(line, i),
-        _ => parts::word(line, 0),
+pub fn found(line: &[u8], bad: BadLine) -> &[u8] {
+    match bad {
+        BadLine::Form(_, Wrong::Name(i) | Wrong::Number(i) | Wrong::TooMany(i)) => {
+            parts::word(line, i)
+        }
+        BadLine::FirstWord | BadLine::Form(_, Wrong::Missing) => parts::word(line, 0),
     }
 }

@@ -7,23 +7,46 @@ pub mod parts;
 
 use form::Kind;
 use reference_board::board;
+use reference_board::kinds::Call;
+use trial_board::difference::Difference;
 use trial_board::stand::Volume;
 use trial_board::{backlog, cells, stand};
 
 fn hold_fact(b: &mut [u32; board::SIZE], holds: bool) {
     cells::add(b, cells::FACTS, 1);
-    cells::hold(b, holds, cells::SAMPLE);
+    cells::hold(b, holds, Difference::Sample);
+}
+
+// NAME VALUE, or NAME INDEX VALUE: a word of the board, from a cell on, and what it is or shall be.
+#[derive(Clone, Copy)]
+struct Named {
+    from: u32,
+    index: u32,
+    value: u32,
+}
+
+fn find_named(line: &[u8]) -> Option<Named> {
+    let from = cell::cell_of(parts::word(line, 1))?;
+    if parts::has_word(line, 3) {
+        return Some(Named {
+            from,
+            index: parts::number(line, 2),
+            value: parts::number(line, 3),
+        });
+    }
+    Some(Named {
+        from,
+        index: 0,
+        value: parts::number(line, 2),
+    })
 }
 
 // is NAME VALUE, or is NAME INDEX VALUE
 fn hold_is(b: &mut [u32; board::SIZE], line: &[u8]) {
-    let from = cell::cell_of(parts::word(line, 1));
-    let holds = if parts::has_word(line, 3) {
-        board::get(b, from, parts::number(line, 2)) == parts::number(line, 3)
-    } else {
-        board::get(b, from, 0) == parts::number(line, 2)
-    };
-    hold_fact(b, holds);
+    if let Some(named) = find_named(line) {
+        let holds = board::get(b, named.from, named.index) == named.value;
+        hold_fact(b, holds);
+    }
 }
 
 // sector K WORD VALUE: a word of the image.
@@ -38,12 +61,7 @@ fn hold_sector(b: &mut [u32; board::SIZE], line: &[u8]) {
 }
 
 fn is_answer(b: &[u32; board::SIZE], line: &[u8], k: u32) -> bool {
-    for i in 0..5u32 {
-        if board::answer_word(b, k, i) != parts::number(line, board::plus(i, 2)) {
-            return false;
-        }
-    }
-    true
+    (0..5u32).all(|i| board::answer_word(b, k, i) == parts::number(line, board::plus(i, 2)))
 }
 
 // answers K ANSWER STORES SKIPPED TAIL NUMBER: the words that answer commit K, from 0, of a batch.
@@ -66,17 +84,14 @@ fn hold_blank(b: &mut [u32; board::SIZE], line: &[u8]) {
 
 // rejects LINE: the rest is not of a known form.
 fn hold_rejects(b: &mut [u32; board::SIZE], line: &[u8]) {
-    let right = form::is_right(parts::rest(line));
-    hold_fact(b, !right);
+    let wrong = form::check(parts::rest(line)).is_err();
+    hold_fact(b, wrong);
 }
 
 // set NAME VALUE, or set NAME INDEX VALUE
 fn set(b: &mut [u32; board::SIZE], line: &[u8]) {
-    let from = cell::cell_of(parts::word(line, 1));
-    if parts::has_word(line, 3) {
-        board::put(b, from, parts::number(line, 2), parts::number(line, 3));
-    } else {
-        board::put(b, from, 0, parts::number(line, 2));
+    if let Some(named) = find_named(line) {
+        board::put(b, named.from, named.index, named.value);
     }
 }
 
@@ -104,7 +119,7 @@ fn copy(b: &mut [u32; board::SIZE], line: &[u8]) {
 
 fn name_more(b: &mut [u32; board::SIZE], first: u32, step: u32, count: u32) {
     cells::set(b, cells::CURSOR, first);
-    for i in 0..count {
+    for _ in 0..count {
         name_next(b, step);
     }
 }
@@ -126,11 +141,8 @@ fn name_several(b: &mut [u32; board::SIZE], line: &[u8]) {
 }
 
 // The single call of a commit's kind. What is no write has no bytes.
-fn single_of(kind: u32) -> u32 {
-    if kind == 0 {
-        return 1;
-    }
-    2
+fn single_of(kind: u32) -> Call {
+    if kind == 0 { Call::Write } else { Call::Drop }
 }
 
 // commit KIND HEAD: one more of a backlog, with the blocks named since the last.
@@ -148,7 +160,7 @@ fn add_next(b: &mut [u32; board::SIZE], kind: u32, head: u32) {
 
 fn add_more(b: &mut [u32; board::SIZE], kind: u32, head: u32, first: u32, count: u32) {
     cells::set(b, cells::CURSOR, first);
-    for i in 0..count {
+    for _ in 0..count {
         add_next(b, kind, head);
     }
 }
@@ -164,44 +176,44 @@ fn add_several(b: &mut [u32; board::SIZE], line: &[u8]) {
     );
 }
 
-// The number of a call; 7 where the line is none.
-pub fn call_of(kind: Kind) -> u32 {
+// The call that a line is.
+pub fn call_of(kind: Kind) -> Option<Call> {
     match kind {
-        Kind::Format => 0,
-        Kind::Write => 1,
-        Kind::Drop => 2,
-        Kind::Read => 3,
-        Kind::Park => 4,
-        Kind::Recover => 5,
-        Kind::Batch => board::BATCH,
-        _ => 7,
+        Kind::Format => Some(Call::Format),
+        Kind::Write => Some(Call::Write),
+        Kind::Drop => Some(Call::Drop),
+        Kind::Read => Some(Call::Read),
+        Kind::Park => Some(Call::Park),
+        Kind::Recover => Some(Call::Recover),
+        Kind::Batch => Some(Call::Batch),
+        _ => None,
     }
 }
 
 // The bytes that go with a call.
-fn bytes_of(b: &[u32; board::SIZE], call: u32) -> u32 {
+fn bytes_of(b: &[u32; board::SIZE], call: Call) -> u32 {
     match call {
-        1 => board::bytes(cells::get(b, board::COUNT)),
-        3 => 512,
+        Call::Write => board::bytes(cells::get(b, board::COUNT)),
+        Call::Read => 512,
         _ => 0,
     }
 }
 
 // The single call that a line is, or the commit of a backlog.
-fn stand(b: &mut [u32; board::SIZE], call: u32, argument: u32) {
+fn stand(b: &mut [u32; board::SIZE], call: Call, argument: u32) {
     let bytes = board::plus(bytes_of(b, call), cells::get(b, cells::BYTES_MORE));
-    cells::set(b, board::CALL, call);
+    board::put_call(b, call);
     cells::set(b, board::BYTES_LENGTH, bytes);
-    if call == 3 {
+    if call == Call::Read {
         cells::set(b, board::BLOCKS, argument);
     } else {
         cells::set(b, board::HEAD, argument);
     }
 }
 
-// The call that a line is.
-pub fn stand_call(b: &mut [u32; board::SIZE], call: u32, argument: u32) {
-    if call == board::BATCH {
+// Stands the call that a line is on the board.
+pub fn stand_call(b: &mut [u32; board::SIZE], call: Call, argument: u32) {
+    if call == Call::Batch {
         backlog::stand(b, 3_000_000_000);
     } else {
         stand(b, call, argument);

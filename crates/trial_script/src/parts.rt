@@ -3,11 +3,9 @@ use paper::tokens;
 
 // Where word `count` of a line is looked for, from 0.
 fn skip(line: &[u8], count: u32) -> usize {
-    let mut at = 0usize;
-    for i in 0..count {
-        at = tokens::word_end(line, tokens::word_start(line, at));
-    }
-    at
+    (0..count).fold(0, |at, _| {
+        tokens::word_end(line, tokens::word_start(line, at))
+    })
 }
 
 pub fn word(line: &[u8], count: u32) -> &[u8] {
@@ -35,8 +33,5 @@ pub fn rest(line: &[u8]) -> &[u8] {
 
 // Nothing to carry out: no word at all, or a comment.
 pub fn is_passed(line: &[u8]) -> bool {
-    if !has_word(line, 0) {
-        return true;
-    }
-    tokens::byte_at(word(line, 0), 0) == b'#'
+    !has_word(line, 0) || tokens::byte_at(word(line, 0), 0) == b'#'
 }

@@ -1,10 +1,12 @@
 // What the code reads of a volume, held to the plain disk.
 #![tactic(auto)]
 
+use lending::Tables;
 use paper::tokens;
 use reference_board::board;
 use state::State;
 use trial_board::cells;
+use trial_board::difference::Difference;
 
 fn word_at(out: &[u8], i: u32) -> u32 {
     let at = i as usize * 4;
@@ -17,12 +19,7 @@ fn word_at(out: &[u8], i: u32) -> u32 {
 }
 
 fn is_content(out: &[u8], seed: u32, l: u32) -> bool {
-    for i in 0..128u32 {
-        if word_at(out, i) != trial_disk::content(seed, l, i) {
-            return false;
-        }
-    }
-    true
+    (0..128u32).all(|i| word_at(out, i) == trial_disk::content(seed, l, i))
 }
 
 // Whether a read of the block is accepted and gives the plain disk's.
@@ -37,23 +34,14 @@ fn shows_block(
     block: u32,
 ) -> bool {
     let mut out = [255u8; 512];
-    let done = read::read(s, image, map, places, numbers, used, block, &mut out);
+    let done = read::read(s, image, &Tables { map, places, numbers, used }, block, &mut out);
     let answer = done.answer;
-    if answer.number() != 0 {
-        return false;
-    }
-    is_content(&out, board::get(b, cells::DISK, block), s.geometry.l)
+    answer.number() == 0 && is_content(&out, board::get(b, cells::DISK, block), s.geometry.l)
 }
 
 // Whether a block is one of those that are written, or the last.
 fn is_chosen(block: u32, spread: u32, l: u32) -> bool {
-    if board::plus(block, 1) == l {
-        return true;
-    }
-    if spread == 0 {
-        return true;
-    }
-    block % spread == 0
+    board::plus(block, 1) == l || spread == 0 || block % spread == 0
 }
 
 fn shows_blocks(
@@ -67,14 +55,9 @@ fn shows_blocks(
     spread: u32,
 ) -> bool {
     let l = s.geometry.l;
-    for block in 0..l {
-        if is_chosen(block, spread, l) {
-            if !shows_block(b, s, image, map, places, numbers, used, block) {
-                return false;
-            }
-        }
-    }
-    true
+    (0..l).filter(|block| is_chosen(*block, spread, l)).all(|block| shows_block(
+        b, s, image, map, places, numbers, used, block,
+    ))
 }
 
 fn shows_lent(
@@ -152,5 +135,5 @@ pub fn compare(b: &mut [u32; board::SIZE], spread: u32) {
     let l = cells::get(b, board::BLOCK_COUNT);
     let same = shows(b, spread);
     cells::add(b, cells::BLOCKS_READ, chosen_count(l, spread));
-    cells::hold(b, same, cells::PLAIN_DISK);
+    cells::hold(b, same, Difference::PlainDisk);
 }
