@@ -3,8 +3,8 @@ ghost use Rattle.std.specs.Prelude.{◌≤◌, ◌*◌};
 ghost use Rattle.geometry.specs.Geometry.{sector_bytes};
 
 use answer::Answer;
-use lending::Tables;
 use geometry::{Drive, Geometry};
+use lending::Tables;
 use paper::request::{Call, Request};
 use paper::{request, tokens};
 use state::{Outcome, State};
@@ -40,7 +40,18 @@ fn say_read(
     block: u32,
 ) -> Outcome {
     let mut out = [0u8; Geometry::SECTOR];
-    let done = read::read(s, image, &Tables { map, places, numbers, used }, block, &mut out);
+    let done = read::read(
+        s,
+        image,
+        &Tables {
+            map,
+            places,
+            numbers,
+            used,
+        },
+        block,
+        &mut out,
+    );
     let answer = done.answer;
     say::say_count(rt, b"read ", block);
     if answer.number() != 0 {
@@ -66,7 +77,18 @@ fn is_shown(
     aloud: bool,
 ) -> bool {
     let mut out = [0u8; Geometry::SECTOR];
-    read::read(s, image, &Tables { map, places, numbers, used }, block, &mut out);
+    read::read(
+        s,
+        image,
+        &Tables {
+            map,
+            places,
+            numbers,
+            used,
+        },
+        block,
+        &mut out,
+    );
     if blocks::is_blank(&out) {
         return false;
     }
@@ -110,7 +132,18 @@ fn show(
     used: &[u8],
 ) -> Outcome {
     let mut out = [0u8; Geometry::SECTOR];
-    let done = read::read(s, image, &Tables { map, places, numbers, used }, 0, &mut out);
+    let done = read::read(
+        s,
+        image,
+        &Tables {
+            map,
+            places,
+            numbers,
+            used,
+        },
+        0,
+        &mut out,
+    );
     let answer = done.answer;
     say::say(rt, b"show");
     if answer.number() != 0 {

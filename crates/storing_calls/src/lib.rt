@@ -1,8 +1,8 @@
 // The calls that may store, by name: programs choose one here, and pass on what it is lent.
 #![tactic(auto)]
 
-use lending::Tables;
 use geometry::Settings;
+use lending::Tables;
 use state::{Outcome, State};
 
 #[derive(Clone, Copy)]
@@ -35,7 +35,17 @@ pub fn perform(
             s, image, map, places, numbers, used, head, blocks, bytes, stores,
         ),
         Storing::Drop => write::drop(s, image, map, places, numbers, used, head, blocks, stores),
-        Storing::Park => park::park(s, image, &Tables { map, places, numbers, used }, stores),
+        Storing::Park => park::park(
+            s,
+            image,
+            &Tables {
+                map,
+                places,
+                numbers,
+                used,
+            },
+            stores,
+        ),
         Storing::Recover => recover::recover(
             s, image, map, places, numbers, used, settings, stores,
         ),

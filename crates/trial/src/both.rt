@@ -1,8 +1,8 @@
 // A call by both implementations: the code is lent what stands on the board, and what it leaves is compared.
 use crate::both_batches;
+use lending::Tables;
 use reference_board::board;
 use reference_board::kinds::Call;
-use lending::Tables;
 use state::Outcome;
 use storing_calls::Storing;
 use trial_board::cells;
@@ -35,7 +35,12 @@ fn call(
         Call::Read => read::read(
             s,
             image,
-            &Tables { map, places, numbers, used },
+            &Tables {
+                map,
+                places,
+                numbers,
+                used,
+            },
             cells::get(b, board::BLOCKS),
             bytes,
         ),

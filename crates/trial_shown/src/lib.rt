@@ -34,7 +34,18 @@ fn shows_block(
     block: u32,
 ) -> bool {
     let mut out = [255u8; 512];
-    let done = read::read(s, image, &Tables { map, places, numbers, used }, block, &mut out);
+    let done = read::read(
+        s,
+        image,
+        &Tables {
+            map,
+            places,
+            numbers,
+            used,
+        },
+        block,
+        &mut out,
+    );
     let answer = done.answer;
     answer.number() == 0 && is_content(&out, board::get(b, cells::DISK, block), s.geometry.l)
 }
