@@ -91,18 +91,13 @@ pub extern "C" fn vlog_read(
     ensures { read_handed result (memory image.now map.now places.now numbers.now used.now) out.new ≡ read_in_numbers c (read_of (state_of c) (memory image.now map.now places.now numbers.now used.now) block out.old) }
 {
     let s = plain::state_of(c);
-    let o = read::read(
-        s,
-        image,
-        &Tables {
-            map,
-            places,
-            numbers,
-            used,
-        },
-        block,
-        out,
-    );
+    let lent = Tables {
+        map,
+        places,
+        numbers,
+        used,
+    };
+    let o = read::read(s, image, &lent, block, out);
     plain::result_of(c, o)
 }
 
@@ -120,17 +115,13 @@ pub extern "C" fn vlog_park(
     ensures { handed result (memory image.new map.now places.now numbers.now used.now) ≡ in_numbers c (park_of (state_of c) (memory image.old map.now places.now numbers.now used.now) allowance) }
 {
     let s = plain::state_of(c);
-    let o = park::park(
-        s,
-        image,
-        &Tables {
-            map,
-            places,
-            numbers,
-            used,
-        },
-        allowance,
-    );
+    let lent = Tables {
+        map,
+        places,
+        numbers,
+        used,
+    };
+    let o = park::park(s, image, &lent, allowance);
     plain::result_of(c, o)
 }
 
