@@ -313,7 +313,7 @@ pub fn answer_next(
     requires { Placed reader }
 {
     let here = desk.moved();
-    match line_reader::line(window, reader) {
+    match reader.standing(window) {
         Ok(Some(line)) => answer_line(rt, here, line, image, map, places, numbers, used),
         Ok(None) => desk.stop(),
         Err(error) => {

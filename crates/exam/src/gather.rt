@@ -219,7 +219,7 @@ fn take_next(
     requires { Placed reader }
 {
     let here = g.moved();
-    match line_reader::line(window, reader) {
+    match reader.standing(window) {
         Ok(Some(line)) => take_line(rt, here, line, words, blocks, bytes),
         Ok(None) => {
             say::say_open_backlog(rt, first);

@@ -46,6 +46,25 @@ impl Reader {
         }
     }
 
+    // The line that is next, or none where the input has ended. The length is judged first, so that it does not matter how much of the
+    // input came with the last read. A line is open here only where its end could not be read.
+    pub fn standing(self, window: &[u8; WINDOW]) -> Result<Option<&[u8]>, LineError>
+        requires { Placed self }
+    {
+        if self.sought - self.from > LINE {
+            return Err(LineError::Long);
+        }
+        if self.sought == self.filled {
+            if self.failed || !self.ended {
+                return Err(LineError::Unreadable);
+            }
+            if self.from == self.filled {
+                return Ok(None);
+            }
+        }
+        Ok(Some(line(window, self)))
+    }
+
     // Whether the end of the line that is next is still to be read.
     fn is_open(self) -> bool
         requires { Placed self }
@@ -164,21 +183,7 @@ pub fn next_line(input: &mut impl Read, window: &mut [u8; WINDOW], from: Reader)
     r
 }
 
-// The line that is next, without a return at its end, or none where the input has ended. The length is judged first, so that it does
-// not matter how much of the input came with the last read. A line is open here only where its end could not be read.
-pub fn line(window: &[u8; WINDOW], r: Reader) -> Result<Option<&[u8]>, LineError>
-    requires { Placed r }
-{
-    if r.sought - r.from > LINE {
-        return Err(LineError::Long);
-    }
-    if r.sought == r.filled {
-        if r.failed || !r.ended {
-            return Err(LineError::Unreadable);
-        }
-        if r.from == r.filled {
-            return Ok(None);
-        }
-    }
-    Ok(Some(tokens::trimmed(&window[r.from..r.sought])))
+// The line that stands in the window, without a return at its end.
+pub fn line(window: &[u8; WINDOW], r: Reader) -> &[u8] {
+    tokens::trimmed(tokens::part(window, r.from, r.sought))
 }
