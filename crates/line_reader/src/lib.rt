@@ -1,7 +1,8 @@
 // The lines of an input, one after the other, by way of a window that the caller lends.
 #![tactic(auto)]
 
-ghost use Rattle.std.specs.Prelude.{◌≡◌, ℕ, ◌+◌, ◌≤◌, ◌<◌, length, get_or, IsTrue};
+ghost use Rattle.std.specs.Prelude.{◌≡◌, ℕ, ◌+◌, ◌≤◌, ◌<◌, length, get_or, IsTrue, IfErr};
+ghost use Rattle.line_reader.specs.declared.LineError.TheVariants.{Unreadable};
 ghost use Rattle.line_reader.specs.Reader.{line_bytes, window_bytes, Placed};
 
 use paper::tokens;
@@ -50,6 +51,7 @@ impl Reader {
     // input came with the last read. A line is open here only where its end could not be read.
     pub fn standing(self, window: &[u8; WINDOW]) -> Result<Option<&[u8]>, LineError>
         requires { Placed self }
+        ensures { IfErr result (λ e. e ≡ Unreadable → self.filled ≤ self.from + line_bytes) }
     {
         if self.sought - self.from > LINE {
             return Err(LineError::Long);
