@@ -33,10 +33,7 @@ fn buffers_fit(b: &[u32; board::SIZE]) -> bool {
 fn check(b: &[u32; board::SIZE]) -> Result<(), Refusal> {
     refusals::of_tables(b)?;
     refusals::ensure(buffers_fit(b), Refusal::BufferLength)?;
-    refusals::ensure(
-        1 <= commits(b) && commits(b) <= 32,
-        Refusal::CommitCount,
-    )
+    refusals::ensure(1 <= commits(b) && commits(b) <= 32, Refusal::CommitCount)
 }
 
 // Where the block numbers or the bytes of a commit begin: after those of the commits before it.
