@@ -104,6 +104,12 @@ pub fn add(b: &mut [u32; board::SIZE], cell: u32, x: u32) {
     set(b, cell, sum);
 }
 
+// One more in word i of those that begin at `from`.
+pub fn add_one(b: &mut [u32; board::SIZE], from: u32, i: u32) {
+    let x = board::get(b, from, i);
+    board::put(b, from, i, board::plus(x, 1));
+}
+
 fn note_first(b: &mut [u32; board::SIZE], what: Difference) {
     if get(b, DIFFERENCES) == 0 {
         let call = get(b, board::CALL);

@@ -4,6 +4,7 @@
 ghost use Rattle.std.specs.Prelude.{◌≤◌};
 
 use geometry::{Drive, Geometry, Settings};
+use lending::{Memory, Tables};
 use reference_board::kinds::Call;
 use reference_board::{board, kinds};
 use state::{BatchOutcome, Outcome, Phase, State};
@@ -193,6 +194,15 @@ fn same_used(used: &[u8], b: &[u32; board::SIZE], count: u32) -> bool {
     (0..count).all(|j| is_byte(used, j as usize, used_byte(b, j)))
 }
 
+// The image and the tables that stand on the board.
+pub fn load_volume(m: &mut Memory<'_>, b: &[u32; board::SIZE]) {
+    load_bytes(m.image, b, board::IMAGE, cells::image_words(b));
+    load_words(m.map, b, board::LENT, board::get(b, board::MAP_LENGTH, 0));
+    load_words(m.places, b, board::LENT + board::PLACES, board::P_MOST);
+    load_words(m.numbers, b, board::LENT + board::NUMBERS, board::P_MOST);
+    load_used(m.used, b, board::USED_WORDS / 8);
+}
+
 // A length that stands on the board, where it is at most `most`, and otherwise 0.
 pub fn length(b: &[u32; board::SIZE], cell: u32, most: usize) -> usize
     ensures { result ≤ most }
@@ -202,6 +212,12 @@ pub fn length(b: &[u32; board::SIZE], cell: u32, most: usize) -> usize
         return length;
     }
     0
+}
+
+// The part of an array that has the length on the board.
+pub fn part_in<'a, T>(items: &'a mut [T], b: &[u32; board::SIZE], cell: u32) -> &'a mut [T] {
+    let end = length(b, cell, items.len());
+    &mut items[..end]
 }
 
 // The bytes that go with the call: a read's buffer, or a write's.
@@ -298,55 +314,38 @@ pub fn compare_batches(
 }
 
 // Holds tables to those lent on the board.
-fn compare_tables(
-    b: &[u32; board::SIZE],
-    map: &[u32],
-    places: &[u32],
-    numbers: &[u32],
-    used: &[u8],
-) -> Result<(), Difference> {
+fn compare_tables(b: &[u32; board::SIZE], t: &Tables<'_>) -> Result<(), Difference> {
     let l = board::get(b, board::MAP_LENGTH, 0);
     let p = board::get(b, board::PLACES_LENGTH, 0);
     let q = board::get(b, board::NUMBERS_LENGTH, 0);
     let u = board::get(b, board::USED_LENGTH, 0);
-    ensure(same_words(map, b, board::LENT, l), Difference::Maps)?;
+    ensure(same_words(t.map, b, board::LENT, l), Difference::Maps)?;
     ensure(
-        same_words(places, b, board::LENT + board::PLACES, p),
+        same_words(t.places, b, board::LENT + board::PLACES, p),
         Difference::Places,
     )?;
     ensure(
-        same_words(numbers, b, board::LENT + board::NUMBERS, q),
+        same_words(t.numbers, b, board::LENT + board::NUMBERS, q),
         Difference::Numbers,
     )?;
-    ensure(same_used(used, b, u), Difference::UsedMaps)
+    ensure(same_used(t.used, b, u), Difference::UsedMaps)
 }
 
 // Holds a volume in memory to the board's: its image and its tables.
-pub fn compare_volumes(
-    b: &[u32; board::SIZE],
-    image: &[u8],
-    map: &[u32],
-    places: &[u32],
-    numbers: &[u32],
-    used: &[u8],
-) -> Result<(), Difference> {
+pub fn compare_volumes(b: &[u32; board::SIZE], m: &Memory<'_>) -> Result<(), Difference> {
     ensure(
-        same_bytes(image, b, board::IMAGE, cells::image_words(b)),
+        same_bytes(m.image(), b, board::IMAGE, cells::image_words(b)),
         Difference::Images,
     )?;
-    compare_tables(b, map, places, numbers, used)
+    compare_tables(b, &m.tables())
 }
 
 // The same, and the bytes of a read.
 pub fn compare_memory(
     b: &[u32; board::SIZE],
-    image: &[u8],
-    map: &[u32],
-    places: &[u32],
-    numbers: &[u32],
-    used: &[u8],
+    m: &Memory<'_>,
     bytes: &[u8],
 ) -> Result<(), Difference> {
     ensure(same_out(bytes, b), Difference::BytesRead)?;
-    compare_volumes(b, image, map, places, numbers, used)
+    compare_volumes(b, m)
 }
