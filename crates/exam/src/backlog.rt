@@ -61,7 +61,7 @@ fn word_at(words: &[u32], i: usize) -> u32 {
     words.get(i).copied().unwrap_or(0)
 }
 
-// The name of a commit's line, by its kind.
+// The name of a commit's line, by its kind: a number, as the C interface has it among the commit's words.
 fn call_of(kind: u32) -> Call {
     match kind {
         1 => Call::Drop,

@@ -45,7 +45,7 @@ fn say_read(rt: &impl Print, s: State, m: &Memory<'_>, block: u32) -> Outcome {
     done
 }
 
-// Whether a block is not all zeros. Its line is said where that is asked for.
+// Whether a block is not all zeros. Its line is said where that is asked for: the count goes before the lines, so they are gone through twice.
 fn is_shown(rt: &impl Print, s: State, m: &Memory<'_>, block: u32, aloud: bool) -> bool {
     let mut out = [0u8; Geometry::SECTOR];
     read::read(s, m.image(), &m.tables(), block, &mut out);
@@ -181,7 +181,7 @@ pub fn first<T>(items: &mut [T], n: usize) -> &mut [T] {
     &mut items[..end]
 }
 
-// The bytes of the blocks of a line.
+// The bytes of the blocks of a line. The count is the line's; the array has room for the most.
 fn bytes_part(bytes: &[u8], count: usize) -> &[u8] {
     if count <= request::MOST {
         tokens::part(bytes, 0, count * Geometry::SECTOR)

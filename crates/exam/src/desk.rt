@@ -20,7 +20,7 @@ pub struct Desk {
     pub state: State,
     // The drive that the volume was formatted for: what a recover is not given is taken from it.
     pub drive: Drive,
-    // Whether there is a volume.
+    // Whether there is a volume. No Option of the state: a format takes one where there is no volume yet.
     pub open: bool,
     // Whether the paper is at its end, or a line was not understood.
     pub stopped: bool,

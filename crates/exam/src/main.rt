@@ -12,6 +12,7 @@ use lending::Memory;
 use line_reader::Reader;
 use std::io::{Print, Read};
 
+// The arrays come from the caller: of one that is lent as a slice where it is made the check would count the elements.
 // The lines of a paper, one after the other. Nothing says that a paper ends, so they are counted up to a number that no run reaches.
 fn answer_lines(
     rt: &impl Print,

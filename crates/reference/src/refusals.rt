@@ -36,7 +36,10 @@ pub fn of_image(b: &[u32; board::SIZE]) -> Result<(), Refusal> {
     let n = length / 512;
     let l = board::get(b, board::BLOCK_COUNT, 0);
     ensure(length % 512 == 0 && size_fits(n, l), Refusal::Size)?;
-    ensure(settings_fit(b, board::GIVEN_PER_TRACK, n), Refusal::WrongSettings)?;
+    ensure(
+        settings_fit(b, board::GIVEN_PER_TRACK, n),
+        Refusal::WrongSettings,
+    )?;
     ensure(tables_fit(b, n, l), Refusal::BufferLength)
 }
 
@@ -61,11 +64,10 @@ fn of_state(b: &[u32; board::SIZE], bytes: u64) -> Result<(), Refusal> {
     )
 }
 
-// Whether the blocks ascend and lie below l.
+// Whether the blocks, so many words of the board, ascend and lie below l.
 fn blocks_ascend(b: &[u32; board::SIZE], count: u32, l: u32) -> bool {
     (0..count).all(|i| board::get(b, board::BLOCKS, i) < l)
-        && (1..count)
-            .all(|i| board::get(b, board::BLOCKS, i - 1) < board::get(b, board::BLOCKS, i))
+        && (1..count).all(|i| board::get(b, board::BLOCKS, i - 1) < board::get(b, board::BLOCKS, i))
 }
 
 fn of_arguments(b: &[u32; board::SIZE], n: u32, l: u32) -> Result<(), Refusal> {
@@ -85,7 +87,10 @@ fn of_volume(b: &mut [u32; board::SIZE], n: u32, l: u32) -> Result<(), Refusal> 
     let tail = board::get(b, board::TAIL, 0);
     let number = board::get(b, board::NUMBER, 0);
     let consistent = consistent::is_consistent(b, board::LENT, n, l, tail, number);
-    ensure(consistent && consistent::all_live(b, n, l), Refusal::NotConsistent)
+    ensure(
+        consistent && consistent::all_live(b, n, l),
+        Refusal::NotConsistent,
+    )
 }
 
 // 6 and 7.

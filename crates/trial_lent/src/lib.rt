@@ -30,6 +30,7 @@ pub const COMMIT_WORDS: usize = board::COMMITS_MOST as usize * 4;
 
 pub const ANSWER_WORDS: usize = board::COMMITS_MOST as usize * 5;
 
+// No From between the board's types and the code's, here and below: both are of other crates.
 fn phase_of(b: &[u32; board::SIZE]) -> Phase {
     match board::phase(b) {
         kinds::Phase::Running => Phase::Running,
@@ -80,16 +81,6 @@ pub fn state_of(b: &[u32; board::SIZE]) -> State {
     }
 }
 
-// Byte j of a word, the lowest first.
-fn byte_of(x: u32, j: u32) -> u8 {
-    match j {
-        0 => (x % 256) as u8,
-        1 => (x / 256 % 256) as u8,
-        2 => (x / 65536 % 256) as u8,
-        _ => (x / 16777216) as u8,
-    }
-}
-
 fn put_byte(bytes: &mut [u8], at: usize, x: u8) {
     if at < bytes.len() {
         bytes[at] = x;
@@ -99,20 +90,18 @@ fn put_byte(bytes: &mut [u8], at: usize, x: u8) {
 // A whole word has one test for its four bytes, as most of what a trial does is to fill an image.
 fn put_bytes(bytes: &mut [u8], i: u32, x: u32) {
     let at = i as usize * 4;
+    let four = x.to_le_bytes();
     if at + 3 < bytes.len() {
-        bytes[at] = (x % 256) as u8;
-        bytes[at + 1] = (x / 256 % 256) as u8;
-        bytes[at + 2] = (x / 65536 % 256) as u8;
-        bytes[at + 3] = (x / 16777216) as u8;
+        bytes[at..at + 4].copy_from_slice(&four);
     } else {
-        put_byte(bytes, at, byte_of(x, 0));
-        put_byte(bytes, at + 1, byte_of(x, 1));
-        put_byte(bytes, at + 2, byte_of(x, 2));
-        put_byte(bytes, at + 3, byte_of(x, 3));
+        put_byte(bytes, at, four[0]);
+        put_byte(bytes, at + 1, four[1]);
+        put_byte(bytes, at + 2, four[2]);
+        put_byte(bytes, at + 3, four[3]);
     }
 }
 
-// The bytes of `count` words of the board.
+// The bytes of `count` words of the board. With `load_words` it has the loop in common, and no more.
 pub fn load_bytes(bytes: &mut [u8], b: &[u32; board::SIZE], from: u32, count: u32) {
     for i in 0..count {
         put_bytes(bytes, i, board::get(b, from, i));
@@ -123,16 +112,13 @@ fn is_byte(bytes: &[u8], at: usize, x: u8) -> bool {
     at < bytes.len() && bytes[at] == x
 }
 
-// Four bytes as a word, the lowest first.
-fn word_of(a: u8, b: u8, c: u8, d: u8) -> u32 {
-    a as u32 + b as u32 * 256 + c as u32 * 65536 + d as u32 * 16777216
-}
-
 fn is_word(bytes: &[u8], i: u32, x: u32) -> bool {
     let at = i as usize * 4;
-    at + 3 < bytes.len() && word_of(bytes[at], bytes[at + 1], bytes[at + 2], bytes[at + 3]) == x
+    at + 3 < bytes.len()
+        && u32::from_le_bytes([bytes[at], bytes[at + 1], bytes[at + 2], bytes[at + 3]]) == x
 }
 
+// Held to the board word by word, here and below, as a count of its words may go past the end of an array.
 fn same_bytes(bytes: &[u8], b: &[u32; board::SIZE], from: u32, count: u32) -> bool {
     (0..count).all(|i| is_word(bytes, i, board::get(b, from, i)))
 }
@@ -284,7 +270,8 @@ pub fn compare_answers(done: Outcome, b: &[u32; board::SIZE]) -> Result<(), Diff
     ensure(same_state(state, b), Difference::States)
 }
 
-// The same of a batch: the answer to the call as a whole, how many commits were answered, and the words of their answers.
+// Holds a batch to the board's, which has no way and no sectors read: the answer to the call as a whole, how many commits were answered,
+// and the words of their answers.
 pub fn compare_batches(
     done: BatchOutcome,
     b: &[u32; board::SIZE],
@@ -340,7 +327,7 @@ pub fn compare_volumes(b: &[u32; board::SIZE], m: &Memory<'_>) -> Result<(), Dif
     compare_tables(b, &m.tables())
 }
 
-// The same, and the bytes of a read.
+// Holds it to the board's, with the bytes of a read.
 pub fn compare_memory(
     b: &[u32; board::SIZE],
     m: &Memory<'_>,
