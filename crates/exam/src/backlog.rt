@@ -1,4 +1,5 @@
 // A backlog: its lines are gathered up to its end, and then its commits are made in one call.
+ghost use Rattle.lending.specs.Lending.{SameLent};
 ghost use Rattle.line_reader.specs.Reader.{Placed};
 
 use crate::desk::Desk;
@@ -7,6 +8,7 @@ use crate::{calls, desk, gather};
 use answer::Cost;
 use batch_checks::{ANSWER_WORDS, COMMIT_WORDS};
 use geometry::Geometry;
+use lending::Memory;
 use line_reader::{Reader, WINDOW};
 use paper::request::Call;
 use paper::tokens;
@@ -27,27 +29,25 @@ pub struct Turn {
 fn lend(
     s: State,
     g: Gathered,
-    image: &mut [u8],
-    map: &mut [u32],
-    places: &mut [u32],
-    numbers: &mut [u32],
-    used: &mut [u8],
+    m: &mut Memory<'_>,
     words: &[u32],
     blocks: &[u32],
     bytes: &[u8],
     stores: u32,
     answers: &mut [u32],
-) -> BatchOutcome {
+) -> BatchOutcome
+    ensures lent { SameLent m.new m.old }
+{
     let size = s.geometry;
     let pieces = Geometry::pieces_for(size.l) as usize;
     let commits = g.commits as usize;
     batch::batch(
         s,
-        calls::first(image, calls::bytes_of(size.n)),
-        calls::first(map, size.l as usize),
-        calls::first(places, pieces),
-        calls::first(numbers, pieces),
-        calls::first(used, size.used_bytes() as usize),
+        calls::first(m.image, calls::bytes_of(size.n)),
+        calls::first(m.map, size.l as usize),
+        calls::first(m.places, pieces),
+        calls::first(m.numbers, pieces),
+        calls::first(m.used, size.used_bytes() as usize),
         tokens::part(words, 0, COMMIT_WORDS * commits),
         tokens::part(blocks, 0, g.blocks),
         tokens::part(bytes, 0, g.bytes),
@@ -61,7 +61,7 @@ fn word_at(words: &[u32], i: usize) -> u32 {
     words.get(i).copied().unwrap_or(0)
 }
 
-// The name of a commit's line, by its kind.
+// The name of a commit's line, by its kind: a number, as the C interface has it among the commit's words.
 fn call_of(kind: u32) -> Call {
     match kind {
         1 => Call::Drop,
@@ -92,32 +92,17 @@ fn make(
     rt: &impl Print,
     desk: Desk,
     g: Gathered,
-    image: &mut [u8; desk::IMAGE],
-    map: &mut [u32; desk::MAP],
-    places: &mut [u32; desk::PIECES],
-    numbers: &mut [u32; desk::PIECES],
-    used: &mut [u8; desk::USED],
+    m: &mut Memory<'_>,
     words: &[u32; gather::WORDS],
     blocks: &[u32; gather::BLOCKS],
     bytes: &[u8; gather::BYTES],
     stores: u32,
-) -> Desk {
+) -> Desk
+    ensures lent { SameLent m.new m.old }
+{
     let mut answers = [0u32; ANSWERS];
     let before = desk.state;
-    let done = lend(
-        before,
-        g,
-        image,
-        map,
-        places,
-        numbers,
-        used,
-        words,
-        blocks,
-        bytes,
-        stores,
-        &mut answers,
-    );
+    let done = lend(before, g, m, words, blocks, bytes, stores, &mut answers);
     let after = done.state;
     let verdict = done.verdict;
     backlog::say_backlog(rt, verdict, done.answered, g.commits);
@@ -133,14 +118,11 @@ fn answer_commits(
     stores: u32,
     window: &mut [u8; WINDOW],
     reader: Reader,
-    image: &mut [u8; desk::IMAGE],
-    map: &mut [u32; desk::MAP],
-    places: &mut [u32; desk::PIECES],
-    numbers: &mut [u32; desk::PIECES],
-    used: &mut [u8; desk::USED],
+    m: &mut Memory<'_>,
 ) -> Turn
     requires { Placed reader }
-    ensures { Placed result.reader }
+    ensures placed { Placed result.reader }
+    ensures lent { SameLent m.new m.old }
 {
     let mut words = [0u32; gather::WORDS];
     let mut blocks = [0u32; gather::BLOCKS];
@@ -156,9 +138,7 @@ fn answer_commits(
         &mut bytes,
     );
     let desk = match found.gathered {
-        Some(gathered) => make(
-            rt, desk, gathered, image, map, places, numbers, used, &words, &blocks, &bytes, stores,
-        ),
+        Some(gathered) => make(rt, desk, gathered, m, &words, &blocks, &bytes, stores),
         None => desk.stop(),
     };
     Turn {
@@ -174,20 +154,15 @@ fn answer_backlog(
     desk: Desk,
     window: &mut [u8; WINDOW],
     reader: Reader,
-    image: &mut [u8; desk::IMAGE],
-    map: &mut [u32; desk::MAP],
-    places: &mut [u32; desk::PIECES],
-    numbers: &mut [u32; desk::PIECES],
-    used: &mut [u8; desk::USED],
+    m: &mut Memory<'_>,
 ) -> Turn
     requires { Placed reader }
-    ensures { Placed result.reader }
+    ensures placed { Placed result.reader }
+    ensures lent { SameLent m.new m.old }
 {
     match desk.backlog {
         None => Turn { desk, reader },
-        Some(stores) => answer_commits(
-            rt, input, desk, stores, window, reader, image, map, places, numbers, used,
-        ),
+        Some(stores) => answer_commits(rt, input, desk, stores, window, reader, m),
     }
 }
 
@@ -198,26 +173,12 @@ pub fn answer_turn(
     desk: Desk,
     window: &mut [u8; WINDOW],
     reader: Reader,
-    image: &mut [u8; desk::IMAGE],
-    map: &mut [u32; desk::MAP],
-    places: &mut [u32; desk::PIECES],
-    numbers: &mut [u32; desk::PIECES],
-    used: &mut [u8; desk::USED],
+    m: &mut Memory<'_>,
 ) -> Turn
     requires { Placed reader }
-    ensures { Placed result.reader }
+    ensures placed { Placed result.reader }
+    ensures lent { SameLent m.new m.old }
 {
-    let here = desk::answer_next(rt, desk, window, reader, image, map, places, numbers, used);
-    answer_backlog(
-        rt,
-        input,
-        here,
-        window,
-        reader.passed(),
-        image,
-        map,
-        places,
-        numbers,
-        used,
-    )
+    let here = desk::answer_next(rt, desk, window, reader, m);
+    answer_backlog(rt, input, here, window, reader.passed(), m)
 }

@@ -1,10 +1,11 @@
 // The calls on the volume, and their answers.
 ghost use Rattle.std.specs.Prelude.{◌≤◌, ◌*◌};
 ghost use Rattle.geometry.specs.Geometry.{sector_bytes};
+ghost use Rattle.lending.specs.Lending.{SameLent};
 
 use answer::Answer;
 use geometry::{Drive, Geometry};
-use lending::Tables;
+use lending::Memory;
 use paper::request::{Call, Request};
 use paper::{request, tokens};
 use state::{Outcome, State};
@@ -29,29 +30,9 @@ fn storing(call: Call) -> Storing {
 }
 
 // Reads a block, and says it.
-fn say_read(
-    rt: &impl Print,
-    s: State,
-    image: &[u8],
-    map: &[u32],
-    places: &[u32],
-    numbers: &[u32],
-    used: &[u8],
-    block: u32,
-) -> Outcome {
+fn say_read(rt: &impl Print, s: State, m: &Memory<'_>, block: u32) -> Outcome {
     let mut out = [0u8; Geometry::SECTOR];
-    let done = read::read(
-        s,
-        image,
-        &Tables {
-            map,
-            places,
-            numbers,
-            used,
-        },
-        block,
-        &mut out,
-    );
+    let done = read::read(s, m.image(), &m.tables(), block, &mut out);
     let answer = done.answer;
     say::say_count(rt, b"read ", block);
     if answer.number() != 0 {
@@ -64,31 +45,10 @@ fn say_read(
     done
 }
 
-// Whether a block is not all zeros. Its line is said where that is asked for.
-fn is_shown(
-    rt: &impl Print,
-    s: State,
-    image: &[u8],
-    map: &[u32],
-    places: &[u32],
-    numbers: &[u32],
-    used: &[u8],
-    block: u32,
-    aloud: bool,
-) -> bool {
+// Whether a block is not all zeros. Its line is said where that is asked for: the count goes before the lines, so they are gone through twice.
+fn is_shown(rt: &impl Print, s: State, m: &Memory<'_>, block: u32, aloud: bool) -> bool {
     let mut out = [0u8; Geometry::SECTOR];
-    read::read(
-        s,
-        image,
-        &Tables {
-            map,
-            places,
-            numbers,
-            used,
-        },
-        block,
-        &mut out,
-    );
+    read::read(s, m.image(), &m.tables(), block, &mut out);
     if blocks::is_blank(&out) {
         return false;
     }
@@ -102,19 +62,10 @@ fn is_shown(
 }
 
 // How many blocks are not all zeros.
-fn show_blocks(
-    rt: &impl Print,
-    s: State,
-    image: &[u8],
-    map: &[u32],
-    places: &[u32],
-    numbers: &[u32],
-    used: &[u8],
-    aloud: bool,
-) -> u32 {
+fn show_blocks(rt: &impl Print, s: State, m: &Memory<'_>, aloud: bool) -> u32 {
     let mut count = 0u32;
     for b in 0..s.geometry.l {
-        if is_shown(rt, s, image, map, places, numbers, used, b, aloud) {
+        if is_shown(rt, s, m, b, aloud) {
             count += 1;
         }
     }
@@ -122,41 +73,18 @@ fn show_blocks(
 }
 
 // The blocks that are not all zeros, where reading block 0 is not refused.
-fn show(
-    rt: &impl Print,
-    s: State,
-    image: &[u8],
-    map: &[u32],
-    places: &[u32],
-    numbers: &[u32],
-    used: &[u8],
-) -> Outcome {
+fn show(rt: &impl Print, s: State, m: &Memory<'_>) -> Outcome {
     let mut out = [0u8; Geometry::SECTOR];
-    let done = read::read(
-        s,
-        image,
-        &Tables {
-            map,
-            places,
-            numbers,
-            used,
-        },
-        0,
-        &mut out,
-    );
+    let done = read::read(s, m.image(), &m.tables(), 0, &mut out);
     let answer = done.answer;
     say::say(rt, b"show");
     if answer.number() != 0 {
         say::say_refusal(rt, Call::Show, answer);
         return done;
     }
-    say::say_count(
-        rt,
-        b": ",
-        show_blocks(rt, s, image, map, places, numbers, used, false),
-    );
+    say::say_count(rt, b": ", show_blocks(rt, s, m, false));
     say::say(rt, b" blocks\n");
-    show_blocks(rt, s, image, map, places, numbers, used, true);
+    show_blocks(rt, s, m, true);
     done
 }
 
@@ -205,19 +133,15 @@ fn perform(
     s: State,
     size: Geometry,
     drive: Drive,
-    image: &mut [u8],
-    map: &mut [u32],
-    places: &mut [u32],
-    numbers: &mut [u32],
-    used: &mut [u8],
+    m: &mut Memory<'_>,
     blocks: &[u32],
     bytes: &[u8],
 ) -> Outcome {
     match call {
-        Call::Read => say_read(rt, s, image, map, places, numbers, used, r.first),
-        Call::Show => show(rt, s, image, map, places, numbers, used),
+        Call::Read => say_read(rt, s, m, r.first),
+        Call::Show => show(rt, s, m),
         Call::Sectors => {
-            show_sectors(rt, image, size);
+            show_sectors(rt, m.image(), size);
             Outcome {
                 answer: Answer::accepted(0),
                 state: s,
@@ -227,11 +151,11 @@ fn perform(
             let done = storing_calls::perform(
                 storing(call),
                 s,
-                image,
-                map,
-                places,
-                numbers,
-                used,
+                m.image,
+                m.map,
+                m.places,
+                m.numbers,
+                m.used,
                 size.settings(drive),
                 r.first,
                 blocks,
@@ -257,7 +181,7 @@ pub fn first<T>(items: &mut [T], n: usize) -> &mut [T] {
     &mut items[..end]
 }
 
-// The bytes of the blocks of a line.
+// The bytes of the blocks of a line. The count is the line's; the array has room for the most.
 fn bytes_part(bytes: &[u8], count: usize) -> &[u8] {
     if count <= request::MOST {
         tokens::part(bytes, 0, count * Geometry::SECTOR)
@@ -274,15 +198,20 @@ pub fn lend(
     s: State,
     size: Geometry,
     drive: Drive,
-    image: &mut [u8],
-    map: &mut [u32],
-    places: &mut [u32],
-    numbers: &mut [u32],
-    used: &mut [u8],
+    m: &mut Memory<'_>,
     blocks: &[u32],
     bytes: &[u8],
-) -> Outcome {
+) -> Outcome
+    ensures lent { SameLent m.new m.old }
+{
     let pieces = Geometry::pieces_for(size.l) as usize;
+    let mut part = Memory {
+        image: first(&mut *m.image, bytes_of(size.n)),
+        map: first(&mut *m.map, size.l as usize),
+        places: first(&mut *m.places, pieces),
+        numbers: first(&mut *m.numbers, pieces),
+        used: first(&mut *m.used, size.used_bytes() as usize),
+    };
     perform(
         rt,
         call,
@@ -290,11 +219,7 @@ pub fn lend(
         s,
         size,
         drive,
-        first(image, bytes_of(size.n)),
-        first(map, size.l as usize),
-        first(places, pieces),
-        first(numbers, pieces),
-        first(used, size.used_bytes() as usize),
+        &mut part,
         tokens::part(blocks, 0, r.count),
         bytes_part(bytes, r.count),
     )

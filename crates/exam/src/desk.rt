@@ -1,10 +1,12 @@
 // The desk: it takes a line apart, lends the volume's parts to the call, and keeps the state.
+ghost use Rattle.lending.specs.Lending.{SameLent};
 ghost use Rattle.line_reader.specs.Reader.{Placed};
 
 use crate::given::Given;
 use crate::{calls, given};
 use answer::{Answer, Refusal};
 use geometry::{Drive, Geometry};
+use lending::Memory;
 use line_reader::{LINE, LineError, Reader, WINDOW};
 use paper::request;
 use paper::request::{Call, Request};
@@ -18,7 +20,7 @@ pub struct Desk {
     pub state: State,
     // The drive that the volume was formatted for: what a recover is not given is taken from it.
     pub drive: Drive,
-    // Whether there is a volume.
+    // Whether there is a volume. No Option of the state: a format takes one where there is no volume yet.
     pub open: bool,
     // Whether the paper is at its end, or a line was not understood.
     pub stopped: bool,
@@ -180,19 +182,14 @@ fn answer_request(
     call: Call,
     r: Request,
     given: Given,
-    image: &mut [u8; IMAGE],
-    map: &mut [u32; MAP],
-    places: &mut [u32; PIECES],
-    numbers: &mut [u32; PIECES],
-    used: &mut [u8; USED],
+    m: &mut Memory<'_>,
     blocks: &[u32],
     bytes: &[u8],
-) -> Desk {
+) -> Desk
+    ensures lent { SameLent m.new m.old }
+{
     let drive = given.drive;
-    let left = calls::lend(
-        rt, call, r, desk.state, given.size, drive, image, map, places, numbers, used, blocks,
-        bytes,
-    );
+    let left = calls::lend(rt, call, r, desk.state, given.size, drive, m, blocks, bytes);
     match call {
         Call::Format => desk.formatted(left.state, drive, has_volume(left.answer)),
         _ => desk.with(left.state),
@@ -206,61 +203,26 @@ fn answer_read(
     desk: Desk,
     call: Call,
     line: &[u8],
-    image: &mut [u8; IMAGE],
-    map: &mut [u32; MAP],
-    places: &mut [u32; PIECES],
-    numbers: &mut [u32; PIECES],
-    used: &mut [u8; USED],
+    m: &mut Memory<'_>,
     blocks: &mut [u32; request::MOST],
     bytes: &mut [u8; LINE_BYTES],
-) -> Desk {
+) -> Desk
+    ensures lent { SameLent m.new m.old }
+{
     let found = request::request_of(line, call, blocks, bytes);
     let Some((r, given)) = understood(rt, desk, call, line, found) else {
         return desk.stop();
     };
-    answer_request(
-        rt,
-        desk,
-        call,
-        r,
-        given::handed(given),
-        image,
-        map,
-        places,
-        numbers,
-        used,
-        blocks,
-        bytes,
-    )
+    answer_request(rt, desk, call, r, given::handed(given), m, blocks, bytes)
 }
 
 // A line that asks for a call.
-fn answer_call(
-    rt: &impl Print,
-    desk: Desk,
-    call: Call,
-    line: &[u8],
-    image: &mut [u8; IMAGE],
-    map: &mut [u32; MAP],
-    places: &mut [u32; PIECES],
-    numbers: &mut [u32; PIECES],
-    used: &mut [u8; USED],
-) -> Desk {
+fn answer_call(rt: &impl Print, desk: Desk, call: Call, line: &[u8], m: &mut Memory<'_>) -> Desk
+    ensures lent { SameLent m.new m.old }
+{
     let mut blocks = [0u32; request::MOST];
     let mut bytes = [0u8; LINE_BYTES];
-    answer_read(
-        rt,
-        desk,
-        call,
-        line,
-        image,
-        map,
-        places,
-        numbers,
-        used,
-        &mut blocks,
-        &mut bytes,
-    )
+    answer_read(rt, desk, call, line, m, &mut blocks, &mut bytes)
 }
 
 // The line that a backlog begins with.
@@ -273,20 +235,13 @@ fn begin_backlog(rt: &impl Print, desk: Desk, line: &[u8]) -> Desk {
 }
 
 // A line of the paper.
-fn answer_line(
-    rt: &impl Print,
-    desk: Desk,
-    line: &[u8],
-    image: &mut [u8; IMAGE],
-    map: &mut [u32; MAP],
-    places: &mut [u32; PIECES],
-    numbers: &mut [u32; PIECES],
-    used: &mut [u8; USED],
-) -> Desk {
+fn answer_line(rt: &impl Print, desk: Desk, line: &[u8], m: &mut Memory<'_>) -> Desk
+    ensures lent { SameLent m.new m.old }
+{
     match request::call_of(line) {
         None => desk,
         Some(Call::Backlog) => begin_backlog(rt, desk, line),
-        Some(call) => answer_call(rt, desk, call, line, image, map, places, numbers, used),
+        Some(call) => answer_call(rt, desk, call, line, m),
     }
 }
 
@@ -304,17 +259,14 @@ pub fn answer_next(
     desk: Desk,
     window: &[u8; WINDOW],
     reader: Reader,
-    image: &mut [u8; IMAGE],
-    map: &mut [u32; MAP],
-    places: &mut [u32; PIECES],
-    numbers: &mut [u32; PIECES],
-    used: &mut [u8; USED],
+    m: &mut Memory<'_>,
 ) -> Desk
     requires { Placed reader }
+    ensures lent { SameLent m.new m.old }
 {
     let here = desk.moved();
     match reader.standing(window) {
-        Ok(Some(line)) => answer_line(rt, here, line, image, map, places, numbers, used),
+        Ok(Some(line)) => answer_line(rt, here, line, m),
         Ok(None) => desk.stop(),
         Err(error) => {
             say_line_error(rt, here.line, error);

@@ -29,7 +29,7 @@ pub struct Gathered {
     pub bytes: usize,
     // The number of the line that was read last.
     pub line: u32,
-    // Whether its end has come.
+    // Whether its end has come: a flag, as the last line too goes on with what was gathered.
     pub closed: bool,
 }
 
@@ -131,7 +131,7 @@ fn read_commit(
     )
 }
 
-// The kinds of commits: 0 a write, 1 a drop.
+// The kinds of commits: 0 a write, 1 a drop. Numbers, as the C interface has them among a commit's words.
 fn kind_of(call: Call) -> u32 {
     match call {
         Call::BacklogDrop => 1,

@@ -8,9 +8,11 @@ mod gather;
 mod given;
 
 use desk::Desk;
+use lending::Memory;
 use line_reader::Reader;
 use std::io::{Print, Read};
 
+// The arrays come from the caller: of one that is lent as a slice where it is made the check would count the elements.
 // The lines of a paper, one after the other. Nothing says that a paper ends, so they are counted up to a number that no run reaches.
 fn answer_lines(
     rt: &impl Print,
@@ -21,23 +23,19 @@ fn answer_lines(
     numbers: &mut [u32; desk::PIECES],
     used: &mut [u8; desk::USED],
 ) {
+    let mut m = Memory {
+        image,
+        map,
+        places,
+        numbers,
+        used,
+    };
     let mut window = [0u8; line_reader::WINDOW];
     let mut reader = Reader::opened();
     let mut desk = Desk::opened();
     for _ in 0..u64::MAX {
         reader = line_reader::next_line(input, &mut window, reader);
-        let turn = backlog::answer_turn(
-            rt,
-            input,
-            desk,
-            &mut window,
-            reader,
-            image,
-            map,
-            places,
-            numbers,
-            used,
-        );
+        let turn = backlog::answer_turn(rt, input, desk, &mut window, reader, &mut m);
         desk = turn.desk;
         reader = turn.reader;
         if desk.stopped {

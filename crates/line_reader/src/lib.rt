@@ -20,9 +20,16 @@ pub struct Reader {
     pub from: usize,
     pub sought: usize,
     pub filled: usize,
-    // Whether the input has ended, and whether a read of it failed.
-    pub ended: bool,
-    pub failed: bool,
+    pub input: Input,
+}
+
+// What came of the last read.
+#[derive(Clone, Copy, PartialEq, Eq, Debug)]
+pub enum Input {
+    // There may be more: it gave something, or there was none yet.
+    Open,
+    Ended,
+    Failed,
 }
 
 // Why a line that is begun cannot be given.
@@ -42,8 +49,7 @@ impl Reader {
             from: 0,
             sought: 0,
             filled: 0,
-            ended: false,
-            failed: false,
+            input: Input::Open,
         }
     }
 
@@ -57,7 +63,7 @@ impl Reader {
             return Err(LineError::Long);
         }
         if self.sought == self.filled {
-            if self.failed || !self.ended {
+            if self.input != Input::Ended {
                 return Err(LineError::Unreadable);
             }
             if self.from == self.filled {
@@ -72,7 +78,7 @@ impl Reader {
         requires { Placed self }
         ensures { IsTrue result → self.filled ≤ self.from + line_bytes }
     {
-        self.sought - self.from <= LINE && self.sought == self.filled && !self.failed && !self.ended
+        self.sought - self.from <= LINE && self.sought == self.filled && self.input == Input::Open
     }
 
     // The reader at the line after this one.
@@ -144,15 +150,17 @@ fn read_once(input: &mut impl Read, window: &mut [u8], r: Reader) -> Reader
 {
     let filled = r.filled;
     match input.read(&mut window[filled..]) {
+        Ok(0) => Reader {
+            input: Input::Ended,
+            ..r
+        },
         Ok(count) => Reader {
             filled: filled + count,
-            ended: count == 0,
-            failed: false,
+            input: Input::Open,
             ..r
         },
         Err(_) => Reader {
-            ended: false,
-            failed: true,
+            input: Input::Failed,
             ..r
         },
     }

@@ -15,7 +15,7 @@ fn sizes_fit(g: Geometry, bytes: usize, marks: usize) -> bool
     g.fits() && bytes == Geometry::SECTOR * g.n as usize && marks == g.used_bytes() as usize
 }
 
-// The used map of the log that a scan finds, with room for the other tables of that log.
+// The used map of the log that a scan finds, with room for the other tables of that log. They come one by one, as the scan takes them.
 fn mark_in(
     image: &[u8],
     g: Geometry,
@@ -47,7 +47,7 @@ fn mark_in(
     .is_ok()
 }
 
-// The same, with tables that are not kept.
+// That used map alone. The other tables are made here, not where they are lent: there the check would count their elements.
 fn mark_scanned(image: &[u8], g: Geometry, used: &mut [u8]) -> bool
     requires g_value { geometry_fits g ≡ true }
     requires image_len { length image.now ≡ sector_bytes * g.n }

@@ -26,7 +26,8 @@ pub enum Call {
 
 #[derive(Clone, Copy, Default)]
 pub struct Request {
-    // The numbers of a call, as many as were taken: L and N, or the head, or the block to read.
+    // The numbers of a call, as many as were taken: L and N, or the head, or the block to read. No list of options: each call would
+    // have to look again at what `whole` has made sure of.
     pub first: u32,
     pub second: u32,
     pub taken: u32,
@@ -203,7 +204,7 @@ fn take_drop(
     take_block(r, at, end, block, blocks)
 }
 
-// The data of the block that is next in the list.
+// The data of the block that is next in the list, which has so many.
 fn fill_block(bytes: &mut [u8], count: usize, text: &[u8], hex: bool) {
     if count < MOST {
         let first = count * data::BLOCK;
@@ -245,6 +246,7 @@ fn take_other(
     if r.taken < wanted(call) {
         return take_number(word, at, end, r);
     }
+    // A match: a closure for what comes next would be chosen by the same one.
     match call {
         Call::Write | Call::BacklogWrite => take_write(line, at, r, blocks, bytes),
         Call::Drop | Call::BacklogDrop => take_drop(word, at, end, r, blocks),
@@ -326,7 +328,7 @@ pub fn request_of(
     }
 }
 
-// The same of a call that names no blocks.
+// What a line asks of a call that names no blocks.
 pub fn request_without_blocks(line: &[u8], call: Call) -> Result<Request, Fault> {
     request_of(line, call, &mut [0], &mut [0])
 }

@@ -74,7 +74,7 @@ fn make_single(b: &mut [u32; board::SIZE], call: Call) {
     board::put_call(b, Call::Batch);
 }
 
-// The commit that stands on the board. One that is neither a write nor a drop is 3.
+// The commit that stands on the board. One that is neither a write nor a drop is 3. Its kind is a number, as among a commit's words.
 fn make(b: &mut [u32; board::SIZE], kind: u32) {
     match kind {
         0 => make_single(b, Call::Write),
@@ -88,6 +88,7 @@ fn put_answer(b: &mut [u32; board::SIZE], i: u32, word: u32, cell: u32) {
     board::put_answer_word(b, i, word, x);
 }
 
+// Adds one cell to another.
 fn add(b: &mut [u32; board::SIZE], total: u32, cell: u32) {
     let sum = board::plus(board::get(b, total, 0), board::get(b, cell, 0));
     board::put(b, total, 0, sum);

@@ -191,6 +191,7 @@ fn carry_out(b: &mut [u32; board::SIZE], call: Call) {
     }
 }
 
+// A match: a function for a call would be chosen by the same one.
 fn check(b: &mut [u32; board::SIZE], call: Call) -> Result<(), Refusal> {
     match call {
         Call::Format | Call::Recover => refusals::of_image(b),

@@ -64,7 +64,7 @@ fn of_state(b: &[u32; board::SIZE], bytes: u64) -> Result<(), Refusal> {
     )
 }
 
-// Whether the blocks ascend and lie below l.
+// Whether the blocks, so many words of the board, ascend and lie below l.
 fn blocks_ascend(b: &[u32; board::SIZE], count: u32, l: u32) -> bool {
     (0..count).all(|i| board::get(b, board::BLOCKS, i) < l)
         && (1..count).all(|i| board::get(b, board::BLOCKS, i - 1) < board::get(b, board::BLOCKS, i))

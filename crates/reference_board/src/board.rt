@@ -1,5 +1,5 @@
 // The board: one array of words with everything that a call is lent and hands back. The image lies on it word by word, the used map with a word
-// a sector. A word past its end reads as 0 and is not written.
+// a sector. A word past its end reads as 0 and is not written. Kinds, flags and answers are numbers on it, as all is one array; `kinds` names them.
 use crate::kinds::{Call, Phase, Refusal};
 
 // The most sectors and blocks of a volume. Its pieces are 50 at most, and there is room for more.
@@ -233,7 +233,7 @@ pub fn put_word(board: &mut [u32; SIZE], from: u32, k: u32, i: u32, x: u32) {
     put_at(board, from as usize + k as usize * 128 + i as usize, x);
 }
 
-// Word i of the k-th commit of a batch.
+// Word i of the k-th commit of a batch. (For the answers these stand again: to hand the start and the width over would take as many lines.)
 pub fn commit_word(board: &[u32; SIZE], k: u32, i: u32) -> u32 {
     get_at(board, COMMITS as usize + k as usize * 4 + i as usize)
 }
@@ -251,6 +251,7 @@ pub fn put_answer_word(board: &mut [u32; SIZE], k: u32, i: u32, x: u32) {
     put_at(board, ANSWERS as usize + k as usize * 5 + i as usize, x);
 }
 
+// A part of the board is its first word and a count, here and everywhere. Word by word, as a part may go past the end.
 pub fn fill(board: &mut [u32; SIZE], from: u32, count: u32, x: u32) {
     for i in 0..count {
         put(board, from, i, x);

@@ -21,6 +21,7 @@ fn tally_entry(b: &mut [u32; board::SIZE], t: u32, i: u32) {
     }
 }
 
+// A loop of its own for each step, here and below: lent to one for all, a step would take as many lines.
 fn tally_entries(b: &mut [u32; board::SIZE], t: u32, l: u32) {
     for i in 0..l {
         tally_entry(b, t, i);
@@ -82,7 +83,7 @@ pub fn free_count(b: &[u32; board::SIZE], t: u32, n: u32) -> usize {
     (0..n).filter(|k| bit_at(b, t, *k) == 0).count()
 }
 
-// The word that stands for a sector's used bit.
+// The word that stands for a sector's used bit. (Each table has its name here, so that a caller says which it reads.)
 pub fn bit_at(b: &[u32; board::SIZE], t: u32, k: u32) -> u32 {
     board::get(b, board::plus(t, board::USED), k)
 }

@@ -99,6 +99,7 @@ fn make(b: &mut [u32; board::SIZE], j: u32, allowed: u32) {
     }
 }
 
+// A loop of its own, as in `consistent`.
 fn make_all(b: &mut [u32; board::SIZE], listed: u32, allowed: u32) {
     for j in 0..listed {
         make(b, j, allowed);

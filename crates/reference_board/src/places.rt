@@ -91,7 +91,7 @@ fn after(k: u32, per_track: u32) -> u32 {
     start
 }
 
-// Whether a commit has the room that it needs: so many blocks, and P.
+// Whether a commit has the room that it needs: so many blocks (of the volume, not words of the board), and P.
 pub fn has_room(b: &[u32; board::SIZE], n: u32, l: u32, count: u32) -> bool {
     consistent::free_count(b, board::LENT, n) >= count as usize + board::pieces(l) as usize
 }

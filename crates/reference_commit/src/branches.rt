@@ -30,6 +30,7 @@ fn follow_branch(b: &mut [u32; board::SIZE], q: u32, k: u32, i: u32, p: u32) {
     }
 }
 
+// A walk reads branches in the same loop, but of another step: it is written again there.
 fn follow_all(b: &mut [u32; board::SIZE], q: u32, k: u32, p: u32) {
     for i in 0..24u32 {
         follow_branch(b, q, k, i, p);

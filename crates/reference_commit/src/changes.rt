@@ -7,6 +7,7 @@ fn touch(b: &mut [u32; board::SIZE], i: u32) {
     board::put(b, board::TOUCHED, block / 96, 1);
 }
 
+// A loop of its own for each step, here and below. Counts are of the blocks named.
 fn touch_all(b: &mut [u32; board::SIZE], count: u32) {
     for i in 0..count {
         touch(b, i);

@@ -71,6 +71,7 @@ fn read_branch(b: &mut [u32; board::SIZE], holder: u32, i: u32, n: u32, l: u32) 
     }
 }
 
+// A loop of its own, as for a commit's branches: its step is another.
 fn read_branches(b: &mut [u32; board::SIZE], holder: u32, n: u32, l: u32) {
     for i in 0..24u32 {
         read_branch(b, holder, i, n, l);

@@ -100,13 +100,9 @@ fn pull(rt: &impl Print, b: &[u32; board::SIZE], stores: u32) {
     });
 }
 
-fn pull_each(rt: &impl Print, b: &[u32; board::SIZE], count: u32) {
-    for stores in 0..count {
-        pull(rt, b, stores);
-    }
-}
-
 pub fn run(rt: &impl Print, b: &mut [u32; board::SIZE]) {
     stand_backlog(b);
-    pull_each(rt, b, 6);
+    for stores in 0..6u32 {
+        pull(rt, b, stores);
+    }
 }

@@ -1,6 +1,7 @@
 // A call by both implementations: the code is lent what stands on the board, and what it leaves is compared.
 use crate::both_batches;
-use lending::Tables;
+use lending::Memory;
+use paper::tokens;
 use reference_board::board;
 use reference_board::kinds::Call;
 use state::Outcome;
@@ -20,38 +21,24 @@ fn storing(call: Call) -> Storing {
 }
 
 // The call that stands on the board.
-fn call(
-    b: &[u32; board::SIZE],
-    image: &mut [u8],
-    map: &mut [u32],
-    places: &mut [u32],
-    numbers: &mut [u32],
-    used: &mut [u8],
-    blocks: &[u32],
-    bytes: &mut [u8],
-) -> Outcome {
+fn call(b: &[u32; board::SIZE], m: &mut Memory<'_>, blocks: &[u32], bytes: &mut [u8]) -> Outcome {
     let s = trial_lent::state_of(b);
     match board::call(b) {
         Call::Read => read::read(
             s,
-            image,
-            &Tables {
-                map,
-                places,
-                numbers,
-                used,
-            },
+            m.image(),
+            &m.tables(),
             cells::get(b, board::BLOCKS),
             bytes,
         ),
         other => storing_calls::perform(
             storing(other),
             s,
-            image,
-            map,
-            places,
-            numbers,
-            used,
+            m.image,
+            m.map,
+            m.places,
+            m.numbers,
+            m.used,
             trial_lent::settings_of(b),
             cells::get(b, board::HEAD),
             blocks,
@@ -62,32 +49,20 @@ fn call(
 }
 
 // Lends the parts of the arrays that have the lengths on the board.
-fn lend(
-    b: &[u32; board::SIZE],
-    image: &mut [u8],
-    map: &mut [u32],
-    places: &mut [u32],
-    numbers: &mut [u32],
-    used: &mut [u8],
-    blocks: &[u32],
-    bytes: &mut [u8],
-) -> Outcome {
-    let n = trial_lent::length(b, board::IMAGE_LENGTH, image.len());
-    let l = trial_lent::length(b, board::MAP_LENGTH, map.len());
-    let p = trial_lent::length(b, board::PLACES_LENGTH, places.len());
-    let q = trial_lent::length(b, board::NUMBERS_LENGTH, numbers.len());
-    let u = trial_lent::length(b, board::USED_LENGTH, used.len());
+fn lend(b: &[u32; board::SIZE], m: &mut Memory<'_>, blocks: &[u32], bytes: &mut [u8]) -> Outcome {
     let c = trial_lent::length(b, board::COUNT, blocks.len());
-    let d = trial_lent::length(b, board::BYTES_LENGTH, bytes.len());
+    let mut part = Memory {
+        image: trial_lent::part_in(&mut *m.image, b, board::IMAGE_LENGTH),
+        map: trial_lent::part_in(&mut *m.map, b, board::MAP_LENGTH),
+        places: trial_lent::part_in(&mut *m.places, b, board::PLACES_LENGTH),
+        numbers: trial_lent::part_in(&mut *m.numbers, b, board::NUMBERS_LENGTH),
+        used: trial_lent::part_in(&mut *m.used, b, board::USED_LENGTH),
+    };
     call(
         b,
-        &mut image[..n],
-        &mut map[..l],
-        &mut places[..p],
-        &mut numbers[..q],
-        &mut used[..u],
-        &blocks[..c],
-        &mut bytes[..d],
+        &mut part,
+        tokens::part(blocks, 0, c),
+        trial_lent::part_in(bytes, b, board::BYTES_LENGTH),
     )
 }
 
@@ -103,17 +78,20 @@ fn single_loaded(
     blocks: &mut [u32; trial_lent::BLOCKS],
     bytes: &mut [u8; trial_lent::DATA_BYTES],
 ) -> Result<(), Difference> {
-    trial_lent::load_bytes(image, b, board::IMAGE, cells::image_words(b));
-    trial_lent::load_words(map, b, board::LENT, board::get(b, board::MAP_LENGTH, 0));
-    trial_lent::load_words(places, b, board::LENT + board::PLACES, board::P_MOST);
-    trial_lent::load_words(numbers, b, board::LENT + board::NUMBERS, board::P_MOST);
-    trial_lent::load_used(used, b, board::USED_WORDS / 8);
+    let mut m = Memory {
+        image,
+        map,
+        places,
+        numbers,
+        used,
+    };
+    trial_lent::load_volume(&mut m, b);
     trial_lent::load_words(blocks, b, board::BLOCKS, board::COUNT_MOST);
     trial_lent::load_data(bytes, b);
-    let done = lend(b, image, map, places, numbers, used, blocks, bytes);
+    let done = lend(b, &mut m, blocks, bytes);
     reference::calls::perform(b);
     trial_lent::compare_answers(done, b)?;
-    trial_lent::compare_memory(b, image, map, places, numbers, used, bytes)
+    trial_lent::compare_memory(b, &m, bytes)
 }
 
 fn single(b: &mut [u32; board::SIZE]) -> Result<(), Difference> {

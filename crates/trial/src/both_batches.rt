@@ -1,4 +1,6 @@
 // A batch by both implementations, as the other calls.
+use lending::Memory;
+use paper::tokens;
 use reference_board::board;
 use state::BatchOutcome;
 use trial_board::cells;
@@ -7,37 +9,27 @@ use trial_board::difference::Difference;
 // Lends the parts of the arrays that have the lengths on the board.
 fn lend(
     b: &[u32; board::SIZE],
-    image: &mut [u8],
-    map: &mut [u32],
-    places: &mut [u32],
-    numbers: &mut [u32],
-    used: &mut [u8],
+    m: &mut Memory<'_>,
     commits: &[u32],
     blocks: &[u32],
     bytes: &[u8],
     answers: &mut [u32],
 ) -> BatchOutcome {
-    let n = trial_lent::length(b, board::IMAGE_LENGTH, image.len());
-    let l = trial_lent::length(b, board::MAP_LENGTH, map.len());
-    let p = trial_lent::length(b, board::PLACES_LENGTH, places.len());
-    let q = trial_lent::length(b, board::NUMBERS_LENGTH, numbers.len());
-    let u = trial_lent::length(b, board::USED_LENGTH, used.len());
     let w = trial_lent::length(b, board::COMMITS_LENGTH, commits.len());
     let c = trial_lent::length(b, board::BACKLOG_COUNT, blocks.len());
     let d = trial_lent::length(b, board::BACKLOG_BYTES, bytes.len());
-    let a = trial_lent::length(b, board::ANSWERS_LENGTH, answers.len());
     batch::batch(
         trial_lent::state_of(b),
-        &mut image[..n],
-        &mut map[..l],
-        &mut places[..p],
-        &mut numbers[..q],
-        &mut used[..u],
-        &commits[..w],
-        &blocks[..c],
-        &bytes[..d],
+        trial_lent::part_in(m.image, b, board::IMAGE_LENGTH),
+        trial_lent::part_in(m.map, b, board::MAP_LENGTH),
+        trial_lent::part_in(m.places, b, board::PLACES_LENGTH),
+        trial_lent::part_in(m.numbers, b, board::NUMBERS_LENGTH),
+        trial_lent::part_in(m.used, b, board::USED_LENGTH),
+        tokens::part(commits, 0, w),
+        tokens::part(blocks, 0, c),
+        tokens::part(bytes, 0, d),
         cells::get(b, board::ALLOWED),
-        &mut answers[..a],
+        trial_lent::part_in(answers, b, board::ANSWERS_LENGTH),
     )
 }
 
@@ -45,11 +37,7 @@ fn lend(
 // says what differs between their answers.
 fn answer_loaded(
     b: &mut [u32; board::SIZE],
-    image: &mut [u8],
-    map: &mut [u32],
-    places: &mut [u32],
-    numbers: &mut [u32],
-    used: &mut [u8],
+    m: &mut Memory<'_>,
     commits: &mut [u32; trial_lent::COMMIT_WORDS],
     blocks: &mut [u32; trial_lent::BLOCKS],
     bytes: &mut [u8; trial_lent::DATA_BYTES],
@@ -59,38 +47,18 @@ fn answer_loaded(
     trial_lent::load_words(blocks, b, board::BACKLOG_BLOCKS, board::COUNT_MOST);
     trial_lent::load_backlog(bytes, b);
     trial_lent::load_words(answers, b, board::ANSWERS, board::COMMITS_MOST * 5);
-    let done = lend(
-        b, image, map, places, numbers, used, commits, blocks, bytes, answers,
-    );
+    let done = lend(b, m, commits, blocks, bytes, answers);
     reference::backlog::perform(b);
     trial_lent::compare_batches(done, b, answers)
 }
 
 // Performs the batch by both implementations, the code on this memory, and says what differs between their answers.
-fn answer(
-    b: &mut [u32; board::SIZE],
-    image: &mut [u8],
-    map: &mut [u32],
-    places: &mut [u32],
-    numbers: &mut [u32],
-    used: &mut [u8],
-) -> Result<(), Difference> {
+fn answer(b: &mut [u32; board::SIZE], m: &mut Memory<'_>) -> Result<(), Difference> {
     let mut commits = [0u32; trial_lent::COMMIT_WORDS];
     let mut blocks = [0u32; trial_lent::BLOCKS];
     let mut bytes = [0u8; trial_lent::DATA_BYTES];
     let mut answers = [0u32; trial_lent::ANSWER_WORDS];
-    answer_loaded(
-        b,
-        image,
-        map,
-        places,
-        numbers,
-        used,
-        &mut commits,
-        &mut blocks,
-        &mut bytes,
-        &mut answers,
-    )
+    answer_loaded(b, m, &mut commits, &mut blocks, &mut bytes, &mut answers)
 }
 
 // Fills what is lent from the board, performs the batch by both implementations, and says what differs afterwards. The arrays come from the
@@ -103,13 +71,16 @@ fn both_loaded(
     numbers: &mut [u32; trial_lent::PIECES],
     used: &mut [u8; trial_lent::USED_BYTES],
 ) -> Result<(), Difference> {
-    trial_lent::load_bytes(image, b, board::IMAGE, cells::image_words(b));
-    trial_lent::load_words(map, b, board::LENT, cells::get(b, board::MAP_LENGTH));
-    trial_lent::load_words(places, b, board::LENT + board::PLACES, board::P_MOST);
-    trial_lent::load_words(numbers, b, board::LENT + board::NUMBERS, board::P_MOST);
-    trial_lent::load_used(used, b, board::USED_WORDS / 8);
-    answer(b, image, map, places, numbers, used)?;
-    trial_lent::compare_volumes(b, image, map, places, numbers, used)
+    let mut m = Memory {
+        image,
+        map,
+        places,
+        numbers,
+        used,
+    };
+    trial_lent::load_volume(&mut m, b);
+    answer(b, &mut m)?;
+    trial_lent::compare_volumes(b, &m)
 }
 
 // Performs the batch that stands on the board by both implementations, and says what differs afterwards.

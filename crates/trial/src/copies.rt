@@ -11,7 +11,7 @@ pub fn on_copy<R, F: FnOnce(&mut [u32; board::SIZE]) -> R>(b: &[u32; board::SIZE
     work(&mut c)
 }
 
-// The same, but the counts are taken back.
+// Does it on a copy, and takes the counts back: only this one changes the board that it is given.
 pub fn count_on_copy<R, F: FnOnce(&mut [u32; board::SIZE]) -> R>(
     b: &mut [u32; board::SIZE],
     work: F,

@@ -83,7 +83,7 @@ fn stores_needed(b: &[u32; board::SIZE]) -> u32 {
     })
 }
 
-// The call that stands on the board, cut at each of its stores.
+// The call that stands on the board, cut at each of its stores. A loop of its own: lent to one for all, a step would take as many lines.
 fn cut_at_each(b: &mut [u32; board::SIZE], needed: u32, spread: u32) {
     for k in 0..needed {
         cut_once(b, k, spread);
@@ -116,6 +116,7 @@ fn cut_format(b: &mut [u32; board::SIZE], stores: u32) {
     counts::hold_cut(b, stores);
 }
 
+// (The count is of stores.)
 fn cut_formats(b: &mut [u32; board::SIZE], count: u32) {
     for k in 0..count {
         cut_format(b, k);

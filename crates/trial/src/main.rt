@@ -26,6 +26,7 @@ fn read_full(input: &mut impl Read, text: &mut [u8]) -> usize
 {
     let most = text.len();
     let mut done = 0usize;
+    // No `for`: the next turn begins where the last read ended.
     while done < most {
         let count = read_some(input, &mut text[done..]);
         if count == 0 {

@@ -90,12 +90,6 @@ fn pull(rt: &impl Print, b: &[u32; board::SIZE], stores: u32) {
     });
 }
 
-fn pull_each(rt: &impl Print, b: &[u32; board::SIZE], count: u32) {
-    for stores in 0..count {
-        pull(rt, b, stores);
-    }
-}
-
 // The second write cut before its closing sector, and the plug pulled in the recovery too.
 fn pull_twice(rt: &impl Print, b: &[u32; board::SIZE]) {
     on_copy(b, |c| {
@@ -127,7 +121,9 @@ fn pull_park(rt: &impl Print, b: &[u32; board::SIZE], stores: u32) {
 
 pub fn run(rt: &impl Print, b: &mut [u32; board::SIZE]) {
     begin(b);
-    pull_each(rt, b, 5);
+    for stores in 0..5u32 {
+        pull(rt, b, stores);
+    }
     pull_twice(rt, b);
     pull_park(rt, b, 0);
     pull_park(rt, b, 1);

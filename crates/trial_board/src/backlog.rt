@@ -71,7 +71,8 @@ fn add_words(b: &mut [u32; board::SIZE], kind: u32) {
     cells::add(b, board::ANSWERS_LENGTH, 5);
 }
 
-// Head, blocks and bytes that stand on the board are one more commit, of this kind, where there is room.
+// Head, blocks and bytes that stand on the board are one more commit, of this kind, where there is room. The kind is the number that
+// the C interface has among a commit's words.
 pub fn add(b: &mut [u32; board::SIZE], kind: u32) {
     if has_room(b) {
         add_lists(b);

@@ -73,7 +73,8 @@ pub const BYTES_MORE: u32 = board::CALLER + 65;
 
 pub const LINE: u32 = board::CALLER + 66;
 
-// Whether recoveries are given other settings than the format, and of those that the format was given the tracks and the switch.
+// Whether recoveries are given other settings than the format (1, as a cell is a number), and of those that the format was given the
+// tracks and the switch.
 pub const VARIED: u32 = board::CALLER + 67;
 
 pub const OWN_TRACKS: u32 = board::CALLER + 68;
@@ -102,6 +103,12 @@ pub fn set(b: &mut [u32; board::SIZE], cell: u32, x: u32) {
 pub fn add(b: &mut [u32; board::SIZE], cell: u32, x: u32) {
     let sum = board::plus(get(b, cell), x);
     set(b, cell, sum);
+}
+
+// One more in word i of those that begin at `from`.
+pub fn add_one(b: &mut [u32; board::SIZE], from: u32, i: u32) {
+    let x = board::get(b, from, i);
+    board::put(b, from, i, board::plus(x, 1));
 }
 
 fn note_first(b: &mut [u32; board::SIZE], what: Difference) {
@@ -133,6 +140,7 @@ fn keep_one(c: &mut [u32; board::SIZE], b: &[u32; board::SIZE], from: u32, i: u3
     board::put(c, from, i, board::get(b, from, i));
 }
 
+// A part of a board is its first word and a count, as in all that works on it.
 fn keep_words(c: &mut [u32; board::SIZE], b: &[u32; board::SIZE], from: u32, count: u32) {
     for i in 0..count {
         keep_one(c, b, from, i);

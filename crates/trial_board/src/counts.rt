@@ -65,17 +65,11 @@ fn count_way(b: &mut [u32; board::SIZE]) {
     }
 }
 
-// One more of an answer, among the counts that begin at `counts`.
-fn count_one(b: &mut [u32; board::SIZE], counts: u32, answer: u32) {
-    let count = board::get(b, counts, answer);
-    board::put(b, counts, answer, board::plus(count, 1));
-}
-
 fn count_in_batch(b: &mut [u32; board::SIZE], i: u32) {
     let answer = board::answer_word(b, i, 0);
-    count_one(b, cells::COMMITS_ANSWERED, answer);
+    cells::add_one(b, cells::COMMITS_ANSWERED, answer);
     if i > 0 {
-        count_one(b, cells::LATER_ANSWERED, answer);
+        cells::add_one(b, cells::LATER_ANSWERED, answer);
     }
 }
 
@@ -99,7 +93,7 @@ pub fn count_kind(b: &mut [u32; board::SIZE], call: Call) {
 
 pub fn count_answer(b: &mut [u32; board::SIZE]) {
     let answer = cells::get(b, board::ANSWER);
-    count_one(b, cells::ANSWERED, answer);
+    cells::add_one(b, cells::ANSWERED, answer);
 }
 
 // The last of the answers of a batch that was not refused as a whole.

@@ -23,6 +23,7 @@ fn choose_block(b: &mut [u32; board::SIZE], step: u32) {
     }
 }
 
+// Counts and the most, here and below, are of blocks.
 fn choose_more(b: &mut [u32; board::SIZE], count: u32, step: u32) {
     for _ in 0..count {
         choose_block(b, step);

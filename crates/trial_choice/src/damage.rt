@@ -114,6 +114,7 @@ pub fn damage_memory(b: &mut [u32; board::SIZE]) {
     }
 }
 
+// One of `count` words from a cell on.
 fn damage_at(b: &mut [u32; board::SIZE], from: u32, count: u32, x: u32) {
     let i = chance::below(b, count);
     board::put(b, from, i, x);

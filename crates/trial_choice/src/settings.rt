@@ -83,11 +83,6 @@ pub fn give_any(b: &mut [u32; board::SIZE]) {
     }
 }
 
-fn add_one(b: &mut [u32; board::SIZE], settings: u32, i: u32) {
-    let x = board::get(b, settings, i);
-    board::put(b, settings, i, board::plus(x, 1));
-}
-
 // Makes settings wrong, of the state or given: one is out of range, or the tracks hold more than N sectors.
 fn spoil(b: &mut [u32; board::SIZE], settings: u32) {
     match chance::below(b, 7) {
@@ -96,8 +91,8 @@ fn spoil(b: &mut [u32; board::SIZE], settings: u32) {
         2 => board::put(b, settings, 1, 0),
         3 => board::put(b, settings, 1, 257),
         4 => board::put(b, settings, 2, 256),
-        5 => add_one(b, settings, 0),
-        _ => add_one(b, settings, 1),
+        5 => cells::add_one(b, settings, 0),
+        _ => cells::add_one(b, settings, 1),
     }
 }
 

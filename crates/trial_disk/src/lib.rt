@@ -80,7 +80,7 @@ fn settle_block(b: &mut [u32; board::SIZE], blocks: u32, seeds: u32, j: u32, dro
     }
 }
 
-// So many blocks of those that begin at `blocks`, with their seeds.
+// So many blocks of those that begin at `blocks`, cells of the board, with their seeds.
 fn settle_blocks(b: &mut [u32; board::SIZE], blocks: u32, seeds: u32, count: u32, drops: bool) {
     for j in 0..count {
         settle_block(b, blocks, seeds, j, drops);

@@ -4,6 +4,7 @@
 ghost use Rattle.std.specs.Prelude.{◌≤◌};
 
 use geometry::{Drive, Geometry, Settings};
+use lending::{Memory, Tables};
 use reference_board::kinds::Call;
 use reference_board::{board, kinds};
 use state::{BatchOutcome, Outcome, Phase, State};
@@ -29,6 +30,7 @@ pub const COMMIT_WORDS: usize = board::COMMITS_MOST as usize * 4;
 
 pub const ANSWER_WORDS: usize = board::COMMITS_MOST as usize * 5;
 
+// No From between the board's types and the code's, here and below: both are of other crates.
 fn phase_of(b: &[u32; board::SIZE]) -> Phase {
     match board::phase(b) {
         kinds::Phase::Running => Phase::Running,
@@ -79,16 +81,6 @@ pub fn state_of(b: &[u32; board::SIZE]) -> State {
     }
 }
 
-// Byte j of a word, the lowest first.
-fn byte_of(x: u32, j: u32) -> u8 {
-    match j {
-        0 => (x % 256) as u8,
-        1 => (x / 256 % 256) as u8,
-        2 => (x / 65536 % 256) as u8,
-        _ => (x / 16777216) as u8,
-    }
-}
-
 fn put_byte(bytes: &mut [u8], at: usize, x: u8) {
     if at < bytes.len() {
         bytes[at] = x;
@@ -98,20 +90,18 @@ fn put_byte(bytes: &mut [u8], at: usize, x: u8) {
 // A whole word has one test for its four bytes, as most of what a trial does is to fill an image.
 fn put_bytes(bytes: &mut [u8], i: u32, x: u32) {
     let at = i as usize * 4;
+    let four = x.to_le_bytes();
     if at + 3 < bytes.len() {
-        bytes[at] = (x % 256) as u8;
-        bytes[at + 1] = (x / 256 % 256) as u8;
-        bytes[at + 2] = (x / 65536 % 256) as u8;
-        bytes[at + 3] = (x / 16777216) as u8;
+        bytes[at..at + 4].copy_from_slice(&four);
     } else {
-        put_byte(bytes, at, byte_of(x, 0));
-        put_byte(bytes, at + 1, byte_of(x, 1));
-        put_byte(bytes, at + 2, byte_of(x, 2));
-        put_byte(bytes, at + 3, byte_of(x, 3));
+        put_byte(bytes, at, four[0]);
+        put_byte(bytes, at + 1, four[1]);
+        put_byte(bytes, at + 2, four[2]);
+        put_byte(bytes, at + 3, four[3]);
     }
 }
 
-// The bytes of `count` words of the board.
+// The bytes of `count` words of the board. With `load_words` it has the loop in common, and no more.
 pub fn load_bytes(bytes: &mut [u8], b: &[u32; board::SIZE], from: u32, count: u32) {
     for i in 0..count {
         put_bytes(bytes, i, board::get(b, from, i));
@@ -122,16 +112,13 @@ fn is_byte(bytes: &[u8], at: usize, x: u8) -> bool {
     at < bytes.len() && bytes[at] == x
 }
 
-// Four bytes as a word, the lowest first.
-fn word_of(a: u8, b: u8, c: u8, d: u8) -> u32 {
-    a as u32 + b as u32 * 256 + c as u32 * 65536 + d as u32 * 16777216
-}
-
 fn is_word(bytes: &[u8], i: u32, x: u32) -> bool {
     let at = i as usize * 4;
-    at + 3 < bytes.len() && word_of(bytes[at], bytes[at + 1], bytes[at + 2], bytes[at + 3]) == x
+    at + 3 < bytes.len()
+        && u32::from_le_bytes([bytes[at], bytes[at + 1], bytes[at + 2], bytes[at + 3]]) == x
 }
 
+// Held to the board word by word, here and below, as a count of its words may go past the end of an array.
 fn same_bytes(bytes: &[u8], b: &[u32; board::SIZE], from: u32, count: u32) -> bool {
     (0..count).all(|i| is_word(bytes, i, board::get(b, from, i)))
 }
@@ -193,6 +180,15 @@ fn same_used(used: &[u8], b: &[u32; board::SIZE], count: u32) -> bool {
     (0..count).all(|j| is_byte(used, j as usize, used_byte(b, j)))
 }
 
+// The image and the tables that stand on the board.
+pub fn load_volume(m: &mut Memory<'_>, b: &[u32; board::SIZE]) {
+    load_bytes(m.image, b, board::IMAGE, cells::image_words(b));
+    load_words(m.map, b, board::LENT, board::get(b, board::MAP_LENGTH, 0));
+    load_words(m.places, b, board::LENT + board::PLACES, board::P_MOST);
+    load_words(m.numbers, b, board::LENT + board::NUMBERS, board::P_MOST);
+    load_used(m.used, b, board::USED_WORDS / 8);
+}
+
 // A length that stands on the board, where it is at most `most`, and otherwise 0.
 pub fn length(b: &[u32; board::SIZE], cell: u32, most: usize) -> usize
     ensures { result ≤ most }
@@ -202,6 +198,12 @@ pub fn length(b: &[u32; board::SIZE], cell: u32, most: usize) -> usize
         return length;
     }
     0
+}
+
+// The part of an array that has the length on the board.
+pub fn part_in<'a, T>(items: &'a mut [T], b: &[u32; board::SIZE], cell: u32) -> &'a mut [T] {
+    let end = length(b, cell, items.len());
+    &mut items[..end]
 }
 
 // The bytes that go with the call: a read's buffer, or a write's.
@@ -268,7 +270,8 @@ pub fn compare_answers(done: Outcome, b: &[u32; board::SIZE]) -> Result<(), Diff
     ensure(same_state(state, b), Difference::States)
 }
 
-// The same of a batch: the answer to the call as a whole, how many commits were answered, and the words of their answers.
+// Holds a batch to the board's, which has no way and no sectors read: the answer to the call as a whole, how many commits were answered,
+// and the words of their answers.
 pub fn compare_batches(
     done: BatchOutcome,
     b: &[u32; board::SIZE],
@@ -298,55 +301,38 @@ pub fn compare_batches(
 }
 
 // Holds tables to those lent on the board.
-fn compare_tables(
-    b: &[u32; board::SIZE],
-    map: &[u32],
-    places: &[u32],
-    numbers: &[u32],
-    used: &[u8],
-) -> Result<(), Difference> {
+fn compare_tables(b: &[u32; board::SIZE], t: &Tables<'_>) -> Result<(), Difference> {
     let l = board::get(b, board::MAP_LENGTH, 0);
     let p = board::get(b, board::PLACES_LENGTH, 0);
     let q = board::get(b, board::NUMBERS_LENGTH, 0);
     let u = board::get(b, board::USED_LENGTH, 0);
-    ensure(same_words(map, b, board::LENT, l), Difference::Maps)?;
+    ensure(same_words(t.map, b, board::LENT, l), Difference::Maps)?;
     ensure(
-        same_words(places, b, board::LENT + board::PLACES, p),
+        same_words(t.places, b, board::LENT + board::PLACES, p),
         Difference::Places,
     )?;
     ensure(
-        same_words(numbers, b, board::LENT + board::NUMBERS, q),
+        same_words(t.numbers, b, board::LENT + board::NUMBERS, q),
         Difference::Numbers,
     )?;
-    ensure(same_used(used, b, u), Difference::UsedMaps)
+    ensure(same_used(t.used, b, u), Difference::UsedMaps)
 }
 
 // Holds a volume in memory to the board's: its image and its tables.
-pub fn compare_volumes(
-    b: &[u32; board::SIZE],
-    image: &[u8],
-    map: &[u32],
-    places: &[u32],
-    numbers: &[u32],
-    used: &[u8],
-) -> Result<(), Difference> {
+pub fn compare_volumes(b: &[u32; board::SIZE], m: &Memory<'_>) -> Result<(), Difference> {
     ensure(
-        same_bytes(image, b, board::IMAGE, cells::image_words(b)),
+        same_bytes(m.image(), b, board::IMAGE, cells::image_words(b)),
         Difference::Images,
     )?;
-    compare_tables(b, map, places, numbers, used)
+    compare_tables(b, &m.tables())
 }
 
-// The same, and the bytes of a read.
+// Holds it to the board's, with the bytes of a read.
 pub fn compare_memory(
     b: &[u32; board::SIZE],
-    image: &[u8],
-    map: &[u32],
-    places: &[u32],
-    numbers: &[u32],
-    used: &[u8],
+    m: &Memory<'_>,
     bytes: &[u8],
 ) -> Result<(), Difference> {
     ensure(same_out(bytes, b), Difference::BytesRead)?;
-    compare_volumes(b, image, map, places, numbers, used)
+    compare_volumes(b, m)
 }

@@ -77,7 +77,7 @@ fn say_answered(rt: &impl Print, b: &[u32; board::SIZE], counts: u32, number: u3
     }
 }
 
-// How often each number below `most` was answered.
+// How often each number below `most` was answered. (The counts lie on the board, from a cell on.)
 fn say_numbers(rt: &impl Print, b: &[u32; board::SIZE], counts: u32, most: u32) {
     say::say_count(rt, b" 0 x ", cells::get(b, counts));
     for number in 1..most {

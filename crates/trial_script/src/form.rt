@@ -84,7 +84,7 @@ pub enum Wrong {
     TooMany(u32),
 }
 
-// A line that is not carried out.
+// A line that is not carried out. No Option: that its first word is no kind's is an error as well.
 #[derive(Clone, Copy)]
 pub enum BadLine {
     // Its first word is no kind's.
@@ -92,6 +92,7 @@ pub enum BadLine {
     Form(Kind, Wrong),
 }
 
+// A short match for each group of lines, in place of one long one.
 fn argument_kind(first: &[u8]) -> Option<Kind> {
     match first {
         b"volume" => Some(Kind::Volume),
@@ -195,7 +196,7 @@ fn check_number(line: &[u8], i: u32, needed: bool) -> Result<(), Wrong> {
     if needed { Err(Wrong::Missing) } else { Ok(()) }
 }
 
-// The numbers from word `first` on.
+// The numbers from word `first` on, at least and at most so many.
 fn check_numbers(line: &[u8], first: u32, least: u32, most: u32) -> Result<(), Wrong> {
     for i in 0..most {
         check_number(line, board::plus(first, i), i < least)?;

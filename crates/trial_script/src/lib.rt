@@ -117,6 +117,7 @@ fn copy(b: &mut [u32; board::SIZE], line: &[u8]) {
     );
 }
 
+// (The count is of blocks, and in `add_more` of commits.)
 fn name_more(b: &mut [u32; board::SIZE], first: u32, step: u32, count: u32) {
     cells::set(b, cells::CURSOR, first);
     for _ in 0..count {
@@ -140,7 +141,7 @@ fn name_several(b: &mut [u32; board::SIZE], line: &[u8]) {
     );
 }
 
-// The single call of a commit's kind. What is no write has no bytes.
+// The single call of a commit's kind, a number as among a commit's words. What is no write has no bytes.
 fn single_of(kind: u32) -> Call {
     if kind == 0 { Call::Write } else { Call::Drop }
 }
@@ -239,7 +240,7 @@ fn change(b: &mut [u32; board::SIZE], line: &[u8], kind: Kind) {
     }
 }
 
-// Facts, or damage.
+// Facts, or damage. A match: a function for a kind would be chosen by the same one.
 fn hold(b: &mut [u32; board::SIZE], line: &[u8], kind: Kind) {
     match kind {
         Kind::Is => hold_is(b, line),

@@ -1,4 +1,4 @@
-// The words of a line.
+// The words of a line. A count beside the line says which word, from 0; it is no length.
 use paper::tokens;
 
 // Where word `count` of a line is looked for, from 0.

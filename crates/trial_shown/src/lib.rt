@@ -1,7 +1,7 @@
 // What the code reads of a volume, held to the plain disk.
 #![tactic(auto)]
 
-use lending::Tables;
+use lending::Memory;
 use paper::tokens;
 use reference_board::board;
 use state::State;
@@ -23,29 +23,9 @@ fn is_content(out: &[u8], seed: u32, l: u32) -> bool {
 }
 
 // Whether a read of the block is accepted and gives the plain disk's.
-fn shows_block(
-    b: &[u32; board::SIZE],
-    s: State,
-    image: &[u8],
-    map: &[u32],
-    places: &[u32],
-    numbers: &[u32],
-    used: &[u8],
-    block: u32,
-) -> bool {
+fn shows_block(b: &[u32; board::SIZE], s: State, m: &Memory<'_>, block: u32) -> bool {
     let mut out = [255u8; 512];
-    let done = read::read(
-        s,
-        image,
-        &Tables {
-            map,
-            places,
-            numbers,
-            used,
-        },
-        block,
-        &mut out,
-    );
+    let done = read::read(s, m.image(), &m.tables(), block, &mut out);
     let answer = done.answer;
     answer.number() == 0 && is_content(&out, board::get(b, cells::DISK, block), s.geometry.l)
 }
@@ -55,46 +35,22 @@ fn is_chosen(block: u32, spread: u32, l: u32) -> bool {
     board::plus(block, 1) == l || spread == 0 || block % spread == 0
 }
 
-fn shows_blocks(
-    b: &[u32; board::SIZE],
-    s: State,
-    image: &[u8],
-    map: &[u32],
-    places: &[u32],
-    numbers: &[u32],
-    used: &[u8],
-    spread: u32,
-) -> bool {
+fn shows_blocks(b: &[u32; board::SIZE], s: State, m: &Memory<'_>, spread: u32) -> bool {
     let l = s.geometry.l;
-    (0..l).filter(|block| is_chosen(*block, spread, l)).all(|block| shows_block(
-        b, s, image, map, places, numbers, used, block,
-    ))
+    (0..l)
+        .filter(|block| is_chosen(*block, spread, l))
+        .all(|block| shows_block(b, s, m, block))
 }
 
-fn shows_lent(
-    b: &[u32; board::SIZE],
-    image: &[u8],
-    map: &[u32],
-    places: &[u32],
-    numbers: &[u32],
-    used: &[u8],
-    spread: u32,
-) -> bool {
-    let n = trial_lent::length(b, board::IMAGE_LENGTH, image.len());
-    let l = trial_lent::length(b, board::MAP_LENGTH, map.len());
-    let p = trial_lent::length(b, board::PLACES_LENGTH, places.len());
-    let q = trial_lent::length(b, board::NUMBERS_LENGTH, numbers.len());
-    let u = trial_lent::length(b, board::USED_LENGTH, used.len());
-    shows_blocks(
-        b,
-        trial_lent::state_of(b),
-        &image[..n],
-        &map[..l],
-        &places[..p],
-        &numbers[..q],
-        &used[..u],
-        spread,
-    )
+fn shows_lent(b: &[u32; board::SIZE], m: &mut Memory<'_>, spread: u32) -> bool {
+    let part = Memory {
+        image: trial_lent::part_in(&mut *m.image, b, board::IMAGE_LENGTH),
+        map: trial_lent::part_in(&mut *m.map, b, board::MAP_LENGTH),
+        places: trial_lent::part_in(&mut *m.places, b, board::PLACES_LENGTH),
+        numbers: trial_lent::part_in(&mut *m.numbers, b, board::NUMBERS_LENGTH),
+        used: trial_lent::part_in(&mut *m.used, b, board::USED_LENGTH),
+    };
+    shows_blocks(b, trial_lent::state_of(b), &part, spread)
 }
 
 // Fills what is lent from the board, and compares. The arrays come from the caller: of one that is made where it is lent the check would count the elements.
@@ -107,12 +63,15 @@ fn shows_loaded(
     used: &mut [u8; trial_lent::USED_BYTES],
     spread: u32,
 ) -> bool {
-    trial_lent::load_bytes(image, b, board::IMAGE, cells::image_words(b));
-    trial_lent::load_words(map, b, board::LENT, cells::get(b, board::MAP_LENGTH));
-    trial_lent::load_words(places, b, board::LENT + board::PLACES, board::P_MOST);
-    trial_lent::load_words(numbers, b, board::LENT + board::NUMBERS, board::P_MOST);
-    trial_lent::load_used(used, b, board::USED_WORDS / 8);
-    shows_lent(b, image, map, places, numbers, used, spread)
+    let mut m = Memory {
+        image,
+        map,
+        places,
+        numbers,
+        used,
+    };
+    trial_lent::load_volume(&mut m, b);
+    shows_lent(b, &mut m, spread)
 }
 
 // Whether the code's reads give the plain disk's blocks: every `spread`-th, or all for 0.

@@ -5,7 +5,7 @@ use paper::request::Call;
 use state::State;
 use std::io::Print;
 
-// The refusal that has this number.
+// The refusal that has this number. The type is another crate's, so that no From can be given to it here.
 fn refusal_of(number: u32) -> Refusal {
     match number {
         1 => Refusal::Size,
@@ -20,7 +20,7 @@ fn refusal_of(number: u32) -> Refusal {
     }
 }
 
-// What a write or a drop answered, from its number and its cost.
+// What a write or a drop answered, from its number, as the C interface has it, and its cost.
 fn answer_of(number: u32, cost: Cost) -> Answer {
     match number {
         0 => Answer::Accepted(cost),

@@ -51,7 +51,7 @@ pub fn say_block(rt: &impl Print, block: &[u8]) {
     say_all_hex(rt, text);
 }
 
-// The words for what a call is turned back with.
+// The words for what a call is turned back with. These types and calls are of other crates, so that no Display can be given to them here.
 fn refusal_words(refusal: Refusal) -> &'static [u8] {
     match refusal {
         Refusal::Size => b"size",
