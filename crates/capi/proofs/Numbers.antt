@@ -1,11 +1,13 @@
 -- A call on the state that the numbers stand for, its outcome in numbers again.
 use Prim.Native.Nat.{ℕ}
-use mathlib.Core.Path.{◌≡◌, ◌∙◌, ap}
+use mathlib.Core.Path.{◌≡◌, refl, ◌∙◌, ap}
 use mathlib.Core.List.{List}
 use Rattle.state.specs.declared.State.{State}
 use Rattle.state.specs.declared.Outcome.{Outcome}
 use Rattle.state.specs.declared.BatchOutcome.{BatchOutcome}
-use Rattle.volume.specs.Tables.{Memory}
+use Rattle.lending.specs.declared.Memory as lent_memory
+use Rattle.lending.specs.Lending.{held}
+use Rattle.volume.specs.Tables.{Memory, memory}
 use Rattle.volume.specs.Store.{After, after}
 use Rattle.volume.specs.Calls.{ReadAfter}
 use Rattle.batches.specs.Batch.{BatchAfter}
@@ -16,6 +18,11 @@ use Rattle.plain.specs.declared.CResult.{CResult}
 use Rattle.plain.specs.declared.CBatchResult.{CBatchResult}
 use Rattle.plain.specs.Plain.{state_of, result_of, batch_result_of}
 use Rattle.capi.specs.Handed.{handed, in_numbers, read_handed, read_in_numbers, batch_handed, batch_in_numbers}
+
+-- What a call left of all that it was lent is what the slices hold.
+pub held_behind : (m : lent_memory.Memory) (im mp pl nu us : List ℕ) → im ≡ m.image.now → mp ≡ m.map.now → pl ≡ m.places.now → nu ≡ m.numbers.now → us ≡ m.used.now
+    → memory im mp pl nu us ≡ held m
+held_behind m im mp pl nu us e1 e2 e3 e4 e5 = rw (e1, e2, e3, e4, e5) refl
 
 module _ (c : CState) (s : State) (o : Outcome) (m : Memory) (r : CResult) (came : s ≡ state_of c) (gone : r ≡ result_of c o) where
   pub call_in_numbers : (call : State → After) → after o m ≡ call s → handed r m ≡ in_numbers c (call (state_of c))

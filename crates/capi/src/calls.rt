@@ -8,7 +8,7 @@ ghost use Rattle.batches.specs.Batch.{batch_of};
 ghost use Rattle.plain.specs.Plain.{state_of, settings_in};
 ghost use Rattle.capi.specs.Handed.{handed, in_numbers, read_handed, read_in_numbers, batch_handed, batch_in_numbers};
 
-use lending::Tables;
+use lending::{Memory, Tables};
 use plain::{CBatchResult, CResult, CSettings, CState};
 
 // Makes an empty volume in the image, of what is given.
@@ -27,7 +27,14 @@ pub extern "C" fn vlog_format(
 {
     let s = plain::state_of(c);
     let settings = plain::settings_of(given);
-    let o = format::format(s, image, map, places, numbers, used, settings, allowance);
+    let mut m = Memory {
+        image,
+        map,
+        places,
+        numbers,
+        used,
+    };
+    let o = format::format(s, &mut m, settings, allowance);
     plain::result_of(c, o)
 }
 
@@ -141,7 +148,14 @@ pub extern "C" fn vlog_recover(
 {
     let s = plain::state_of(c);
     let settings = plain::settings_of(given);
-    let o = recover::recover(s, image, map, places, numbers, used, settings, allowance);
+    let mut m = Memory {
+        image,
+        map,
+        places,
+        numbers,
+        used,
+    };
+    let o = recover::recover(s, &mut m, settings, allowance);
     plain::result_of(c, o)
 }
 

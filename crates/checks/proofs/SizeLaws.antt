@@ -8,9 +8,10 @@ use native.Mathlib.Omega.{arith}
 use lib.ListN.{length}
 use lib.Dec.{eqb}
 use borrow.Author.Tests.{eqb-true, not-true, not-false}
-use Rattle.std.specs.Prelude.{Ok, Err}
+use Rattle.std.specs.Prelude.{⊤, Result, Ok, Err}
 use Rattle.geometry.specs.declared.Geometry.{Geometry}
 use Rattle.geometry.specs.declared.Settings.{Settings}
+use Rattle.answer.specs.declared.Refusal.{Refusal}
 use Rattle.answer.specs.declared.Refusal.TheVariants.{Size, WrongSettings, BufferLength}
 use Rattle.geometry.specs.Geometry.{pieces_for, used_bytes, geometry_of, geometry_fits, drive_fits}
 use Rattle.layout.specs.Bounded.{is_zero}
@@ -20,7 +21,10 @@ use Rattle.volume.specs.Format.{image_fits, tables_fit, size_checks}
 use Rattle.laws.proofs.Bounded.{and_l, and_r}
 use Rattle.laws.proofs.Sizes.{Fits, fits, tables_fit_lem}
 use Rattle.laws.proofs.Judged.{cleared}
-use Rattle.checks.specs.Left.{lent}
+use Rattle.lending.specs.declared.Lengths as lent_lengths
+use Rattle.lending.specs.declared.Memory as lent_memory
+use Rattle.lending.specs.Lending.{held, lengths_held}
+use Rattle.checks.specs.Left.{lent, measured}
 
 module _ (settings : Settings) (image map places numbers used : ℕ) (b1 : Bool) (f1 : b1 ≡ (is_zero (image % 512) && geometry_fits (geometry_of (image / 512) settings))) where
   pub size_refused : not b1 ≡ true → Err Size ≡ judged (size_checks (lent image map places numbers used) settings)
@@ -53,10 +57,10 @@ module _ (settings : Settings) (image map places numbers used : ℕ) (b1 : Bool)
       size_passes e = rw (sym f1 ∙ not-false b1 e1, sym settings_are ∙ not-false bd ed, sym lengths_are ∙ not-false b2 e) refl
 
 -- The checks look at the lengths alone.
-pub by_lengths : (im mp pl nu us : List ℕ) (settings : Settings)
-    → judged (size_checks (lent (length im) (length mp) (length pl) (length nu) (length us)) settings) ≡ judged (size_checks (memory im mp pl nu us) settings)
+pub by_lengths : (m : lent_memory.Memory) (settings : Settings) (x : lent_lengths.Lengths) (r : Result ⊤ Refusal)
+    → r ≡ judged (size_checks (measured x) settings) → x ≡ lengths_held m → r ≡ judged (size_checks (held m) settings)
 unfolding size_checks image_fits tables_fit memory
-by_lengths im mp pl nu us settings = refl
+by_lengths m settings x r e f = e ∙ ap (λ (y : lent_lengths.Lengths). judged (size_checks (measured y) settings)) f
 
 -- What no refusal means.
 pub record Lengths (im mp pl nu us : List ℕ) (g : Geometry) : Type 0 where

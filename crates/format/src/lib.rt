@@ -3,7 +3,8 @@
 
 ghost use Rattle.std.specs.Prelude.{◌≡◌, ◌*◌, ◌/◌, ◌≤◌, ◌<◌, length, take, Ok};
 ghost use Rattle.geometry.specs.Geometry.{sector_bytes, pieces_for, geometry_of, most_pieces};
-ghost use Rattle.volume.specs.Tables.{sector_at, memory};
+ghost use Rattle.lending.specs.Lending.{held, SameLent};
+ghost use Rattle.volume.specs.Tables.{sector_at};
 ghost use Rattle.volume.specs.Refusals.{judged};
 ghost use Rattle.volume.specs.Store.{applied, after, performed};
 ghost use Rattle.volume.specs.Format.{format_stores, format_action, size_checks, format_of};
@@ -11,7 +12,7 @@ ghost use Rattle.power.specs.Power.{powered};
 
 use answer::Answer;
 use geometry::{Geometry, Settings};
-use lending::Lengths;
+use lending::Memory;
 use state::{Outcome, State};
 
 // All stores of a format, in order, under the allowance.
@@ -27,31 +28,24 @@ fn store_all(image: &mut [u8], g: Geometry, pieces: u32, allowance: u32) -> Opti
 }
 
 // A format that no refusal stops.
-fn make(
-    image: &mut [u8],
-    map: &mut [u32],
-    places: &mut [u32],
-    numbers: &mut [u32],
-    used: &mut [u8],
-    settings: Settings,
-    allowance: u32,
-) -> Outcome
-    requires { Ok tt ≡ judged (size_checks (memory image.old map.old places.old numbers.old used.old) settings) }
-    ensures { after result (memory image.new map.new places.new numbers.new used.new) ≡ performed allowance (format_action (geometry_of (length image.old / sector_bytes) settings) settings.drive) (memory image.old map.old places.old numbers.old used.old) }
+fn make(m: &mut Memory<'_>, settings: Settings, allowance: u32) -> Outcome
+    requires { Ok tt ≡ judged (size_checks (held m.old) settings) }
+    ensures lent { SameLent m.new m.old }
+    ensures value { after result (held m.new) ≡ performed allowance (format_action (geometry_of (length m.old.image.now / sector_bytes) settings) settings.drive) (held m.old) }
 {
-    let g = settings.volume((image.len() / Geometry::SECTOR) as u32);
+    let g = settings.volume((m.image.len() / Geometry::SECTOR) as u32);
     let pieces = Geometry::pieces_for(g.l);
-    let power = store_all(image, g, pieces, allowance);
+    let power = store_all(m.image, g, pieces, allowance);
     match power {
         None => {
-            lent::zero_tables(map, places, numbers, used);
+            lent::zero_tables(m);
             Outcome {
                 answer: Answer::power_failed(allowance),
                 state: State::lost(g, settings.drive),
             }
         }
         Some(left) => {
-            lent::fresh_tables(map, places, numbers, used, g.l, pieces);
+            lent::fresh_tables(m, g.l, pieces);
             let stores = allowance - left;
             Outcome {
                 answer: Answer::accepted(stores),
@@ -62,31 +56,16 @@ fn make(
 }
 
 // Makes an empty volume in the image. It looks at nothing in the state.
-pub fn format(
-    s: State,
-    image: &mut [u8],
-    map: &mut [u32],
-    places: &mut [u32],
-    numbers: &mut [u32],
-    used: &mut [u8],
-    settings: Settings,
-    allowance: u32,
-) -> Outcome
-    ensures { after result (memory image.new map.new places.new numbers.new used.new) ≡ format_of s (memory image.old map.old places.old numbers.old used.old) settings allowance }
+pub fn format(s: State, m: &mut Memory<'_>, settings: Settings, allowance: u32) -> Outcome
+    ensures lent { SameLent m.new m.old }
+    ensures value { after result (held m.new) ≡ format_of s (held m.old) settings allowance }
 {
-    let lent = Lengths {
-        image: image.len(),
-        map: map.len(),
-        places: places.len(),
-        numbers: numbers.len(),
-        used: used.len(),
-    };
-    let verdict = checks::size_verdict(settings, lent);
+    let verdict = checks::size_verdict(settings, m.lengths());
     match verdict {
         Err(refusal) => Outcome {
             answer: Answer::Refused(refusal),
             state: s,
         },
-        Ok(()) => make(image, map, places, numbers, used, settings, allowance),
+        Ok(()) => make(m, settings, allowance),
     }
 }

@@ -19,6 +19,10 @@ seen image t = memory image t.map.now t.places.now t.numbers.now t.used.now
 abbrev pub held : lent_memory.Memory → Memory
 held m = memory m.image.now m.map.now m.places.now m.numbers.now m.used.now
 
+-- The tables of all that is lent.
+abbrev pub tables_held : lent_memory.Memory → Tables
+tables_held m = tables_of m.map.now m.places.now m.numbers.now m.used.now
+
 -- The lengths of an image and such tables, and those of all that is lent.
 abbrev pub lengths_of : ℕ → lent_tables.Tables → lent_lengths.Lengths
 lengths_of image t =

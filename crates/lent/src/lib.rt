@@ -3,8 +3,11 @@
 
 ghost use Rattle.std.specs.Prelude.{◌≡◌, ◌*◌, ◌≤◌, ◌<◌, length, replicate, ltb};
 ghost use Rattle.geometry.specs.Geometry.{pieces_for, most_pieces};
-ghost use Rattle.volume.specs.Tables.{bit_at, tables_of, zero_tables};
+ghost use Rattle.lending.specs.Lending.{tables_held, lengths_held, SameLent};
+ghost use Rattle.volume.specs.Tables.{bit_at, zero_tables};
 ghost use Rattle.volume.specs.Format.{format_tables};
+
+use lending::Memory;
 
 // Marks sectors 0 to count - 1 in an empty used map.
 fn mark_first(used: &mut [u8], count: u32)
@@ -18,34 +21,33 @@ fn mark_first(used: &mut [u8], count: u32)
 }
 
 // The tables of an empty volume: piece p in sector p + 1 with number p + 1, and no block written.
-pub fn fresh_tables(
-    map: &mut [u32],
-    places: &mut [u32],
-    numbers: &mut [u32],
-    used: &mut [u8],
-    l: u32,
-    pieces: u32,
-)
+pub fn fresh_tables(m: &mut Memory<'_>, l: u32, pieces: u32)
     requires pieces_value { pieces ≡ pieces_for l }
     requires pieces_le_most_pieces { pieces ≤ most_pieces }
-    requires places_len { length places.old ≡ pieces }
-    requires numbers_len { length numbers.old ≡ pieces }
-    requires pieces_bound { pieces < 8 * length used.old }
-    ensures { tables_of map.new places.new numbers.new used.new ≡ format_tables l }
+    requires places_len { length m.old.places.now ≡ pieces }
+    requires numbers_len { length m.old.numbers.now ≡ pieces }
+    requires pieces_bound { pieces < 8 * length m.old.used.now }
+    ensures lent { SameLent m.new m.old }
+    ensures image { m.new.image.now ≡ m.old.image.now }
+    ensures lengths { lengths_held m.new ≡ lengths_held m.old }
+    ensures tables { tables_held m.new ≡ format_tables l }
 {
-    map.fill(0);
-    fill::count_up(places);
-    fill::count_up(numbers);
-    used.fill(0);
-    mark_first(used, pieces + 1);
+    m.map.fill(0);
+    fill::count_up(m.places);
+    fill::count_up(m.numbers);
+    m.used.fill(0);
+    mark_first(m.used, pieces + 1);
 }
 
 // Zeros, as a format or a recovery leaves where it does not come to its end.
-pub fn zero_tables(map: &mut [u32], places: &mut [u32], numbers: &mut [u32], used: &mut [u8])
-    ensures { tables_of map.new places.new numbers.new used.new ≡ zero_tables }
+pub fn zero_tables(m: &mut Memory<'_>)
+    ensures lent { SameLent m.new m.old }
+    ensures image { m.new.image.now ≡ m.old.image.now }
+    ensures lengths { lengths_held m.new ≡ lengths_held m.old }
+    ensures tables { tables_held m.new ≡ zero_tables }
 {
-    map.fill(0);
-    places.fill(0);
-    numbers.fill(0);
-    used.fill(0);
+    m.map.fill(0);
+    m.places.fill(0);
+    m.numbers.fill(0);
+    m.used.fill(0);
 }

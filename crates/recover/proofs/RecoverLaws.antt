@@ -1,6 +1,6 @@
 -- By a walk, or by the scan that follows one that found nothing; and the call.
 use Prim.Native.Nat.{ℕ, ◌*◌, ◌/◌, ◌≤◌}
-use mathlib.Core.Path.{◌≡◌, sym, ◌∙◌, ap}
+use mathlib.Core.Path.{◌≡◌, sym, ◌∙◌, ap, subst}
 use mathlib.Core.Bool.{true}
 use mathlib.Core.List.{List}
 use native.Mathlib.Omega.{arith}
@@ -21,12 +21,13 @@ use Rattle.layout.specs.ParkRecord.{parked_in}
 use Rattle.checks.proofs.SizeLaws.{Lengths, volume_passed, volume_range}
 use Rattle.std.specs.Prelude.{None, Result, Ok, Err, ⊤}
 use Rattle.walk_start.specs.Starting.{start_of}
+use Rattle.walk.specs.Walking.{Left}
 use Rattle.walk.proofs.WalkedLaws.{found_nowhere}
 use Rattle.resume.proofs.ResumeLaws.{performed_any, recovered_any}
 
--- What was found is what the definition finds. The tables with a prime are the ones that a walk left.
-module _ (g : Geometry) (drive : Drive) (allowance : ℕ) (im mp pl nu us mp' pl' nu' us' : List ℕ)
-    (e2 : length mp' ≡ length mp) (e3 : length pl' ≡ length pl) (e4 : length nu' ≡ length nu) (e5 : length us' ≡ length us) where
+-- What was found is what the definition finds. The image and the tables with a prime are the ones that a walk left.
+module _ (g : Geometry) (drive : Drive) (allowance : ℕ) (im mp pl nu us im' mp' pl' nu' us' : List ℕ)
+    (e1 : im' ≡ im) (e2 : length mp' ≡ length mp) (e3 : length pl' ≡ length pl) (e4 : length nu' ≡ length nu) (e5 : length us' ≡ length us) where
   abbrev finding : Finding
   finding = finding_of g (image_view g (sector_at im)) (sector_at im 0)
 
@@ -34,19 +35,30 @@ module _ (g : Geometry) (drive : Drive) (allowance : ℕ) (im mp pl nu us mp' pl
       → finding ≡ found (record { tables = tables_of mp' pl' nu' us'; tail = tail; number = number }) (Walked read) (park_sector_cleared (is_blank (sector_at im 0)))
       → r
       ≡ performed allowance
-      (recovery_action g drive (record { tables = tables_of mp' pl' nu' us'; tail = tail; number = number }) (Walked read) (park_sector_cleared (is_blank (sector_at im 0))))
-      (memory im mp' pl' nu' us')
+      (recovery_action g drive (record { tables = tables_of mp' pl' nu' us'; tail = tail; number = number }) (Walked read) (park_sector_cleared (is_blank (sector_at im' 0))))
+      (memory im' mp' pl' nu' us')
       → r ≡ recovered g drive allowance (memory im mp pl nu us) finding
   unfolding recovered
   walk_found r tail number read w e =
-      e ∙ performed_any g drive allowance im mp pl nu us mp' pl' nu' us' e2 e3 e4 e5 _ ∙ ap (λ (f : Finding). recovered g drive allowance (memory im mp pl nu us) f) (sym w)
+      e
+      ∙ ap (λ (v : List ℕ).
+      performed allowance
+      (recovery_action g drive (record { tables = tables_of mp' pl' nu' us'; tail = tail; number = number }) (Walked read) (park_sector_cleared (is_blank (sector_at v 0))))
+      (memory v mp' pl' nu' us')) e1
+      ∙ performed_any g drive allowance im mp pl nu us mp' pl' nu' us' e2 e3 e4 e5 _ ∙ ap (λ (f : Finding). recovered g drive allowance (memory im mp pl nu us) f) (sym w)
 
   pub scan_found_lem : (r : After) → finding ≡ scan_finding g (image_view g (sector_at im)) (sector_at im 0)
-      → r ≡ recovered g drive allowance (memory im mp' pl' nu' us') (scan_finding g (image_view g (sector_at im)) (sector_at im 0))
+      → r ≡ recovered g drive allowance (memory im' mp' pl' nu' us') (scan_finding g (image_view g (sector_at im')) (sector_at im' 0))
       → r ≡ recovered g drive allowance (memory im mp pl nu us) finding
   scan_found_lem r w e =
-      e ∙ recovered_any g drive allowance im mp pl nu us mp' pl' nu' us' e2 e3 e4 e5 (scan_finding g (image_view g (sector_at im)) (sector_at im 0))
+      e
+      ∙ ap (λ (v : List ℕ). recovered g drive allowance (memory v mp' pl' nu' us') (scan_finding g (image_view g (sector_at v)) (sector_at v 0))) e1
+      ∙ recovered_any g drive allowance im mp pl nu us mp' pl' nu' us' e2 e3 e4 e5 (scan_finding g (image_view g (sector_at im)) (sector_at im 0))
       ∙ ap (recovered g drive allowance (memory im mp pl nu us)) (sym w)
+
+-- What a walk left is left in the same image.
+pub left_here : (g : Geometry) (im im' : List ℕ) → im' ≡ im → (tail : ℕ) (mp pl nu us : List ℕ) → Left g (sector_at im) tail mp pl nu us → Left g (sector_at im') tail mp pl nu us
+left_here g im im' e tail mp pl nu us left = subst (λ (v : List ℕ). Left g (sector_at v) tail mp pl nu us) (sym e) left
 
 -- The volume is the one that was asked for.
 module _ (im mp pl nu us : List ℕ) (settings : Settings) (g : Geometry) (asked : g ≡ geometry_of (length im / 512) settings) where

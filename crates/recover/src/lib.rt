@@ -4,7 +4,8 @@
 ghost use Rattle.std.specs.Prelude.{◌≡◌, true, ◌*◌, ◌/◌, Some, length, Ok};
 ghost use Rattle.geometry.specs.Geometry.{sector_bytes, pieces_for, used_bytes, geometry_of, geometry_fits};
 ghost use Rattle.layout.specs.ParkRecord.{parked_in};
-ghost use Rattle.volume.specs.Tables.{sector_at, memory};
+ghost use Rattle.lending.specs.Lending.{held, SameLent};
+ghost use Rattle.volume.specs.Tables.{sector_at};
 ghost use Rattle.volume.specs.Refusals.{judged};
 ghost use Rattle.volume.specs.Store.{after};
 ghost use Rattle.volume.specs.Format.{size_checks};
@@ -13,7 +14,7 @@ ghost use Rattle.walk_start.specs.Starting.{start_of};
 
 use answer::Answer;
 use geometry::{Drive, Geometry, Settings};
-use lending::Lengths;
+use lending::Memory;
 use state::tail::Tail;
 use state::{Outcome, State};
 
@@ -31,79 +32,51 @@ const LARGE: usize = Geometry::MOST_SECTORS as usize;
 const LARGE_BYTES: usize = Geometry::MOST_USED_BYTES;
 
 // By a scan whose arrays are of the volume's size: those of a large volume take long to clear.
-fn by_scan(
-    image: &mut [u8],
-    map: &mut [u32],
-    places: &mut [u32],
-    numbers: &mut [u32],
-    used: &mut [u8],
-    g: Geometry,
-    drive: Drive,
-    allowance: u32,
-) -> Outcome
+fn by_scan(m: &mut Memory<'_>, g: Geometry, drive: Drive, allowance: u32) -> Outcome
     requires g_value { geometry_fits g ≡ true }
-    requires image_len { length image.old ≡ sector_bytes * g.n }
-    requires map_len { length map.old ≡ g.l }
-    requires places_len { length places.old ≡ pieces_for g.l }
-    requires numbers_len { length numbers.old ≡ pieces_for g.l }
-    requires used_len { length used.old ≡ used_bytes g.n }
-    ensures { after result (memory image.new map.new places.new numbers.new used.new) ≡ recovered g drive allowance (memory image.old map.old places.old numbers.old used.old) (scan_finding g (image_view g (sector_at image.old)) (sector_at image.old 0)) }
+    requires image_len { length m.old.image.now ≡ sector_bytes * g.n }
+    requires map_len { length m.old.map.now ≡ g.l }
+    requires places_len { length m.old.places.now ≡ pieces_for g.l }
+    requires numbers_len { length m.old.numbers.now ≡ pieces_for g.l }
+    requires used_len { length m.old.used.now ≡ used_bytes g.n }
+    ensures lent { SameLent m.new m.old }
+    ensures value { after result (held m.new) ≡ recovered g drive allowance (held m.old) (scan_finding g (image_view g (sector_at m.old.image.now)) (sector_at m.old.image.now 0)) }
 {
     if g.n <= Geometry::SMALL {
-        return recover_by_scan::by_scan::<SMALL, SMALL_BYTES>(
-            image, map, places, numbers, used, g, drive, allowance,
-        );
+        return recover_by_scan::by_scan::<SMALL, SMALL_BYTES>(m, g, drive, allowance);
     }
     if g.n <= Geometry::MEDIUM {
-        return recover_by_scan::by_scan::<MEDIUM, MEDIUM_BYTES>(
-            image, map, places, numbers, used, g, drive, allowance,
-        );
+        return recover_by_scan::by_scan::<MEDIUM, MEDIUM_BYTES>(m, g, drive, allowance);
     }
-    recover_by_scan::by_scan::<LARGE, LARGE_BYTES>(
-        image, map, places, numbers, used, g, drive, allowance,
-    )
+    recover_by_scan::by_scan::<LARGE, LARGE_BYTES>(m, g, drive, allowance)
 }
 
 // By a walk from the tail that was parked, or by a scan where the walk does not answer.
 fn by_walk(
-    image: &mut [u8],
-    map: &mut [u32],
-    places: &mut [u32],
-    numbers: &mut [u32],
-    used: &mut [u8],
+    m: &mut Memory<'_>,
     g: Geometry,
     drive: Drive,
     tail: Tail,
     allowance: u32,
 ) -> Outcome
     requires g_value { geometry_fits g ≡ true }
-    requires image_len { length image.old ≡ sector_bytes * g.n }
-    requires number_value { Some tail ≡ start_of g.n (image_view g (sector_at image.old)) (parked_in (sector_at image.old 0)) }
-    requires map_len { length map.old ≡ g.l }
-    requires places_len { length places.old ≡ pieces_for g.l }
-    requires numbers_len { length numbers.old ≡ pieces_for g.l }
-    requires used_len { length used.old ≡ used_bytes g.n }
-    ensures { after result (memory image.new map.new places.new numbers.new used.new) ≡ recovered g drive allowance (memory image.old map.old places.old numbers.old used.old) (finding_of g (image_view g (sector_at image.old)) (sector_at image.old 0)) }
+    requires image_len { length m.old.image.now ≡ sector_bytes * g.n }
+    requires number_value { Some tail ≡ start_of g.n (image_view g (sector_at m.old.image.now)) (parked_in (sector_at m.old.image.now 0)) }
+    requires map_len { length m.old.map.now ≡ g.l }
+    requires places_len { length m.old.places.now ≡ pieces_for g.l }
+    requires numbers_len { length m.old.numbers.now ≡ pieces_for g.l }
+    requires used_len { length m.old.used.now ≡ used_bytes g.n }
+    ensures lent { SameLent m.new m.old }
+    ensures value { after result (held m.new) ≡ recovered g drive allowance (held m.old) (finding_of g (image_view g (sector_at m.old.image.now)) (sector_at m.old.image.now 0)) }
 {
-    if !walk::walk_tables(
-        image,
-        g,
-        tail.sector,
-        tail.number,
-        map,
-        places,
-        numbers,
-        used,
-    ) {
-        return by_scan(image, map, places, numbers, used, g, drive, allowance);
+    if !walk::walk_tables(m, g, tail.sector, tail.number) {
+        return by_scan(m, g, drive, allowance);
     }
+    let image = &mut *m.image;
+    let places = &mut *m.places;
     let read = 2 + walk::count_branches(image, places);
     resume::after_walk(
-        image,
-        map,
-        places,
-        numbers,
-        used,
+        m,
         g,
         drive,
         tail.sector,
@@ -114,52 +87,31 @@ fn by_walk(
 }
 
 // A recovery that no refusal stops.
-fn find(
-    image: &mut [u8],
-    map: &mut [u32],
-    places: &mut [u32],
-    numbers: &mut [u32],
-    used: &mut [u8],
-    settings: Settings,
-    allowance: u32,
-) -> Outcome
-    requires { Ok tt ≡ judged (size_checks (memory image.old map.old places.old numbers.old used.old) settings) }
-    ensures { after result (memory image.new map.new places.new numbers.new used.new) ≡ recovered (geometry_of (length image.old / sector_bytes) settings) settings.drive allowance (memory image.old map.old places.old numbers.old used.old) (finding_of (geometry_of (length image.old / sector_bytes) settings) (image_view (geometry_of (length image.old / sector_bytes) settings) (sector_at image.old)) (sector_at image.old 0)) }
+fn find(m: &mut Memory<'_>, settings: Settings, allowance: u32) -> Outcome
+    requires { Ok tt ≡ judged (size_checks (held m.old) settings) }
+    ensures lent { SameLent m.new m.old }
+    ensures value { after result (held m.new) ≡ recovered (geometry_of (length m.old.image.now / sector_bytes) settings) settings.drive allowance (held m.old) (finding_of (geometry_of (length m.old.image.now / sector_bytes) settings) (image_view (geometry_of (length m.old.image.now / sector_bytes) settings) (sector_at m.old.image.now)) (sector_at m.old.image.now 0)) }
 {
+    let image = &mut *m.image;
     let g = settings.volume((image.len() / Geometry::SECTOR) as u32);
     let drive = settings.drive;
     match walk_start::parked_at(image, g) {
-        None => by_scan(image, map, places, numbers, used, g, drive, allowance),
-        Some(tail) => by_walk(image, map, places, numbers, used, g, drive, tail, allowance),
+        None => by_scan(m, g, drive, allowance),
+        Some(tail) => by_walk(m, g, drive, tail, allowance),
     }
 }
 
 // Finds the log in the image. It looks at nothing in the state or the tables.
-pub fn recover(
-    s: State,
-    image: &mut [u8],
-    map: &mut [u32],
-    places: &mut [u32],
-    numbers: &mut [u32],
-    used: &mut [u8],
-    settings: Settings,
-    allowance: u32,
-) -> Outcome
-    ensures { after result (memory image.new map.new places.new numbers.new used.new) ≡ recover_of s (memory image.old map.old places.old numbers.old used.old) settings allowance }
+pub fn recover(s: State, m: &mut Memory<'_>, settings: Settings, allowance: u32) -> Outcome
+    ensures lent { SameLent m.new m.old }
+    ensures value { after result (held m.new) ≡ recover_of s (held m.old) settings allowance }
 {
-    let lent = Lengths {
-        image: image.len(),
-        map: map.len(),
-        places: places.len(),
-        numbers: numbers.len(),
-        used: used.len(),
-    };
-    let verdict = checks::size_verdict(settings, lent);
+    let verdict = checks::size_verdict(settings, m.lengths());
     match verdict {
         Err(refusal) => Outcome {
             answer: Answer::Refused(refusal),
             state: s,
         },
-        Ok(()) => find(image, map, places, numbers, used, settings, allowance),
+        Ok(()) => find(m, settings, allowance),
     }
 }

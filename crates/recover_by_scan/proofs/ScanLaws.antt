@@ -51,14 +51,15 @@ module _ (g : Geometry) (drive : Drive) (allowance : ℕ) (im mp pl nu us mp' pl
       ∙ performed_any g drive allowance im mp pl nu us mp' pl' nu' us' e2 e3 e4 e5 _ ∙ ap (recovered g drive allowance (memory im mp pl nu us)) (told (Ok tail) log)
 
   -- The tables with two primes are the zeros that stand there afterwards.
-  pub scan_missing : (mp'' pl'' nu'' us'' : List ℕ) → length mp'' ≡ length mp' → length pl'' ≡ length pl' → length nu'' ≡ length nu' → length us'' ≡ length us'
+  pub scan_missing : (im'' mp'' pl'' nu'' us'' : List ℕ) → im'' ≡ im → length mp'' ≡ length mp' → length pl'' ≡ length pl' → length nu'' ≡ length nu' → length us'' ≡ length us'
       → (loss : Loss) → found ≡ Err loss → (x : State) → x ≡ lost_state g drive
       → tables_of mp'' pl'' nu'' us'' ≡ zero_tables
-      → after (record { answer = Lost loss; state = x }) (memory im mp'' pl'' nu'' us'')
+      → after (record { answer = Lost loss; state = x }) (memory im'' mp'' pl'' nu'' us'')
       ≡ recovered g drive allowance (memory im mp pl nu us) (scan_finding g (image_view g (sector_at im)) (sector_at im 0))
   unfolding scan_found recovered memory
-  scan_missing mp'' pl'' nu'' us'' d2 d3 d4 d5 loss missing x q z =
-      ap (λ (y : State). after (record { answer = Lost loss; state = y }) (memory im mp'' pl'' nu'' us'')) q
+  scan_missing im'' mp'' pl'' nu'' us'' d1 d2 d3 d4 d5 loss missing x q z =
+      ap (λ (v : List ℕ). after (record { answer = Lost loss; state = x }) (memory v mp'' pl'' nu'' us'')) d1
+      ∙ ap (λ (y : State). after (record { answer = Lost loss; state = y }) (memory im mp'' pl'' nu'' us'')) q
       ∙ ap (after (record { answer = Lost loss; state = lost_state g drive }))
       (memory_left im mp pl nu us im mp'' pl'' nu'' us'' (sector_at im) zero_tables refl (d2 ∙ e2) (d3 ∙ e3) (d4 ∙ e4) (d5 ∙ e5) refl z)
       ∙ ap (recovered g drive allowance (memory im mp pl nu us)) (told (Err loss) missing)

@@ -1,10 +1,13 @@
 -- The log as a scan finds it, in the arrays that were lent.
-use Rattle.std.specs.Prelude.{ℕ, ◌≡◌, Bool, List, Result, Ok, Err}
+use Rattle.std.specs.Prelude.{ℕ, length, ◌≡◌, Bool, List, Result, Ok, Err}
 use Rattle.answer.specs.declared.Loss.{Loss}
 use Rattle.answer.specs.declared.Answer.TheVariants.{Scanned}
 use Rattle.state.specs.declared.tail.Tail.{Tail}
 use Rattle.layout.specs.MapSector.{View}
-use Rattle.volume.specs.Tables.{Tables}
+use Rattle.geometry.specs.declared.Geometry.{Geometry}
+use Rattle.geometry.specs.Geometry.{pieces_for, used_bytes}
+use Rattle.scan.specs.declared.TablesMut.{TablesMut}
+use Rattle.volume.specs.Tables.{Tables, tables_of}
 use Rattle.volume.specs.Recover.{Finding, found, missing, scan_stores, is_uncommitted}
 
 -- What a scan found, given the tables that it left.
@@ -17,3 +20,20 @@ scan_found (Err loss) n view sector0 t = missing loss
 unfoldable pub ScanAbove : Result Tail Loss → View → (ℕ → Bool) → Type 0
 ScanAbove (Ok tail) view bits = bits ≡ is_uncommitted view tail.number
 ScanAbove (Err loss) view bits = bits ≡ bits
+
+-- The tables that are filled in, their lengths those of a volume.
+abbrev pub tables_filled : TablesMut → Tables
+tables_filled t = tables_of t.map.now t.places.now t.numbers.now t.used.now
+
+pub record Sized (g : Geometry) (t : TablesMut) : Type 0 where
+  pub map_len : length t.map.now ≡ g.l
+  pub places_len : length t.places.now ≡ pieces_for g.l
+  pub numbers_len : length t.numbers.now ≡ pieces_for g.l
+  pub used_len : length t.used.now ≡ used_bytes g.n
+
+-- The same slices are still lent: what is found in them reaches the caller.
+pub record SameTables (after before : TablesMut) : Type 0 where
+  pub map : after.map.ghost_name ≡ before.map.ghost_name
+  pub places : after.places.ghost_name ≡ before.places.ghost_name
+  pub numbers : after.numbers.ghost_name ≡ before.numbers.ghost_name
+  pub used : after.used.ghost_name ≡ before.used.ghost_name

@@ -7,7 +7,7 @@ ghost use Rattle.volume.specs.Tables.{sector_at, bit_at, tables_of};
 ghost use Rattle.volume.specs.Recover.{newest_closing, closed_up_to, scanned_log, scan_damaged, scan_finding, image_view};
 ghost use Rattle.signed.specs.Signed.{Listed};
 ghost use Rattle.log_tables.specs.LogTables.{live_places, live_numbers, map_from};
-ghost use Rattle.scan.specs.Scanned.{scan_found, ScanAbove};
+ghost use Rattle.scan.specs.Scanned.{scan_found, ScanAbove, tables_filled, Sized, SameTables};
 
 use answer::Loss;
 use geometry::Geometry;
@@ -20,6 +20,15 @@ const MEDIUM: usize = Geometry::MEDIUM as usize;
 
 const LARGE: usize = Geometry::MOST_SECTORS as usize;
 
+// The tables of the volume, to fill in from an image that is only looked at.
+#[derive(Drop)]
+pub struct TablesMut<'a> {
+    pub map: &'a mut [u32],
+    pub places: &'a mut [u32],
+    pub numbers: &'a mut [u32],
+    pub used: &'a mut [u8],
+}
+
 // The live sectors of the pieces up to number c, and the map that they hold.
 fn scan_live(
     image: &[u8],
@@ -28,23 +37,23 @@ fn scan_live(
     numbered: &[u32],
     pieces: &[u8],
     c: u32,
-    map: &mut [u32],
-    places: &mut [u32],
-    numbers: &mut [u32],
+    t: &mut TablesMut<'_>,
 )
     requires le_n { 1 ≤ g.n }
     requires image_len { length image.now ≡ sector_bytes * g.n }
     requires numbered_len { length numbered.now ≡ length sectors.now }
     requires pieces_len { length pieces.now ≡ length sectors.now }
     requires listed { Listed (image_view g (sector_at image.now)) g.n sectors.now numbered.now pieces.now }
-    requires map_len { length map.old ≡ g.l }
-    requires places_len { length places.old ≡ pieces_for g.l }
-    requires numbers_len { length numbers.old ≡ pieces_for g.l }
-    ensures { (places.new ≡ live_places (image_view g (sector_at image.now)) c g.n (pieces_for g.l)) × (numbers.new ≡ live_numbers (image_view g (sector_at image.now)) c g.n (pieces_for g.l)) × (map.new ≡ map_from (sector_at image.now) places.new g.l) }
+    requires sized { Sized g t.old }
+    ensures lent { SameTables t.new t.old }
+    ensures sized { Sized g t.new }
+    ensures value { (t.new.places.now ≡ live_places (image_view g (sector_at image.now)) c g.n (pieces_for g.l)) × (t.new.numbers.now ≡ live_numbers (image_view g (sector_at image.now)) c g.n (pieces_for g.l)) × (t.new.map.now ≡ map_from (sector_at image.now) t.new.places.now g.l) }
 {
-    places.fill(0);
-    numbers.fill(0);
-    live::find_live(sectors, numbered, pieces, c, places, numbers);
+    t.places.fill(0);
+    t.numbers.fill(0);
+    live::find_live(sectors, numbered, pieces, c, t.places, t.numbers);
+    let map = &mut *t.map;
+    let places = &mut *t.places;
     fill_map::fill_map(image, places, map);
 }
 
@@ -57,10 +66,7 @@ fn scan_tables(
     sectors: &[u16],
     numbered: &[u32],
     pieces: &[u8],
-    map: &mut [u32],
-    places: &mut [u32],
-    numbers: &mut [u32],
-    used: &mut [u8],
+    t: &mut TablesMut<'_>,
 ) -> bool
     requires g_value { geometry_fits g ≡ true }
     requires image_len { length image.now ≡ sector_bytes * g.n }
@@ -69,26 +75,18 @@ fn scan_tables(
     requires numbered_len { length numbered.now ≡ length sectors.now }
     requires pieces_len { length pieces.now ≡ length sectors.now }
     requires listed { Listed (image_view g (sector_at image.now)) g.n sectors.now numbered.now pieces.now }
-    requires map_len { length map.old ≡ g.l }
-    requires places_len { length places.old ≡ pieces_for g.l }
-    requires numbers_len { length numbers.old ≡ pieces_for g.l }
-    requires used_len { length used.old ≡ used_bytes g.n }
-    ensures { (result ≡ not (scan_damaged g (image_view g (sector_at image.now)) read.number (scanned_log g (image_view g (sector_at image.now)) read.number))) × (result ≡ true → tables_of map.new places.new numbers.new used.new ≡ (scanned_log g (image_view g (sector_at image.now)) read.number).tables) }
+    requires sized { Sized g t.old }
+    ensures lent { SameTables t.new t.old }
+    ensures value { (result ≡ not (scan_damaged g (image_view g (sector_at image.now)) read.number (scanned_log g (image_view g (sector_at image.now)) read.number))) × (result ≡ true → tables_filled t.new ≡ (scanned_log g (image_view g (sector_at image.now)) read.number).tables) }
 {
     if !distinct::numbers_distinct(numbered) {
         return false;
     }
-    scan_live(
-        image,
-        g,
-        sectors,
-        numbered,
-        pieces,
-        read.number,
-        map,
-        places,
-        numbers,
-    );
+    scan_live(image, g, sectors, numbered, pieces, read.number, t);
+    let map = &mut *t.map;
+    let places = &mut *t.places;
+    let numbers = &mut *t.numbers;
+    let used = &mut *t.used;
     agrees::log_agrees(g, map, places, numbers, used, read.tail, read.number)
 }
 
@@ -100,10 +98,7 @@ fn scan_listed(
     sectors: &[u16],
     numbered: &[u32],
     pieces: &[u8],
-    map: &mut [u32],
-    places: &mut [u32],
-    numbers: &mut [u32],
-    used: &mut [u8],
+    t: &mut TablesMut<'_>,
     above: &mut [u8],
 ) -> Result<Tail, Loss>
     requires g_value { geometry_fits g ≡ true }
@@ -114,20 +109,16 @@ fn scan_listed(
     requires numbered_len { length numbered.now ≡ length sectors.now }
     requires pieces_len { length pieces.now ≡ length sectors.now }
     requires listed { Listed (image_view g (sector_at image.now)) g.n sectors.now numbered.now pieces.now }
-    requires map_len { length map.old ≡ g.l }
-    requires places_len { length places.old ≡ pieces_for g.l }
-    requires numbers_len { length numbers.old ≡ pieces_for g.l }
-    requires used_len { length used.old ≡ used_bytes g.n }
+    requires sized { Sized g t.old }
     requires n_bound { g.n ≤ 8 * length above.old }
     requires above_value { above.old ≡ replicate (length above.old) 0 }
-    ensures { (scan_found result g.n (image_view g (sector_at image.now)) (sector_at image.now 0) (tables_of map.new places.new numbers.new used.new) ≡ scan_finding g (image_view g (sector_at image.now)) (sector_at image.now 0)) × ScanAbove result (image_view g (sector_at image.now)) (bit_at above.new) }
+    ensures lent { SameTables t.new t.old }
+    ensures value { (scan_found result g.n (image_view g (sector_at image.now)) (sector_at image.now 0) (tables_filled t.new) ≡ scan_finding g (image_view g (sector_at image.now)) (sector_at image.now 0)) × ScanAbove result (image_view g (sector_at image.now)) (bit_at above.new) }
 {
     if read.number == 0 {
         return Err(Loss::NoLog);
     }
-    if !scan_tables(
-        image, g, read, sectors, numbered, pieces, map, places, numbers, used,
-    ) {
+    if !scan_tables(image, g, read, sectors, numbered, pieces, t) {
         return Err(Loss::DamagedLog);
     }
     signed::mark_above(sectors, numbered, read.number, above);
@@ -144,10 +135,7 @@ fn scan_in(
     sectors: &mut [u16],
     numbered: &mut [u32],
     pieces: &mut [u8],
-    map: &mut [u32],
-    places: &mut [u32],
-    numbers: &mut [u32],
-    used: &mut [u8],
+    t: &mut TablesMut<'_>,
     above: &mut [u8],
 ) -> Result<Tail, Loss>
     requires g_value { geometry_fits g ≡ true }
@@ -156,13 +144,11 @@ fn scan_in(
     requires sectors_len_bound { length sectors.old ≤ most_sectors }
     requires numbered_len { length numbered.old ≡ length sectors.old }
     requires pieces_len { length pieces.old ≡ length sectors.old }
-    requires map_len { length map.old ≡ g.l }
-    requires places_len { length places.old ≡ pieces_for g.l }
-    requires numbers_len { length numbers.old ≡ pieces_for g.l }
-    requires used_len { length used.old ≡ used_bytes g.n }
+    requires sized { Sized g t.old }
     requires n_bound { g.n ≤ 8 * length above.old }
     requires above_value { above.old ≡ replicate (length above.old) 0 }
-    ensures { (scan_found result g.n (image_view g (sector_at image.now)) (sector_at image.now 0) (tables_of map.new places.new numbers.new used.new) ≡ scan_finding g (image_view g (sector_at image.now)) (sector_at image.now 0)) × ScanAbove result (image_view g (sector_at image.now)) (bit_at above.new) }
+    ensures lent { SameTables t.new t.old }
+    ensures value { (scan_found result g.n (image_view g (sector_at image.now)) (sector_at image.now 0) (tables_filled t.new) ≡ scan_finding g (image_view g (sector_at image.now)) (sector_at image.now 0)) × ScanAbove result (image_view g (sector_at image.now)) (bit_at above.new) }
 {
     let read = signed::read_signed(image, g, sectors, numbered, pieces);
     let from = read.from;
@@ -173,10 +159,7 @@ fn scan_in(
         &sectors[from..],
         &numbered[from..],
         &pieces[from..],
-        map,
-        places,
-        numbers,
-        used,
+        t,
         above,
     )
 }
@@ -208,16 +191,19 @@ pub fn scan_within<const N: usize>(
     let mut sectors = [0u16; N];
     let mut numbered = [0u32; N];
     let mut pieces = [0u8; N];
+    let mut t = TablesMut {
+        map,
+        places,
+        numbers,
+        used,
+    };
     scan_in(
         image,
         g,
         &mut sectors,
         &mut numbered,
         &mut pieces,
-        map,
-        places,
-        numbers,
-        used,
+        &mut t,
         above,
     )
 }

@@ -2,7 +2,7 @@
 #![tactic(auto)]
 
 use geometry::Settings;
-use lending::Tables;
+use lending::{Memory, Tables};
 use state::{Outcome, State};
 
 #[derive(Clone, Copy)]
@@ -30,7 +30,16 @@ pub fn perform(
     stores: u32,
 ) -> Outcome {
     match call {
-        Storing::Format => format::format(s, image, map, places, numbers, used, settings, stores),
+        Storing::Format => {
+            let mut m = Memory {
+                image,
+                map,
+                places,
+                numbers,
+                used,
+            };
+            format::format(s, &mut m, settings, stores)
+        }
         Storing::Write => write::write(
             s, image, map, places, numbers, used, head, blocks, bytes, stores,
         ),
@@ -46,8 +55,15 @@ pub fn perform(
             },
             stores,
         ),
-        Storing::Recover => recover::recover(
-            s, image, map, places, numbers, used, settings, stores,
-        ),
+        Storing::Recover => {
+            let mut m = Memory {
+                image,
+                map,
+                places,
+                numbers,
+                used,
+            };
+            recover::recover(s, &mut m, settings, stores)
+        }
     }
 }

@@ -6,16 +6,13 @@ use Rattle.format.proofs.format.Goals as goal
 
 pub make-requires : goal.make-requires
 make-requires c =
-    sym c.in-Ok.is ∙ c.size_verdict-verdict.ensures ∙ by_lengths _ _ _ _ _ _
+    by_lengths c.args.m.now _ _ _ (sym c.in-Ok.is ∙ c.size_verdict-verdict.ensures) c.lengths.ensures
 
-pub returns-in-Err : goal.returns-in-Err
-returns-in-Err c =
-    format_refused _ _ _ _ _ _ _ _ _
-    (sym c.in-Err.is ∙ c.size_verdict-verdict.ensures ∙ by_lengths
-    _ _ _ _ _ _)
+pub returns-in-Err-clause-value : goal.returns-in-Err-clause-value
+returns-in-Err-clause-value c =
+    format_refused _ _ _ _ _ _ _ _ _ (by_lengths c.args.m.now _ _ _ (sym c.in-Err.is ∙ c.size_verdict-verdict.ensures) c.lengths.ensures)
 
-pub returns-in-Ok : goal.returns-in-Ok
-returns-in-Ok c =
-    format_passed _ _ _ _ _ _ _ _ _
-    (sym c.in-Ok.is ∙ c.size_verdict-verdict.ensures ∙ by_lengths _ _ _ _ _ _)
-    c.make.ensures
+pub returns-in-Ok-clause-value : goal.returns-in-Ok-clause-value
+returns-in-Ok-clause-value c =
+    format_passed _ _ _ _ _ _ _ _ _ (by_lengths c.args.m.now _ _ _ (sym c.in-Ok.is ∙ c.size_verdict-verdict.ensures) c.lengths.ensures)
+    c.make.ensures.value

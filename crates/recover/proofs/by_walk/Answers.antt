@@ -1,8 +1,16 @@
 -- The walk answers, or the scan that follows one that found nothing.
 use mathlib.Core.Path.{◌∙◌}
 use borrow.Author.Tests.{not-false}
+use Rattle.lending.specs.declared.Lengths.{Lengths}
+use Prim.Native.Nat.{ℕ}
+use mathlib.Core.List.{List}
+use lib.ListN.{length}
+use native.Mathlib.Omega.{arith}
+use Rattle.layout.specs.Bounded.{at}
+use Rattle.volume.specs.Tables.{sector_at}
+use Rattle.walk.specs.Walking.{branch_word_count}
 use Rattle.walk.proofs.WalkedLaws.{found_low, found_signed, found_incomplete, found_room, count_ready, found_log}
-use Rattle.recover.proofs.RecoverLaws.{walk_found, scan_found_lem}
+use Rattle.recover.proofs.RecoverLaws.{walk_found, scan_found_lem, left_here}
 use mathlib.Core.Path.{ap}
 use mathlib.Core.Bool.{not}
 use Rattle.recover.proofs.by_walk.Goals as goal
@@ -22,20 +30,20 @@ walk_tables-requires c = record {
 pub by_scan-requires : goal.by_scan-requires
 by_scan-requires c = record {
   g_value = c.requires.g_value;
-  image_len = c.requires.image_len;
-  map_len = c.walk_tables.auto.map ∙ c.requires.map_len;
-  places_len = c.walk_tables.auto.places ∙ c.requires.places_len;
-  numbers_len = c.walk_tables.auto.numbers ∙ c.requires.numbers_len;
-  used_len = c.walk_tables.auto.used ∙ c.requires.used_len;
+  image_len = ap (λ (x : Lengths). x.image) c.walk_tables.ensures.lengths ∙ c.requires.image_len;
+  map_len = ap (λ (x : Lengths). x.map) c.walk_tables.ensures.lengths ∙ c.requires.map_len;
+  places_len = ap (λ (x : Lengths). x.places) c.walk_tables.ensures.lengths ∙ c.requires.places_len;
+  numbers_len = ap (λ (x : Lengths). x.numbers) c.walk_tables.ensures.lengths ∙ c.requires.numbers_len;
+  used_len = ap (λ (x : Lengths). x.used) c.walk_tables.ensures.lengths ∙ c.requires.used_len;
 }
 
-pub returns-then-not-walk_tables : goal.returns-then-not-walk_tables
-returns-then-not-walk_tables c =
-    scan_found_lem _ _ _ _ _ _ _ _ _ _ _ _ c.walk_tables.auto.map c.walk_tables.auto.places c.walk_tables.auto.numbers c.walk_tables.auto.used _
-    (found_incomplete _ _ c.args.tail.sector c.args.tail.number c.requires.number_value c.walk_tables.result c.walk_tables.ensures.0 (ap not c.if-not-walk_tables.true)) c.by_scan.ensures
+pub returns-then-not-walk_tables-clause-value : goal.returns-then-not-walk_tables-clause-value
+returns-then-not-walk_tables-clause-value c =
+    scan_found_lem _ _ _ _ _ _ _ _ _ _ _ _ _ c.walk_tables.ensures.image (ap (λ (x : Lengths). x.map) c.walk_tables.ensures.lengths) (ap (λ (x : Lengths). x.places) c.walk_tables.ensures.lengths) (ap (λ (x : Lengths). x.numbers) c.walk_tables.ensures.lengths) (ap (λ (x : Lengths). x.used) c.walk_tables.ensures.lengths) _
+    (found_incomplete _ _ c.args.tail.sector c.args.tail.number c.requires.number_value c.walk_tables.result c.walk_tables.ensures.value.0 (ap not c.if-not-walk_tables.true)) c.by_scan.ensures.value
 
 pub count_branches-read-requires : goal.count_branches-read-requires
-count_branches-read-requires c = let rest = count_ready _ _ c.requires.image_len _ _ _ _ _ (c.walk_tables.ensures.1 (not-false c.walk_tables.result (ap not c.if-not-walk_tables.false))) c.requires.g_value in record {
+count_branches-read-requires c = let rest = count_ready _ _ (ap (λ (x : Lengths). x.image) c.walk_tables.ensures.lengths ∙ c.requires.image_len) _ _ _ _ _ (left_here _ _ _ c.walk_tables.ensures.image _ _ _ _ _ (c.walk_tables.ensures.value.1 (not-false c.walk_tables.result (ap not c.if-not-walk_tables.false)))) c.requires.g_value in record {
   places_len_bound = rest.0;
   by_index = rest.1.0;
   by_index_2 = rest.1.1;
@@ -43,19 +51,13 @@ count_branches-read-requires c = let rest = count_ready _ _ c.requires.image_len
 
 pub after_walk-requires : goal.after_walk-requires
 after_walk-requires c =
-    found_room _ _ c.args.tail.sector c.args.tail.number c.requires.number_value c.requires.image_len
+    let same = ap (λ (x : Lengths). x.image) c.walk_tables.ensures.lengths in
+    let room = found_room _ _ c.args.tail.sector c.args.tail.number c.requires.number_value c.requires.image_len in
+    omega arith
 
-pub shape_of-map : goal.shape_of-map
-shape_of-map c =
-    c.after_walk.auto.map ∙ c.walk_tables.auto.map
-
-pub shape_of-places : goal.shape_of-places
-shape_of-places c =
-    c.after_walk.auto.places ∙ c.walk_tables.auto.places
-
-pub returns : goal.returns
-returns c =
-    let left = c.walk_tables.ensures.1 (not-false c.walk_tables.result (ap not c.if-not-walk_tables.false)) in
-    walk_found _ _ _ _ _ _ _ _ c.walk_tables.new.map c.walk_tables.new.places c.walk_tables.new.numbers c.walk_tables.new.used c.walk_tables.auto.map c.walk_tables.auto.places c.walk_tables.auto.numbers c.walk_tables.auto.used _ _ _ _
-    (found_log _ _ c.requires.image_len _ _ _ _ _ left _ c.requires.number_value c.walk_tables.result c.walk_tables.ensures.0 (ap not c.if-not-walk_tables.false)
-    c.count_branches-read.result c.count_branches-read.ensures.0) c.after_walk.ensures
+pub returns-clause-value : goal.returns-clause-value
+returns-clause-value c =
+    let left = c.walk_tables.ensures.value.1 (not-false c.walk_tables.result (ap not c.if-not-walk_tables.false)) in
+    walk_found _ _ _ _ _ _ _ _ _ c.walk_tables.new.m.map.now c.walk_tables.new.m.places.now c.walk_tables.new.m.numbers.now c.walk_tables.new.m.used.now c.walk_tables.ensures.image (ap (λ (x : Lengths). x.map) c.walk_tables.ensures.lengths) (ap (λ (x : Lengths). x.places) c.walk_tables.ensures.lengths) (ap (λ (x : Lengths). x.numbers) c.walk_tables.ensures.lengths) (ap (λ (x : Lengths). x.used) c.walk_tables.ensures.lengths) _ _ _ _
+    (found_log _ _ c.requires.image_len _ _ _ _ _ left _ c.requires.number_value c.walk_tables.result c.walk_tables.ensures.value.0 (ap not c.if-not-walk_tables.false)
+    c.count_branches-read.result (c.count_branches-read.ensures.0 ∙ ap (λ (v : List ℕ). branch_word_count (sector_at v) (at c.walk_tables.new.m.places.now) (length c.walk_tables.new.m.places.now)) c.walk_tables.ensures.image)) c.after_walk.ensures.value

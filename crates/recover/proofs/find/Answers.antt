@@ -40,10 +40,10 @@ by_walk-requires c =
       used_len = rest.1.1.1;
     }
 
-pub returns-in-None : goal.returns-in-None
-returns-in-None c =
-    asked_scan _ _ _ _ _ _ c.volume-g.result c.volume-g.ensures _ _ (sym c.in-None.is ∙ c.parked_at.ensures) c.by_scan.ensures
+pub returns-in-None-clause-value : goal.returns-in-None-clause-value
+returns-in-None-clause-value c =
+    asked_scan _ _ _ _ _ _ c.volume-g.result c.volume-g.ensures _ _ (sym c.in-None.is ∙ c.parked_at.ensures) c.by_scan.ensures.value
 
-pub returns-in-Some : goal.returns-in-Some
-returns-in-Some c =
-    asked_for _ _ _ _ _ _ c.volume-g.result c.volume-g.ensures _ _ c.by_walk.ensures
+pub returns-in-Some-clause-value : goal.returns-in-Some-clause-value
+returns-in-Some-clause-value c =
+    asked_for _ _ _ _ _ _ c.volume-g.result c.volume-g.ensures _ _ c.by_walk.ensures.value

@@ -1,8 +1,9 @@
 -- What the scan found is the finding of the definition.
-use mathlib.Core.Path.{refl, ◌∙◌}
+use mathlib.Core.Path.{refl, ◌∙◌, ap}
 use native.Mathlib.Omega.{arith}
 use Prim.Native.Nat.{ℕ}
 use lib.ListN.{length-replicate}
+use Rattle.lending.specs.declared.Lengths.{Lengths}
 use Rattle.volume.specs.Tables.{bit_at}
 use Rattle.laws.proofs.Sizes.{fits}
 use Rattle.recover_by_scan.proofs.ScanLaws.{scan_found_lem, scan_missing}
@@ -38,27 +39,15 @@ after_scan-requires g c =
       n_bound = omega arith;
     }
 
-pub returns-in-Err : goal.returns-in-Err
-returns-in-Err g c =
+pub returns-in-Err-clause-value : goal.returns-in-Err-clause-value
+returns-in-Err-clause-value g c =
     scan_missing _ _ _ _ _ _ _ _ c.scan_within.new.map c.scan_within.new.places c.scan_within.new.numbers c.scan_within.new.used
     c.scan_within.auto.map c.scan_within.auto.places c.scan_within.auto.numbers c.scan_within.auto.used
-    c.scan_within.result c.scan_within.ensures.0 _ _ _ _ c.zero_tables.auto.map c.zero_tables.auto.places c.zero_tables.auto.numbers c.zero_tables.auto.used
-    _ c.in-Err.is c.lost.result c.lost.ensures c.zero_tables.ensures
+    c.scan_within.result c.scan_within.ensures.0 _ _ _ _ _ c.zero_tables.ensures.image (ap (λ (x : Lengths). x.map) c.zero_tables.ensures.lengths) (ap (λ (x : Lengths). x.places) c.zero_tables.ensures.lengths) (ap (λ (x : Lengths). x.numbers) c.zero_tables.ensures.lengths) (ap (λ (x : Lengths). x.used) c.zero_tables.ensures.lengths)
+    _ c.in-Err.is c.lost.result c.lost.ensures c.zero_tables.ensures.tables
 
-pub shape_of-map-in-Ok : goal.shape_of-map-in-Ok
-shape_of-map-in-Ok g c =
-    c.after_scan.auto.map ∙ c.scan_within.auto.map
-
-pub shape_of-places-in-Ok : goal.shape_of-places-in-Ok
-shape_of-places-in-Ok g c =
-    c.after_scan.auto.places ∙ c.scan_within.auto.places
-
-pub shape_of-numbers-in-Ok : goal.shape_of-numbers-in-Ok
-shape_of-numbers-in-Ok g c =
-    c.after_scan.auto.numbers ∙ c.scan_within.auto.numbers
-
-pub returns-in-Ok : goal.returns-in-Ok
-returns-in-Ok g c =
+pub returns-in-Ok-clause-value : goal.returns-in-Ok-clause-value
+returns-in-Ok-clause-value g c =
     scan_found_lem _ _ _ _ _ _ _ _ c.scan_within.new.map c.scan_within.new.places c.scan_within.new.numbers c.scan_within.new.used
     c.scan_within.auto.map c.scan_within.auto.places c.scan_within.auto.numbers c.scan_within.auto.used
-    c.scan_within.result c.scan_within.ensures.0 _ _ (bit_at c.scan_within.new.above) c.scan_within.ensures.1 c.in-Ok.is c.after_scan.ensures
+    c.scan_within.result c.scan_within.ensures.0 _ _ (bit_at c.scan_within.new.above) c.scan_within.ensures.1 c.in-Ok.is c.after_scan.ensures.value

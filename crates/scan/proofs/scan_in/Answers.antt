@@ -36,10 +36,7 @@ scan_listed-requires c =
       numbered_len = lent.1;
       pieces_len = lent.2;
       listed = lent.3;
-      map_len = c.requires.map_len;
-      places_len = c.requires.places_len;
-      numbers_len = c.requires.numbers_len;
-      used_len = c.requires.used_len;
+      sized = c.requires.sized;
       n_bound = c.requires.n_bound;
       above_value = c.requires.above_value;
     }

@@ -9,8 +9,8 @@ use mathlib.Core.Path.{ap}
 use mathlib.Core.Bool.{not}
 use Rattle.scan.proofs.scan_listed.Goals as goal
 
-pub returns-then-read-eq0 : goal.returns-then-read-eq0
-returns-then-read-eq0 c =
+pub returns-then-read-eq0-clause-value : goal.returns-then-read-eq0-clause-value
+returns-then-read-eq0-clause-value c =
     scan_none c.args.g (sector_at c.args.image.now) c.args.read.tail c.args.read.number c.requires.tail_value c.requires.number_value c.if-read-eq0.true _ _
 
 pub scan_tables-requires : goal.scan_tables-requires
@@ -22,15 +22,12 @@ scan_tables-requires c = record {
   numbered_len = c.requires.numbered_len;
   pieces_len = c.requires.pieces_len;
   listed = c.requires.listed;
-  map_len = c.requires.map_len;
-  places_len = c.requires.places_len;
-  numbers_len = c.requires.numbers_len;
-  used_len = c.requires.used_len;
+  sized = c.requires.sized;
 }
 
-pub returns-then-not-scan_tables : goal.returns-then-not-scan_tables
-returns-then-not-scan_tables c =
-    scan_damaged_lem c.args.g (sector_at c.args.image.now) c.args.read.tail c.args.read.number c.requires.tail_value c.requires.number_value c.if-read-eq0.false c.scan_tables.result _ c.scan_tables.ensures (ap not c.if-not-scan_tables.true) _
+pub returns-then-not-scan_tables-clause-value : goal.returns-then-not-scan_tables-clause-value
+returns-then-not-scan_tables-clause-value c =
+    scan_damaged_lem c.args.g (sector_at c.args.image.now) c.args.read.tail c.args.read.number c.requires.tail_value c.requires.number_value c.if-read-eq0.false c.scan_tables.result _ c.scan_tables.ensures.value (ap not c.if-not-scan_tables.true) _
 
 pub mark_above-requires : goal.mark_above-requires
 mark_above-requires c = record {
@@ -38,7 +35,7 @@ mark_above-requires c = record {
   by_index = λ i h. let b = sectors_inside c.args.g (sector_at c.args.image.now) c.args.read.number _ _ _ c.requires.listed i h in omega arith;
 }
 
-pub returns : goal.returns
-returns c =
-    scan_finds c.args.g (sector_at c.args.image.now) c.args.read.tail c.args.read.number c.requires.tail_value c.requires.number_value c.if-read-eq0.false c.scan_tables.result _ c.scan_tables.ensures (ap not c.if-not-scan_tables.false) _
+pub returns-clause-value : goal.returns-clause-value
+returns-clause-value c =
+    scan_finds c.args.g (sector_at c.args.image.now) c.args.read.tail c.args.read.number c.requires.tail_value c.requires.number_value c.if-read-eq0.false c.scan_tables.result _ c.scan_tables.ensures.value (ap not c.if-not-scan_tables.false) _
     (above_listed (image_view c.args.g (sector_at c.args.image.now)) c.args.read.number c.args.g.n _ _ _ _ c.requires.listed.sector c.requires.listed.number (marks_none c.args.above.now (length c.args.above.now) c.requires.above_value) c.mark_above.ensures)

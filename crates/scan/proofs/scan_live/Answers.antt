@@ -22,13 +22,13 @@ find_live-requires c = record {
 pub fill_map-requires : goal.fill_map-requires
 fill_map-requires c =
     let found = live_listed (image_view c.args.g (sector_at c.args.image.now)) c.args.c (pieces_for c.args.g.l) (piece_inside c.args.g (sector_at c.args.image.now)) c.args.g.n _ _ _ _ _ _ _ c.requires.le_n
-    c.requires.listed (c.fill.ensures.after (λ y e. e) ∙ ap (λ (x : ℕ). replicate x 0) c.requires.places_len) (c.fill-2.ensures.after (λ y e. e) ∙ ap (λ (x : ℕ). replicate x 0) c.requires.numbers_len) c.find_live.ensures in record {
+    c.requires.listed (c.fill.ensures.after (λ y e. e) ∙ ap (λ (x : ℕ). replicate x 0) c.requires.sized.places_len) (c.fill-2.ensures.after (λ y e. e) ∙ ap (λ (x : ℕ). replicate x 0) c.requires.sized.numbers_len) c.find_live.ensures in record {
       map_len_bound = omega arith;
       by_index = λ q h. let b = place_inside c.args.g (sector_at c.args.image.now) c.args.c q _ c.requires.le_n found.0 (omega arith) in omega arith;
     }
 
-pub returns : goal.returns
-returns c =
+pub returns-clause-value : goal.returns-clause-value
+returns-clause-value c =
     let found = live_listed (image_view c.args.g (sector_at c.args.image.now)) c.args.c (pieces_for c.args.g.l) (piece_inside c.args.g (sector_at c.args.image.now)) c.args.g.n _ _ _ _ _ _ _ c.requires.le_n
-    c.requires.listed (c.fill.ensures.after (λ y e. e) ∙ ap (λ (x : ℕ). replicate x 0) c.requires.places_len) (c.fill-2.ensures.after (λ y e. e) ∙ ap (λ (x : ℕ). replicate x 0) c.requires.numbers_len) c.find_live.ensures in
-    (found.0, found.1, is_map _ _ _ _ _ c.requires.map_len c.fill_map.ensures)
+    c.requires.listed (c.fill.ensures.after (λ y e. e) ∙ ap (λ (x : ℕ). replicate x 0) c.requires.sized.places_len) (c.fill-2.ensures.after (λ y e. e) ∙ ap (λ (x : ℕ). replicate x 0) c.requires.sized.numbers_len) c.find_live.ensures in
+    (found.0, found.1, is_map _ _ _ _ _ c.requires.sized.map_len c.fill_map.ensures)
