@@ -7,6 +7,7 @@ ghost use Rattle.volume.specs.Tables.{bit_at};
 ghost use Rattle.live_marks.specs.Live.{marked, sizes_fit, scan_marks, live_marks};
 
 use geometry::Geometry;
+use scan::TablesMut;
 
 // Whether so many bytes are an image of such a volume, and so many more its used map.
 fn sizes_fit(g: Geometry, bytes: usize, marks: usize) -> bool
@@ -35,16 +36,13 @@ fn mark_in(
     let l = g.l as usize;
     let p = Geometry::pieces_for(g.l) as usize;
     let mut above = [0u8; Geometry::MOST_USED_BYTES];
-    scan::scan(
-        image,
-        g,
-        &mut map[..l],
-        &mut places[..p],
-        &mut numbers[..p],
+    let mut t = TablesMut {
+        map: &mut map[..l],
+        places: &mut places[..p],
+        numbers: &mut numbers[..p],
         used,
-        &mut above,
-    )
-    .is_ok()
+    };
+    scan::scan(image, g, &mut t, &mut above).is_ok()
 }
 
 // That used map alone. The other tables are made here, not where they are lent: there the check would count their elements.

@@ -33,15 +33,21 @@ module _ (g : Geometry) (drive : Drive) (allowance : ℕ) (im mp pl nu us mp' pl
       e finding
 
   pub scan_found_lem : (r : After) (tail : Tail) (bits : ℕ → Bool) → ScanAbove found (image_view g (sector_at im)) bits → found ≡ Ok tail
+      → (im' : List ℕ) → im' ≡ im
       → r
       ≡ performed allowance
       (recovery_action g drive (record { tables = tables_of mp' pl' nu' us'; tail = tail.sector; number = tail.number }) (Scanned g.n)
-      (stores_below bits blank_store g.n ++ park_sector_cleared (is_blank (sector_at im 0) || bits 0)))
-      (memory im mp' pl' nu' us')
+      (stores_below bits blank_store g.n ++ park_sector_cleared (is_blank (sector_at im' 0) || bits 0)))
+      (memory im' mp' pl' nu' us')
       → r ≡ recovered g drive allowance (memory im mp pl nu us) (scan_finding g (image_view g (sector_at im)) (sector_at im 0))
   unfolding scan_found ScanAbove recovered scan_stores
-  scan_found_lem r tail bits above log e =
+  scan_found_lem r tail bits above log im' same e =
       e
+      ∙ ap (λ (v : List ℕ).
+      performed allowance
+      (recovery_action g drive (record { tables = tables_of mp' pl' nu' us'; tail = tail.sector; number = tail.number }) (Scanned g.n)
+      (stores_below bits blank_store g.n ++ park_sector_cleared (is_blank (sector_at v 0) || bits 0)))
+      (memory v mp' pl' nu' us')) same
       ∙ ap (λ (b : ℕ → Bool).
       performed allowance
       (recovery_action g drive (record { tables = tables_of mp' pl' nu' us'; tail = tail.sector; number = tail.number }) (Scanned g.n)

@@ -3,7 +3,7 @@
 
 ghost use Rattle.std.specs.Prelude.{◌≡◌, true, not, ◌*◌, ◌≤◌, length, replicate};
 ghost use Rattle.geometry.specs.Geometry.{sector_bytes, pieces_for, used_bytes, geometry_fits, most_sectors};
-ghost use Rattle.volume.specs.Tables.{sector_at, bit_at, tables_of};
+ghost use Rattle.volume.specs.Tables.{sector_at, bit_at};
 ghost use Rattle.volume.specs.Recover.{newest_closing, closed_up_to, scanned_log, scan_damaged, scan_finding, image_view};
 ghost use Rattle.signed.specs.Signed.{Listed};
 ghost use Rattle.log_tables.specs.LogTables.{live_places, live_numbers, map_from};
@@ -77,6 +77,7 @@ fn scan_tables(
     requires listed { Listed (image_view g (sector_at image.now)) g.n sectors.now numbered.now pieces.now }
     requires sized { Sized g t.old }
     ensures lent { SameTables t.new t.old }
+    ensures sized { Sized g t.new }
     ensures value { (result ≡ not (scan_damaged g (image_view g (sector_at image.now)) read.number (scanned_log g (image_view g (sector_at image.now)) read.number))) × (result ≡ true → tables_filled t.new ≡ (scanned_log g (image_view g (sector_at image.now)) read.number).tables) }
 {
     if !distinct::numbers_distinct(numbered) {
@@ -113,6 +114,7 @@ fn scan_listed(
     requires n_bound { g.n ≤ 8 * length above.old }
     requires above_value { above.old ≡ replicate (length above.old) 0 }
     ensures lent { SameTables t.new t.old }
+    ensures sized { Sized g t.new }
     ensures value { (scan_found result g.n (image_view g (sector_at image.now)) (sector_at image.now 0) (tables_filled t.new) ≡ scan_finding g (image_view g (sector_at image.now)) (sector_at image.now 0)) × ScanAbove result (image_view g (sector_at image.now)) (bit_at above.new) }
 {
     if read.number == 0 {
@@ -148,6 +150,7 @@ fn scan_in(
     requires n_bound { g.n ≤ 8 * length above.old }
     requires above_value { above.old ≡ replicate (length above.old) 0 }
     ensures lent { SameTables t.new t.old }
+    ensures sized { Sized g t.new }
     ensures value { (scan_found result g.n (image_view g (sector_at image.now)) (sector_at image.now 0) (tables_filled t.new) ≡ scan_finding g (image_view g (sector_at image.now)) (sector_at image.now 0)) × ScanAbove result (image_view g (sector_at image.now)) (bit_at above.new) }
 {
     let read = signed::read_signed(image, g, sectors, numbered, pieces);
@@ -170,40 +173,30 @@ fn scan_in(
 pub fn scan_within<const N: usize>(
     image: &[u8],
     g: Geometry,
-    map: &mut [u32],
-    places: &mut [u32],
-    numbers: &mut [u32],
-    used: &mut [u8],
+    t: &mut TablesMut<'_>,
     above: &mut [u8],
 ) -> Result<Tail, Loss>
     requires n_le_size { g.n ≤ N }
     requires size_le_most_sectors { N ≤ most_sectors }
     requires g_value { geometry_fits g ≡ true }
     requires image_len { length image.now ≡ sector_bytes * g.n }
-    requires map_len { length map.old ≡ g.l }
-    requires places_len { length places.old ≡ pieces_for g.l }
-    requires numbers_len { length numbers.old ≡ pieces_for g.l }
-    requires used_len { length used.old ≡ used_bytes g.n }
+    requires sized { Sized g t.old }
     requires n_bound { g.n ≤ 8 * length above.old }
     requires above_value { above.old ≡ replicate (length above.old) 0 }
-    ensures { (scan_found result g.n (image_view g (sector_at image.now)) (sector_at image.now 0) (tables_of map.new places.new numbers.new used.new) ≡ scan_finding g (image_view g (sector_at image.now)) (sector_at image.now 0)) × ScanAbove result (image_view g (sector_at image.now)) (bit_at above.new) }
+    ensures lent { SameTables t.new t.old }
+    ensures sized { Sized g t.new }
+    ensures value { (scan_found result g.n (image_view g (sector_at image.now)) (sector_at image.now 0) (tables_filled t.new) ≡ scan_finding g (image_view g (sector_at image.now)) (sector_at image.now 0)) × ScanAbove result (image_view g (sector_at image.now)) (bit_at above.new) }
 {
     let mut sectors = [0u16; N];
     let mut numbered = [0u32; N];
     let mut pieces = [0u8; N];
-    let mut t = TablesMut {
-        map,
-        places,
-        numbers,
-        used,
-    };
     scan_in(
         image,
         g,
         &mut sectors,
         &mut numbered,
         &mut pieces,
-        &mut t,
+        t,
         above,
     )
 }
@@ -212,24 +205,20 @@ pub fn scan_within<const N: usize>(
 pub fn scan(
     image: &[u8],
     g: Geometry,
-    map: &mut [u32],
-    places: &mut [u32],
-    numbers: &mut [u32],
-    used: &mut [u8],
+    t: &mut TablesMut<'_>,
     above: &mut [u8],
 ) -> Result<Tail, Loss>
     requires g_value { geometry_fits g ≡ true }
     requires image_len { length image.now ≡ sector_bytes * g.n }
-    requires map_len { length map.old ≡ g.l }
-    requires places_len { length places.old ≡ pieces_for g.l }
-    requires numbers_len { length numbers.old ≡ pieces_for g.l }
-    requires used_len { length used.old ≡ used_bytes g.n }
+    requires sized { Sized g t.old }
     requires n_bound { g.n ≤ 8 * length above.old }
     requires above_value { above.old ≡ replicate (length above.old) 0 }
-    ensures { (scan_found result g.n (image_view g (sector_at image.now)) (sector_at image.now 0) (tables_of map.new places.new numbers.new used.new) ≡ scan_finding g (image_view g (sector_at image.now)) (sector_at image.now 0)) × ScanAbove result (image_view g (sector_at image.now)) (bit_at above.new) }
+    ensures lent { SameTables t.new t.old }
+    ensures sized { Sized g t.new }
+    ensures value { (scan_found result g.n (image_view g (sector_at image.now)) (sector_at image.now 0) (tables_filled t.new) ≡ scan_finding g (image_view g (sector_at image.now)) (sector_at image.now 0)) × ScanAbove result (image_view g (sector_at image.now)) (bit_at above.new) }
 {
     if g.n <= Geometry::MEDIUM {
-        return scan_within::<MEDIUM>(image, g, map, places, numbers, used, above);
+        return scan_within::<MEDIUM>(image, g, t, above);
     }
-    scan_within::<LARGE>(image, g, map, places, numbers, used, above)
+    scan_within::<LARGE>(image, g, t, above)
 }

@@ -9,8 +9,8 @@ use Rattle.laws.proofs.Sizes.{fits}
 use Rattle.recover_by_scan.proofs.ScanLaws.{scan_found_lem, scan_missing}
 use Rattle.recover_by_scan.proofs.by_scan.Goals as goal
 
-pub scan_within-requires : goal.scan_within-requires
-scan_within-requires g c =
+pub scan_held-requires : goal.scan_held-requires
+scan_held-requires g c =
     record {
       n_le_size = c.requires.n_le_size;
       size_le_most_sectors = c.requires.size_le_most_sectors;
@@ -24,8 +24,8 @@ scan_within-requires g c =
       above_value = rw (length-replicate {A = ℕ}) refl;
     }
 
-pub whole_as_slice-scan_within : goal.whole_as_slice-scan_within
-whole_as_slice-scan_within g c = omega arith
+pub whole_as_slice-scan_held : goal.whole_as_slice-scan_held
+whole_as_slice-scan_held g c = omega arith
 
 pub shared_whole_as_slice-after_scan : goal.shared_whole_as_slice-after_scan
 shared_whole_as_slice-after_scan g c = omega arith
@@ -35,19 +35,19 @@ after_scan-requires g c =
     let least = (fits c.args.g c.requires.g_value).least in
     record {
       le_n = omega arith;
-      image_len = c.requires.image_len;
+      image_len = ap (λ (x : Lengths). x.image) c.scan_held.ensures.lengths ∙ c.requires.image_len;
       n_bound = omega arith;
     }
 
 pub returns-in-Err-clause-value : goal.returns-in-Err-clause-value
 returns-in-Err-clause-value g c =
-    scan_missing _ _ _ _ _ _ _ _ c.scan_within.new.map c.scan_within.new.places c.scan_within.new.numbers c.scan_within.new.used
-    c.scan_within.auto.map c.scan_within.auto.places c.scan_within.auto.numbers c.scan_within.auto.used
-    c.scan_within.result c.scan_within.ensures.0 _ _ _ _ _ c.zero_tables.ensures.image (ap (λ (x : Lengths). x.map) c.zero_tables.ensures.lengths) (ap (λ (x : Lengths). x.places) c.zero_tables.ensures.lengths) (ap (λ (x : Lengths). x.numbers) c.zero_tables.ensures.lengths) (ap (λ (x : Lengths). x.used) c.zero_tables.ensures.lengths)
+    scan_missing _ _ _ _ _ _ _ _ c.scan_held.new.m.map.now c.scan_held.new.m.places.now c.scan_held.new.m.numbers.now c.scan_held.new.m.used.now
+    (ap (λ (x : Lengths). x.map) c.scan_held.ensures.lengths) (ap (λ (x : Lengths). x.places) c.scan_held.ensures.lengths) (ap (λ (x : Lengths). x.numbers) c.scan_held.ensures.lengths) (ap (λ (x : Lengths). x.used) c.scan_held.ensures.lengths)
+    c.scan_held.result c.scan_held.ensures.value.0 _ _ _ _ _ (c.zero_tables.ensures.image ∙ c.scan_held.ensures.image) (ap (λ (x : Lengths). x.map) c.zero_tables.ensures.lengths) (ap (λ (x : Lengths). x.places) c.zero_tables.ensures.lengths) (ap (λ (x : Lengths). x.numbers) c.zero_tables.ensures.lengths) (ap (λ (x : Lengths). x.used) c.zero_tables.ensures.lengths)
     _ c.in-Err.is c.lost.result c.lost.ensures c.zero_tables.ensures.tables
 
 pub returns-in-Ok-clause-value : goal.returns-in-Ok-clause-value
 returns-in-Ok-clause-value g c =
-    scan_found_lem _ _ _ _ _ _ _ _ c.scan_within.new.map c.scan_within.new.places c.scan_within.new.numbers c.scan_within.new.used
-    c.scan_within.auto.map c.scan_within.auto.places c.scan_within.auto.numbers c.scan_within.auto.used
-    c.scan_within.result c.scan_within.ensures.0 _ _ (bit_at c.scan_within.new.above) c.scan_within.ensures.1 c.in-Ok.is c.after_scan.ensures.value
+    scan_found_lem _ _ _ _ _ _ _ _ c.scan_held.new.m.map.now c.scan_held.new.m.places.now c.scan_held.new.m.numbers.now c.scan_held.new.m.used.now
+    (ap (λ (x : Lengths). x.map) c.scan_held.ensures.lengths) (ap (λ (x : Lengths). x.places) c.scan_held.ensures.lengths) (ap (λ (x : Lengths). x.numbers) c.scan_held.ensures.lengths) (ap (λ (x : Lengths). x.used) c.scan_held.ensures.lengths)
+    c.scan_held.result c.scan_held.ensures.value.0 _ _ (bit_at c.scan_held.new.above) c.scan_held.ensures.value.1 c.in-Ok.is _ c.scan_held.ensures.image c.after_scan.ensures.value

@@ -9,10 +9,7 @@ scan_within-requires c = record {
   size_le_most_sectors = omega arith;
   g_value = c.requires.g_value;
   image_len = c.requires.image_len;
-  map_len = c.requires.map_len;
-  places_len = c.requires.places_len;
-  numbers_len = c.requires.numbers_len;
-  used_len = c.requires.used_len;
+  sized = c.requires.sized;
   n_bound = c.requires.n_bound;
   above_value = c.requires.above_value;
 }
@@ -23,10 +20,7 @@ scan_within-requires-2 c = record {
   size_le_most_sectors = omega arith;
   g_value = c.requires.g_value;
   image_len = c.requires.image_len;
-  map_len = c.requires.map_len;
-  places_len = c.requires.places_len;
-  numbers_len = c.requires.numbers_len;
-  used_len = c.requires.used_len;
+  sized = c.requires.sized;
   n_bound = c.requires.n_bound;
   above_value = c.requires.above_value;
 }

@@ -12,12 +12,7 @@ scan_in-requires g c = record {
   sectors_len_bound = rw (length-replicate {A = ℕ}) c.requires.size_le_most_sectors;
   numbered_len = refl;
   pieces_len = refl;
-  sized = record {
-    map_len = c.requires.map_len;
-    places_len = c.requires.places_len;
-    numbers_len = c.requires.numbers_len;
-    used_len = c.requires.used_len;
-  };
+  sized = c.requires.sized;
   n_bound = c.requires.n_bound;
   above_value = c.requires.above_value;
 }
