@@ -1,22 +1,9 @@
 // Filling a table.
 #![tactic(auto)]
 
-ghost use Rattle.std.specs.Prelude.{◌≡◌, ◌++◌, suc, ◌+◌, ◌≤◌, length, take, drop, replicate};
+ghost use Rattle.std.specs.Prelude.{◌≡◌, ◌++◌, suc, ◌+◌, ◌≤◌, length, take, drop};
 ghost use Rattle.geometry.specs.Geometry.{most_pieces};
 ghost use Rattle.layout.specs.Bounded.{list_from};
-
-// Zeros. Both are the library's fill, under the names that callers use.
-pub fn zero_words(words: &mut [u32])
-    ensures { words.new ≡ replicate (length words.old) 0 }
-{
-    words.fill(0);
-}
-
-pub fn zero_bytes(bytes: &mut [u8])
-    ensures { bytes.new ≡ replicate (length bytes.old) 0 }
-{
-    bytes.fill(0);
-}
 
 // 1, 2, 3 and so on.
 pub fn count_up(words: &mut [u32])

@@ -32,7 +32,7 @@ pub enum Input {
     Failed,
 }
 
-// Why a line that is begun cannot be given.
+// Why the line that is next cannot be given.
 #[derive(Clone, Copy, PartialEq, Eq, Debug)]
 pub enum LineError {
     // It has more than LINE bytes.
@@ -54,7 +54,7 @@ impl Reader {
     }
 
     // The line that is next, or none where the input has ended. The length is judged first, so that it does not matter how much of the
-    // input came with the last read. A line is open here only where its end could not be read.
+    // input came with the last read. Where its end has not come yet it is unreadable: after `next_line` only where a read failed.
     pub fn standing(self, window: &[u8; WINDOW]) -> Result<Option<&[u8]>, LineError>
         requires { Placed self }
         ensures { IfErr result (λ e. e ≡ Unreadable → self.filled ≤ self.from + line_bytes) }

@@ -21,10 +21,11 @@ unfoldable pub ScanAbove : Result Tail Loss → View → (ℕ → Bool) → Type
 ScanAbove (Ok tail) view bits = bits ≡ is_uncommitted view tail.number
 ScanAbove (Err loss) view bits = bits ≡ bits
 
--- The tables that are filled in, their lengths those of a volume.
+-- The tables that are filled in.
 abbrev pub tables_filled : TablesMut → Tables
 tables_filled t = tables_of t.map.now t.places.now t.numbers.now t.used.now
 
+-- They have the lengths of a volume.
 pub record Sized (g : Geometry) (t : TablesMut) : Type 0 where
   pub map_len : length t.map.now ≡ g.l
   pub places_len : length t.places.now ≡ pieces_for g.l
