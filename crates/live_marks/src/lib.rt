@@ -1,8 +1,8 @@
 // The sectors of an image that a scan of it takes as live. Nothing is stored, and no table of the volume is asked.
 #![tactic(auto)]
 
-ghost use Rattle.std.specs.Prelude.{◌≡◌, true, not, ◌&&◌, ◌*◌, ◌≤◌, length, eqb};
-ghost use Rattle.geometry.specs.Geometry.{sector_bytes, pieces_for, used_bytes, geometry_fits};
+ghost use Rattle.std.specs.Prelude.{◌≡◌, true, not, ◌&&◌, ◌*◌, length, eqb};
+ghost use Rattle.geometry.specs.Geometry.{sector_bytes, used_bytes, geometry_fits};
 ghost use Rattle.volume.specs.Tables.{bit_at};
 ghost use Rattle.live_marks.specs.Live.{marked, sizes_fit, scan_marks, live_marks};
 
@@ -16,25 +16,18 @@ fn sizes_fit(g: Geometry, bytes: usize, marks: usize) -> bool
     g.fits() && bytes == Geometry::SECTOR * g.n as usize && marks == g.used_bytes() as usize
 }
 
-// The used map of the log that a scan finds, with room for the other tables of that log. They come one by one, as the scan takes them.
-fn mark_in(
-    image: &[u8],
-    g: Geometry,
-    map: &mut [u32],
-    places: &mut [u32],
-    numbers: &mut [u32],
-    used: &mut [u8],
-) -> bool
+// The used map of the log that a scan finds. Its other tables are not kept.
+fn mark_scanned(image: &[u8], g: Geometry, used: &mut [u8]) -> bool
     requires g_value { geometry_fits g ≡ true }
     requires image_len { length image.now ≡ sector_bytes * g.n }
-    requires l_in_bounds { g.l ≤ length map.old }
-    requires l_in_bounds_2 { pieces_for g.l ≤ length places.old }
-    requires l_in_bounds_3 { pieces_for g.l ≤ length numbers.old }
     requires used_len { length used.old ≡ used_bytes g.n }
     ensures { marked result (bit_at used.new) ≡ scan_marks g image.now }
 {
     let l = g.l as usize;
     let p = Geometry::pieces_for(g.l) as usize;
+    let mut map = [0u32; Geometry::MOST_BLOCKS as usize];
+    let mut places = [0u32; Geometry::MOST_PIECES];
+    let mut numbers = [0u32; Geometry::MOST_PIECES];
     let mut above = [0u8; Geometry::MOST_USED_BYTES];
     let mut t = TablesMut {
         map: &mut map[..l],
@@ -43,19 +36,6 @@ fn mark_in(
         used,
     };
     scan::scan(image, g, &mut t, &mut above).is_ok()
-}
-
-// That used map alone. The other tables are made here, not where they are lent: there the check would count their elements.
-fn mark_scanned(image: &[u8], g: Geometry, used: &mut [u8]) -> bool
-    requires g_value { geometry_fits g ≡ true }
-    requires image_len { length image.now ≡ sector_bytes * g.n }
-    requires used_len { length used.old ≡ used_bytes g.n }
-    ensures { marked result (bit_at used.new) ≡ scan_marks g image.now }
-{
-    let mut map = [0u32; Geometry::MOST_BLOCKS as usize];
-    let mut places = [0u32; Geometry::MOST_PIECES];
-    let mut numbers = [0u32; Geometry::MOST_PIECES];
-    mark_in(image, g, &mut map, &mut places, &mut numbers, used)
 }
 
 // Marks the live sectors, and sector 0, where a scan finds a log. Where it finds none, or the sizes are not those of a volume, the

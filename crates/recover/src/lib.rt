@@ -52,13 +52,7 @@ fn by_scan(m: &mut Memory<'_>, g: Geometry, drive: Drive, allowance: u32) -> Out
 }
 
 // By a walk from the tail that was parked, or by a scan where the walk does not answer.
-fn by_walk(
-    m: &mut Memory<'_>,
-    g: Geometry,
-    drive: Drive,
-    tail: Tail,
-    allowance: u32,
-) -> Outcome
+fn by_walk(m: &mut Memory<'_>, g: Geometry, drive: Drive, tail: Tail, allowance: u32) -> Outcome
     requires g_value { geometry_fits g ≡ true }
     requires image_len { length m.old.image.now ≡ sector_bytes * g.n }
     requires number_value { Some tail ≡ start_of g.n (image_view g (sector_at m.old.image.now)) (parked_in (sector_at m.old.image.now 0)) }
@@ -75,15 +69,7 @@ fn by_walk(
     let image = &mut *m.image;
     let places = &mut *m.places;
     let read = 2 + walk::count_branches(image, places);
-    resume::after_walk(
-        m,
-        g,
-        drive,
-        tail.sector,
-        tail.number,
-        read,
-        allowance,
-    )
+    resume::after_walk(m, g, drive, tail.sector, tail.number, read, allowance)
 }
 
 // A recovery that no refusal stops.

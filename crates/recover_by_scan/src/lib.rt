@@ -77,8 +77,6 @@ pub fn by_scan<const N: usize, const BYTES: usize>(
                 state: State::lost(g, drive),
             }
         }
-        Ok(tail) => {
-            resume::after_scan(m, g, drive, tail.sector, tail.number, &above, allowance)
-        }
+        Ok(tail) => { resume::after_scan(m, g, drive, tail.sector, tail.number, &above, allowance) }
     }
 }

@@ -190,15 +190,7 @@ pub fn scan_within<const N: usize>(
     let mut sectors = [0u16; N];
     let mut numbered = [0u32; N];
     let mut pieces = [0u8; N];
-    scan_in(
-        image,
-        g,
-        &mut sectors,
-        &mut numbered,
-        &mut pieces,
-        t,
-        above,
-    )
+    scan_in(image, g, &mut sectors, &mut numbered, &mut pieces, t, above)
 }
 
 // Finds the log by a scan of all sectors. The tables are then in what was lent, and in `above` the uncommitted sectors.
