@@ -7,6 +7,7 @@ use crate::{calls, desk, gather};
 use answer::Cost;
 use batch_checks::{ANSWER_WORDS, COMMIT_WORDS};
 use geometry::Geometry;
+use lending::Memory;
 use line_reader::{Reader, WINDOW};
 use paper::request::Call;
 use paper::tokens;
@@ -41,13 +42,16 @@ fn lend(
     let size = s.geometry;
     let pieces = Geometry::pieces_for(size.l) as usize;
     let commits = g.commits as usize;
+    let mut m = Memory {
+        image: calls::first(image, calls::bytes_of(size.n)),
+        map: calls::first(map, size.l as usize),
+        places: calls::first(places, pieces),
+        numbers: calls::first(numbers, pieces),
+        used: calls::first(used, size.used_bytes() as usize),
+    };
     batch::batch(
         s,
-        calls::first(image, calls::bytes_of(size.n)),
-        calls::first(map, size.l as usize),
-        calls::first(places, pieces),
-        calls::first(numbers, pieces),
-        calls::first(used, size.used_bytes() as usize),
+        &mut m,
         tokens::part(words, 0, COMMIT_WORDS * commits),
         tokens::part(blocks, 0, g.blocks),
         tokens::part(bytes, 0, g.bytes),

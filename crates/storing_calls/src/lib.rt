@@ -2,7 +2,7 @@
 #![tactic(auto)]
 
 use geometry::Settings;
-use lending::Tables;
+use lending::{Memory, Tables};
 use state::{Outcome, State};
 
 #[derive(Clone, Copy)]
@@ -31,10 +31,26 @@ pub fn perform(
 ) -> Outcome {
     match call {
         Storing::Format => format::format(s, image, map, places, numbers, used, settings, stores),
-        Storing::Write => write::write(
-            s, image, map, places, numbers, used, head, blocks, bytes, stores,
-        ),
-        Storing::Drop => write::drop(s, image, map, places, numbers, used, head, blocks, stores),
+        Storing::Write => {
+            let mut m = Memory {
+                image,
+                map,
+                places,
+                numbers,
+                used,
+            };
+            write::write(s, &mut m, head, blocks, bytes, stores)
+        }
+        Storing::Drop => {
+            let mut m = Memory {
+                image,
+                map,
+                places,
+                numbers,
+                used,
+            };
+            write::drop(s, &mut m, head, blocks, stores)
+        }
         Storing::Park => park::park(
             s,
             image,

@@ -1,4 +1,5 @@
 // A batch by both implementations, as the other calls.
+use lending::Memory;
 use reference_board::board;
 use state::BatchOutcome;
 use trial_board::cells;
@@ -26,13 +27,16 @@ fn lend(
     let c = trial_lent::length(b, board::BACKLOG_COUNT, blocks.len());
     let d = trial_lent::length(b, board::BACKLOG_BYTES, bytes.len());
     let a = trial_lent::length(b, board::ANSWERS_LENGTH, answers.len());
+    let mut m = Memory {
+        image: &mut image[..n],
+        map: &mut map[..l],
+        places: &mut places[..p],
+        numbers: &mut numbers[..q],
+        used: &mut used[..u],
+    };
     batch::batch(
         trial_lent::state_of(b),
-        &mut image[..n],
-        &mut map[..l],
-        &mut places[..p],
-        &mut numbers[..q],
-        &mut used[..u],
+        &mut m,
         &commits[..w],
         &blocks[..c],
         &bytes[..d],
