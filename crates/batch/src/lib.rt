@@ -1,9 +1,9 @@
 // A batch: commits made one after the other in one call, up to and including the first that is turned back.
 #![tactic(auto)]
 
-ghost use Rattle.std.specs.Prelude.{◌≡◌, ◌++◌, ◌+◌, ◌*◌, ◌≤◌, length, take, drop, ltb, Ok};
-ghost use Rattle.layout.specs.Bounded.{sum_below};
-ghost use Rattle.volume.specs.Tables.{memory};
+ghost use Rattle.std.specs.Prelude.{◌≡◌, ℕ, ◌++◌, ◌+◌, ◌*◌, ◌^◌, ◌≤◌, ◌<◌, length, take, drop, ltb, Ok};
+ghost use Rattle.layout.specs.Bounded.{at, sum_below};
+ghost use Rattle.lending.specs.Lending.{held, SameLent};
 ghost use Rattle.volume.specs.Rules.{base};
 ghost use Rattle.volume.specs.Store.{after};
 ghost use Rattle.verdict.specs.Known.{KnownAgreed};
@@ -12,18 +12,14 @@ ghost use Rattle.batch.specs.Batch.{batch_left, Lent};
 
 use answer::{Answer, Cost, Refusal};
 use batch_checks::{ANSWER_WORDS, COMMIT_WORDS};
-use lending::Lengths;
+use lending::Memory;
 use state::{BatchOutcome, Outcome, State};
 
 // One commit by its kind: 0 a write, 1 a drop, which has no bytes. The tables are not looked at where they are known to agree with
 // the image.
 fn make_commit(
     s: State,
-    image: &mut [u8],
-    map: &mut [u32],
-    places: &mut [u32],
-    numbers: &mut [u32],
-    used: &mut [u8],
+    m: &mut Memory<'_>,
     kind: u32,
     head: u32,
     blocks: &[u32],
@@ -31,18 +27,15 @@ fn make_commit(
     allowance: u32,
     known: bool,
 ) -> Outcome
-    requires { KnownAgreed known s (memory image.old map.old places.old numbers.old used.old) }
-    ensures { after result (memory image.new map.new places.new numbers.new used.new) ≡ commit_made base s (memory image.old map.old places.old numbers.old used.old) (record { kind = kind; head = head; blocks = blocks.now; bytes = bytes.now }) allowance }
+    requires { KnownAgreed known s (held m.old) }
+    ensures lent { SameLent m.new m.old }
+    ensures value { after result (held m.new) ≡ commit_made base s (held m.old) (record { kind = kind; head = head; blocks = blocks.now; bytes = bytes.now }) allowance }
 {
     match kind {
-        0 => write::write_commit(
-            s, image, map, places, numbers, used, head, blocks, bytes, allowance, known,
-        ),
+        0 => write::write_commit(s, m, head, blocks, bytes, allowance, known),
         1 => {
             let fit = bytes.is_empty();
-            write::drop_commit(
-                s, image, map, places, numbers, used, head, blocks, fit, allowance, known,
-            )
+            write::drop_commit(s, m, head, blocks, fit, allowance, known)
         }
         _ => Outcome {
             answer: Answer::Refused(Refusal::BlockNumbers),
@@ -70,11 +63,7 @@ fn put_answer(answers: &mut [u32], i: usize, o: Outcome)
 // commit found of the tables, each accepted one keeps.
 fn answer_commit(
     s: State,
-    image: &mut [u8],
-    map: &mut [u32],
-    places: &mut [u32],
-    numbers: &mut [u32],
-    used: &mut [u8],
+    m: &mut Memory<'_>,
     words: &[u32],
     blocks: &[u32],
     bytes: &[u8],
@@ -90,19 +79,16 @@ fn answer_commit(
     requires i_in_bounds { block + blocks_of words.now i ≤ length blocks.now }
     requires i_in_bounds_2 { byte + bytes_of words.now i ≤ length bytes.now }
     requires answer_words_in_bounds { answer_words * i + answer_words ≤ length answers.old }
-    requires known_agreed { KnownAgreed (ltb 0 i) s (memory image.old map.old places.old numbers.old used.old) }
-    ensures { (after result (memory image.new map.new places.new numbers.new used.new) ≡ commit_made base s (memory image.old map.old places.old numbers.old used.old) (commit_at words.now blocks.now bytes.now i) allowance) × (answers.new ≡ take (answer_words * i) answers.old ++ (answer_of result ++ drop (answer_words * i + answer_words) answers.old)) }
+    requires known_agreed { KnownAgreed (ltb 0 i) s (held m.old) }
+    ensures lent { SameLent m.new m.old }
+    ensures value { (after result (held m.new) ≡ commit_made base s (held m.old) (commit_at words.now blocks.now bytes.now i) allowance) × (answers.new ≡ take (answer_words * i) answers.old ++ (answer_of result ++ drop (answer_words * i + answer_words) answers.old)) }
 {
     let at = COMMIT_WORDS * i;
     let blocks_end = block + words[at + 2] as usize;
     let bytes_end = byte + words[at + 3] as usize;
     let o = make_commit(
         s,
-        image,
-        map,
-        places,
-        numbers,
-        used,
+        m,
         words[at],
         words[at + 1],
         &blocks[block..blocks_end],
@@ -127,14 +113,15 @@ fn answered(s: State, commits: usize, stores: u32, skipped: u32) -> BatchOutcome
     }
 }
 
+// The entries are words, as the type of a slice says: of one that is lent in a struct the check is not told, so this call tells it.
+fn entries_fit(map: &[u32])
+    ensures { (b : ℕ) → at map.now b < 2 ^ 32 }
+{}
+
 // Makes the commits, each with what is left of the allowance.
 fn make_commits(
     s: State,
-    image: &mut [u8],
-    map: &mut [u32],
-    places: &mut [u32],
-    numbers: &mut [u32],
-    used: &mut [u8],
+    m: &mut Memory<'_>,
     words: &[u32],
     blocks: &[u32],
     bytes: &[u8],
@@ -142,7 +129,8 @@ fn make_commits(
     answers: &mut [u32],
 ) -> BatchOutcome
     requires { Lent words.now (length blocks.now) (length bytes.now) (length answers.old) }
-    ensures { batch_left result (memory image.new map.new places.new numbers.new used.new) answers.new ≡ batch_done (commits_made base s (memory image.old map.old places.old numbers.old used.old) (commits_in words.now blocks.now bytes.now) allowance) answers.old }
+    ensures lent { SameLent m.new m.old }
+    ensures value { batch_left result (held m.new) answers.new ≡ batch_done (commits_made base s (held m.old) (commits_in words.now blocks.now bytes.now) allowance) answers.old }
 {
     let commits = words.len() / COMMIT_WORDS;
     let mut state = s;
@@ -151,9 +139,10 @@ fn make_commits(
     let mut block = 0;
     let mut byte = 0;
     for i in 0..commits {
+        let map = &mut *m.map;
+        entries_fit(map);
         let o = answer_commit(
-            state, image, map, places, numbers, used, words, blocks, bytes, i, block, byte, left,
-            answers,
+            state, m, words, blocks, bytes, i, block, byte, left, answers,
         );
         let given = o.answer;
         state = o.state;
@@ -172,29 +161,19 @@ fn make_commits(
 // block numbers and of the bytes are its own; each that is answered gets five words of answers.
 pub fn batch(
     s: State,
-    image: &mut [u8],
-    map: &mut [u32],
-    places: &mut [u32],
-    numbers: &mut [u32],
-    used: &mut [u8],
+    m: &mut Memory<'_>,
     words: &[u32],
     blocks: &[u32],
     bytes: &[u8],
     allowance: u32,
     answers: &mut [u32],
 ) -> BatchOutcome
-    ensures { batch_left result (memory image.new map.new places.new numbers.new used.new) answers.new ≡ batch_of s (memory image.old map.old places.old numbers.old used.old) words.now blocks.now bytes.now allowance answers.old }
+    ensures lent { SameLent m.new m.old }
+    ensures value { batch_left result (held m.new) answers.new ≡ batch_of s (held m.old) words.now blocks.now bytes.now allowance answers.old }
 {
-    let lent = Lengths {
-        image: image.len(),
-        map: map.len(),
-        places: places.len(),
-        numbers: numbers.len(),
-        used: used.len(),
-    };
     let verdict = batch_checks::batch_verdict(
         s,
-        lent,
+        m.lengths(),
         words,
         blocks.len(),
         bytes.len(),
@@ -207,8 +186,6 @@ pub fn batch(
             cost: Cost::stores_alone(0),
             state: s,
         },
-        Ok(()) => make_commits(
-            s, image, map, places, numbers, used, words, blocks, bytes, allowance, answers,
-        ),
+        Ok(()) => make_commits(s, m, words, blocks, bytes, allowance, answers),
     }
 }

@@ -11,6 +11,8 @@ use Rattle.volume.specs.Tables.{Memory, memory}
 use Rattle.volume.specs.Store.{After, after}
 use Rattle.volume.specs.Calls.{ReadAfter}
 use Rattle.batches.specs.Batch.{BatchAfter}
+use Rattle.lending.specs.Lending.{held}
+use Rattle.lending.specs.declared.Memory as lent_memory
 use Rattle.checks.specs.Left.{read_left}
 use Rattle.batch.specs.Batch.{batch_left}
 use Rattle.plain.specs.declared.CState.{CState}
@@ -38,3 +40,19 @@ pub batch_in_numbers_lem : (c : CState) (s : State) (o : BatchOutcome) (m : Memo
     → (call : State → BatchAfter) → batch_left o m answers ≡ call s → batch_handed r m answers ≡ batch_in_numbers c (call (state_of c))
 batch_in_numbers_lem c s o m answers r came gone call e =
     ap (λ (x : CBatchResult). batch_handed x m answers) gone ∙ ap (λ (a : BatchAfter). batch_in_numbers c a) (e ∙ ap call came)
+
+-- What a call leaves in what was lent as one value is what it leaves in the slices.
+module _ (m : lent_memory.Memory) (image map places numbers used : List ℕ) where
+  abbrev pub Left : Type 0
+  Left = (image ≡ m.image.now) × (map ≡ m.map.now) × (places ≡ m.places.now) × (numbers ≡ m.numbers.now) × (used ≡ m.used.now)
+
+  pub call_lent : Left → (c : CState) (s : State) (o : Outcome) (r : CResult) → s ≡ state_of c → r ≡ result_of c o
+      → (call : State → After) → after o (held m) ≡ call s → handed r (memory image map places numbers used) ≡ in_numbers c (call (state_of c))
+  call_lent e c s o r came gone call f =
+      rw (e.0, e.1, e.2, e.3, e.4) (call_in_numbers c s o (held m) r came gone call f)
+
+  pub batch_lent : Left → (c : CState) (s : State) (o : BatchOutcome) (answers : List ℕ) (r : CBatchResult) → s ≡ state_of c → r ≡ batch_result_of c o
+      → (call : State → BatchAfter) → batch_left o (held m) answers ≡ call s
+      → batch_handed r (memory image map places numbers used) answers ≡ batch_in_numbers c (call (state_of c))
+  batch_lent e c s o answers r came gone call f =
+      rw (e.0, e.1, e.2, e.3, e.4) (batch_in_numbers_lem c s o (held m) answers r came gone call f)

@@ -55,9 +55,14 @@ pub extern "C" fn vlog_write(
     ensures { handed result (memory image.new map.new places.new numbers.new used.new) ≡ in_numbers c (write_of (state_of c) (memory image.old map.old places.old numbers.old used.old) head blocks.now bytes.now allowance) }
 {
     let s = plain::state_of(c);
-    let o = write::write(
-        s, image, map, places, numbers, used, head, blocks, bytes, allowance,
-    );
+    let mut m = Memory {
+        image,
+        map,
+        places,
+        numbers,
+        used,
+    };
+    let o = write::write(s, &mut m, head, blocks, bytes, allowance);
     plain::result_of(c, o)
 }
 
@@ -77,9 +82,14 @@ pub extern "C" fn vlog_drop(
     ensures { handed result (memory image.new map.new places.new numbers.new used.new) ≡ in_numbers c (drop_of (state_of c) (memory image.old map.old places.old numbers.old used.old) head blocks.now allowance) }
 {
     let s = plain::state_of(c);
-    let o = write::drop(
-        s, image, map, places, numbers, used, head, blocks, allowance,
-    );
+    let mut m = Memory {
+        image,
+        map,
+        places,
+        numbers,
+        used,
+    };
+    let o = write::drop(s, &mut m, head, blocks, allowance);
     plain::result_of(c, o)
 }
 
@@ -177,8 +187,13 @@ pub extern "C" fn vlog_batch(
     ensures { batch_handed result (memory image.new map.new places.new numbers.new used.new) answers.new ≡ batch_in_numbers c (batch_of (state_of c) (memory image.old map.old places.old numbers.old used.old) commits.now blocks.now bytes.now allowance answers.old) }
 {
     let s = plain::state_of(c);
-    let o = batch::batch(
-        s, image, map, places, numbers, used, commits, blocks, bytes, allowance, answers,
-    );
+    let mut m = Memory {
+        image,
+        map,
+        places,
+        numbers,
+        used,
+    };
+    let o = batch::batch(s, &mut m, commits, blocks, bytes, allowance, answers);
     plain::batch_result_of(c, o)
 }

@@ -41,13 +41,16 @@ fn lend(
     let size = s.geometry;
     let pieces = Geometry::pieces_for(size.l) as usize;
     let commits = g.commits as usize;
+    let mut part = Memory {
+        image: calls::first(m.image, calls::bytes_of(size.n)),
+        map: calls::first(m.map, size.l as usize),
+        places: calls::first(m.places, pieces),
+        numbers: calls::first(m.numbers, pieces),
+        used: calls::first(m.used, size.used_bytes() as usize),
+    };
     batch::batch(
         s,
-        calls::first(m.image, calls::bytes_of(size.n)),
-        calls::first(m.map, size.l as usize),
-        calls::first(m.places, pieces),
-        calls::first(m.numbers, pieces),
-        calls::first(m.used, size.used_bytes() as usize),
+        &mut part,
         tokens::part(words, 0, COMMIT_WORDS * commits),
         tokens::part(blocks, 0, g.blocks),
         tokens::part(bytes, 0, g.bytes),

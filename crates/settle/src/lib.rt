@@ -7,8 +7,10 @@ ghost use Rattle.layout.specs.Bounded.{at, any_below, count_below, updates};
 ghost use Rattle.layout.specs.Entry.{is_empty, sector_of};
 ghost use Rattle.volume.specs.Tables.{bit_at, tables_of, consistent};
 ghost use Rattle.volume.specs.Commit.{committed_tables};
+ghost use Rattle.lending.specs.Lending.{lengths_held, SameLent};
 ghost use Rattle.pieces.specs.Arrays.{flagged, without, plan_of, change_of, Settling};
 
+use lending::Memory;
 use state::State;
 
 // Frees the sector of an entry, if it has one: 0 is the image's word for none.
@@ -58,21 +60,23 @@ fn use_places(used: &mut [u8], taken: &[u32])
 }
 
 // Frees what the commit supersedes, and then marks what it took: a sector may be both.
-fn change_used(
-    used: &mut [u8],
-    map: &[u32],
-    places: &[u32],
-    blocks: &[u32],
-    taken: &[u32],
-    written: &[bool],
-)
-    requires by_index { (i : ℕ) → i < length blocks.now → at blocks.now i < length map.now }
-    requires by_index_2 { (b : ℕ) → b < length map.now → is_empty (at map.now b) ≡ false → sector_of (at map.now b) < 8 * length used.old }
-    requires places_in_bounds { length places.now ≤ length written.now }
-    requires by_index_3 { (p : ℕ) → p < length places.now → at places.now p < 8 * length used.old }
-    requires by_index_4 { (i : ℕ) → i < length taken.now → at taken.now i < 8 * length used.old }
-    ensures { bit_at used.new ≡ (λ k. without (without (bit_at used.old) (λ i. not (is_empty (at map.now (at blocks.now i)))) (λ i. sector_of (at map.now (at blocks.now i))) (length blocks.now)) (flagged written.now) (at places.now) (length places.now) k || any_below (λ i. eqb k (at taken.now i)) (length taken.now)) }
+fn change_used(m: &mut Memory<'_>, blocks: &[u32], taken: &[u32], written: &[bool])
+    requires by_index { (i : ℕ) → i < length blocks.now → at blocks.now i < length m.old.map.now }
+    requires by_index_2 { (b : ℕ) → b < length m.old.map.now → is_empty (at m.old.map.now b) ≡ false → sector_of (at m.old.map.now b) < 8 * length m.old.used.now }
+    requires places_in_bounds { length m.old.places.now ≤ length written.now }
+    requires by_index_3 { (p : ℕ) → p < length m.old.places.now → at m.old.places.now p < 8 * length m.old.used.now }
+    requires by_index_4 { (i : ℕ) → i < length taken.now → at taken.now i < 8 * length m.old.used.now }
+    ensures lent { SameLent m.new m.old }
+    ensures image { m.new.image.now ≡ m.old.image.now }
+    ensures map { m.new.map.now ≡ m.old.map.now }
+    ensures places { m.new.places.now ≡ m.old.places.now }
+    ensures numbers { m.new.numbers.now ≡ m.old.numbers.now }
+    ensures used_len { length m.new.used.now ≡ length m.old.used.now }
+    ensures used { bit_at m.new.used.now ≡ (λ k. without (without (bit_at m.old.used.now) (λ i. not (is_empty (at m.old.map.now (at blocks.now i)))) (λ i. sector_of (at m.old.map.now (at blocks.now i))) (length blocks.now)) (flagged written.now) (at m.old.places.now) (length m.old.places.now) k || any_below (λ i. eqb k (at taken.now i)) (length taken.now)) }
 {
+    let map = &mut *m.map;
+    let places = &mut *m.places;
+    let used = &mut *m.used;
     free_blocks(used, map, blocks);
     free_places(used, places, written);
     use_places(used, taken);
@@ -121,10 +125,7 @@ fn change_live(
 // All tables, after a whole commit.
 pub fn settle(
     s: State,
-    map: &mut [u32],
-    places: &mut [u32],
-    numbers: &mut [u32],
-    used: &mut [u8],
+    m: &mut Memory<'_>,
     blocks: &[u32],
     news: &[u32],
     taken: &[u32],
@@ -132,15 +133,18 @@ pub fn settle(
     written: &[bool],
 )
     requires geometry_value { geometry_fits s.geometry ≡ true }
-    requires map_len { length map.old ≡ s.geometry.l }
-    requires places_len { length places.old ≡ pieces_for s.geometry.l }
-    requires numbers_len { length numbers.old ≡ pieces_for s.geometry.l }
-    requires used_len { length used.old ≡ used_bytes s.geometry.n }
-    requires number_value { consistent s.geometry (tables_of map.old places.old numbers.old used.old) s.tail s.number ≡ true }
+    requires map_len { length m.old.map.now ≡ s.geometry.l }
+    requires places_len { length m.old.places.now ≡ pieces_for s.geometry.l }
+    requires numbers_len { length m.old.numbers.now ≡ pieces_for s.geometry.l }
+    requires used_len { length m.old.used.now ≡ used_bytes s.geometry.n }
+    requires number_value { consistent s.geometry (tables_of m.old.map.now m.old.places.now m.old.numbers.now m.old.used.now) s.tail s.number ≡ true }
     requires settling { Settling s.geometry s.number blocks.now news.now taken.now count written.now }
-    ensures { tables_of map.new places.new numbers.new used.new ≡ committed_tables s (tables_of map.old places.old numbers.old used.old) (plan_of [] written.now 0 count taken.now 0) (change_of blocks.now news.now count) }
+    ensures lent { SameLent m.new m.old }
+    ensures image { m.new.image.now ≡ m.old.image.now }
+    ensures lengths { lengths_held m.new ≡ lengths_held m.old }
+    ensures value { tables_of m.new.map.now m.new.places.now m.new.numbers.now m.new.used.now ≡ committed_tables s (tables_of m.old.map.now m.old.places.now m.old.numbers.now m.old.used.now) (plan_of [] written.now 0 count taken.now 0) (change_of blocks.now news.now count) }
 {
-    change_used(used, map, places, blocks, taken, written);
-    change_map(map, blocks, news);
-    change_live(places, numbers, written, taken, count, s.number);
+    change_used(m, blocks, taken, written);
+    change_map(m.map, blocks, news);
+    change_live(m.places, m.numbers, written, taken, count, s.number);
 }

@@ -40,10 +40,26 @@ pub fn perform(
             };
             format::format(s, &mut m, settings, stores)
         }
-        Storing::Write => write::write(
-            s, image, map, places, numbers, used, head, blocks, bytes, stores,
-        ),
-        Storing::Drop => write::drop(s, image, map, places, numbers, used, head, blocks, stores),
+        Storing::Write => {
+            let mut m = Memory {
+                image,
+                map,
+                places,
+                numbers,
+                used,
+            };
+            write::write(s, &mut m, head, blocks, bytes, stores)
+        }
+        Storing::Drop => {
+            let mut m = Memory {
+                image,
+                map,
+                places,
+                numbers,
+                used,
+            };
+            write::drop(s, &mut m, head, blocks, stores)
+        }
         Storing::Park => park::park(
             s,
             image,

@@ -18,13 +18,16 @@ fn lend(
     let w = trial_lent::length(b, board::COMMITS_LENGTH, commits.len());
     let c = trial_lent::length(b, board::BACKLOG_COUNT, blocks.len());
     let d = trial_lent::length(b, board::BACKLOG_BYTES, bytes.len());
+    let mut part = Memory {
+        image: trial_lent::part_in(m.image, b, board::IMAGE_LENGTH),
+        map: trial_lent::part_in(m.map, b, board::MAP_LENGTH),
+        places: trial_lent::part_in(m.places, b, board::PLACES_LENGTH),
+        numbers: trial_lent::part_in(m.numbers, b, board::NUMBERS_LENGTH),
+        used: trial_lent::part_in(m.used, b, board::USED_LENGTH),
+    };
     batch::batch(
         trial_lent::state_of(b),
-        trial_lent::part_in(m.image, b, board::IMAGE_LENGTH),
-        trial_lent::part_in(m.map, b, board::MAP_LENGTH),
-        trial_lent::part_in(m.places, b, board::PLACES_LENGTH),
-        trial_lent::part_in(m.numbers, b, board::NUMBERS_LENGTH),
-        trial_lent::part_in(m.used, b, board::USED_LENGTH),
+        &mut part,
         tokens::part(commits, 0, w),
         tokens::part(blocks, 0, c),
         tokens::part(bytes, 0, d),

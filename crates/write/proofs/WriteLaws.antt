@@ -112,3 +112,12 @@ drop_single s m head blocks allowance r e = e
 pub fit_judged : (s : State) (m : Memory) (head : ℕ) (blocks : List ℕ) (v : Result ⊤ Refusal) (fit fit' room : Bool)
     → v ≡ judged (commit_checks base s m head blocks fit room) → fit ≡ fit' → v ≡ judged (commit_checks base s m head blocks fit' room)
 fit_judged s m head blocks v fit fit' room e f = e ∙ ap (λ (b : Bool). judged (commit_checks base s m head blocks b room)) f
+
+-- What is looked at is what is lent.
+pub lent_judged : (s : State) (im mp pl nu us im' mp' pl' nu' us' : List ℕ) (head : ℕ) (blocks : List ℕ) (fit : Bool) (count : ℕ) (v : Result ⊤ Refusal)
+    → memory im' mp' pl' nu' us' ≡ memory im mp pl nu us
+    → v ≡ judged (commit_checks base s (memory im' mp' pl' nu' us') head blocks fit (not (ltb (free_sectors s.geometry.n (bit_at us')) (count + pieces_for s.geometry.l))))
+    → v ≡ judged (commit_checks base s (memory im mp pl nu us) head blocks fit (not (ltb (free_sectors s.geometry.n (bit_at us)) (count + pieces_for s.geometry.l))))
+unfolding memory
+lent_judged s im mp pl nu us im' mp' pl' nu' us' head blocks fit count v e f =
+    f ∙ ap (λ (m : Memory). judged (commit_checks base s m head blocks fit (not (ltb (free_sectors s.geometry.n m.tables.is_used) (count + pieces_for s.geometry.l))))) e

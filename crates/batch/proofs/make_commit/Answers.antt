@@ -4,14 +4,14 @@ use native.Mathlib.Omega.{arith}
 use Rattle.batch.proofs.Commits.{made_write, made_drop, made_neither}
 use Rattle.batch.proofs.make_commit.Goals as goal
 
-pub returns-in-0 : goal.returns-in-0
-returns-in-0 c =
-    made_write _ _ _ _ _ _ _ c.in-0.is _ c.write_commit.ensures
+pub returns-in-0-clause-value : goal.returns-in-0-clause-value
+returns-in-0-clause-value c =
+    made_write _ _ _ _ _ _ _ c.in-0.is _ c.write_commit.ensures.value
 
-pub returns-in-1 : goal.returns-in-1
-returns-in-1 c =
-    made_drop _ _ _ _ _ _ _ (λ (e : c.args.kind ≡ 0). omega arith) c.in-1.is _ (rw c.is_empty-fit.ensures at c.drop_commit.ensures)
+pub returns-in-1-clause-value : goal.returns-in-1-clause-value
+returns-in-1-clause-value c =
+    made_drop _ _ _ _ _ _ _ (λ (e : c.args.kind ≡ 0). omega arith) c.in-1.is _ (rw c.is_empty-fit.ensures at c.drop_commit.ensures.value)
 
-pub returns-in_default : goal.returns-in_default
-returns-in_default c =
+pub returns-in_default-clause-value : goal.returns-in_default-clause-value
+returns-in_default-clause-value c =
     made_neither _ _ _ _ _ _ _ (λ (e : c.args.kind ≡ 0). omega arith) (λ (e : c.args.kind ≡ 1). omega arith)

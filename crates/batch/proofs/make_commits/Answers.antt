@@ -2,7 +2,7 @@
 use Prim.Native.Nat.{ℕ, ◌+◌, ◌*◌, ◌-◌}
 use mathlib.Core.Path.{refl, sym, ◌∙◌, ap}
 use native.Mathlib.Omega.{arith}
-use Rattle.volume.specs.Tables.{memory}
+use Rattle.lending.specs.Lending.{held}
 use Rattle.batches.specs.Batch.{blocks_of, bytes_of}
 use Rattle.batch.specs.Batch.{batch_left}
 use Rattle.batch.proofs.Commits.{part_inside, sum_fits, lent_keeps}
@@ -11,29 +11,29 @@ use Rattle.batch.proofs.make_commits.Goals as goal
 
 pub loop-i-init : goal.loop-i-init
 loop-i-init c =
-    (refl, refl, refl, refl, refl, refl, (λ b. (c.type_inv.map b).fits), making_starts _ _ _ _ _ _ _)
+    (record { image = refl; map = refl; places = refl; numbers = refl; used = refl }, refl, making_starts _ _ _ _ _ _ _)
 
 pub answer_commit-o-requires : goal.answer_commit-o-requires
 answer_commit-o-requires c =
-    let named = part_inside (blocks_of c.args.words.now) c.loop-i.i _ c.loop-i.block _ c.loop-i.invariant.7.block_is c.requires.named c.loop-i-test.true in
-    let brought = part_inside (bytes_of c.args.words.now) c.loop-i.i _ c.loop-i.byte _ c.loop-i.invariant.7.byte_is c.requires.brought c.loop-i-test.true in record {
+    let named = part_inside (blocks_of c.args.words.now) c.loop-i.i _ c.loop-i.block _ c.loop-i.invariant.2.block_is c.requires.named c.loop-i-test.true in
+    let brought = part_inside (bytes_of c.args.words.now) c.loop-i.i _ c.loop-i.byte _ c.loop-i.invariant.2.byte_is c.requires.brought c.loop-i-test.true in record {
       commit_words_in_bounds = omega arith;
-      block_value = c.loop-i.invariant.7.block_is;
-      byte_value = c.loop-i.invariant.7.byte_is;
+      block_value = c.loop-i.invariant.2.block_is;
+      byte_value = c.loop-i.invariant.2.byte_is;
       i_in_bounds = named;
       i_in_bounds_2 = brought;
       answer_words_in_bounds = omega arith;
-      known_agreed = c.loop-i.invariant.7.agree;
+      known_agreed = c.loop-i.invariant.2.agree;
     }
 
 pub overflow_sub-left : goal.overflow_sub-left
 overflow_sub-left c =
-    let h = within_left _ _ _ _ _ _ _ c.loop-i.i _ _ _ _ _ _ _ c.loop-i.invariant.7 c.loop-i-test.true _ _ c.answer_commit-o.ensures.0 _ c.answer_commit-o.ensures.1 in
+    let h = within_left _ _ _ _ _ _ _ c.loop-i.i _ _ _ _ _ _ _ c.loop-i.invariant.2 c.loop-i-test.true _ _ c.answer_commit-o.ensures.value.0 _ c.answer_commit-o.ensures.value.1 in
     omega arith
 
 pub overflow_add-skipped : goal.overflow_add-skipped
 overflow_add-skipped c =
-    let h = skipped_fits _ _ _ _ _ _ _ c.loop-i.i _ _ _ _ _ _ _ c.loop-i.invariant.7 c.loop-i-test.true _ _ c.answer_commit-o.ensures.0 _ c.answer_commit-o.ensures.1 in
+    let h = skipped_fits _ _ _ _ _ _ _ c.loop-i.i _ _ _ _ _ _ _ c.loop-i.invariant.2 c.loop-i-test.true _ _ c.answer_commit-o.ensures.value.0 _ c.answer_commit-o.ensures.value.1 in
     omega arith
 
 pub overflow_cast-block : goal.overflow_cast-block
@@ -58,78 +58,33 @@ overflow_add-byte-in-loop-i c =
     let own = (c.type_inv.words (4 * c.loop-i.i + 3)).fits in
     omega arith
 
-pub shape_of-image-then-number-ne0 : goal.shape_of-image-then-number-ne0
-shape_of-image-then-number-ne0 c =
-    c.answer_commit-o.auto.image ∙ c.loop-i.invariant.0
-
-pub shape_of-map-then-number-ne0 : goal.shape_of-map-then-number-ne0
-shape_of-map-then-number-ne0 c =
-    c.answer_commit-o.auto.map ∙ c.loop-i.invariant.1
-
-pub shape_of-places-then-number-ne0 : goal.shape_of-places-then-number-ne0
-shape_of-places-then-number-ne0 c =
-    c.answer_commit-o.auto.places ∙ c.loop-i.invariant.2
-
-pub shape_of-numbers-then-number-ne0 : goal.shape_of-numbers-then-number-ne0
-shape_of-numbers-then-number-ne0 c =
-    c.answer_commit-o.auto.numbers ∙ c.loop-i.invariant.3
-
-pub shape_of-used-then-number-ne0 : goal.shape_of-used-then-number-ne0
-shape_of-used-then-number-ne0 c =
-    c.answer_commit-o.auto.used ∙ c.loop-i.invariant.4
-
 pub shape_of-answers-then-number-ne0 : goal.shape_of-answers-then-number-ne0
 shape_of-answers-then-number-ne0 c =
-    c.answer_commit-o.auto.answers ∙ c.loop-i.invariant.5
+    c.answer_commit-o.auto.answers ∙ c.loop-i.invariant.1
 
-pub returns-then-number-ne0 : goal.returns-then-number-ne0
-returns-then-number-ne0 c =
-    let left = within_left _ _ _ _ _ _ _ c.loop-i.i _ _ _ _ _ _ _ c.loop-i.invariant.7 c.loop-i-test.true _ _ c.answer_commit-o.ensures.0 _ c.answer_commit-o.ensures.1 in
-    ap (λ x. batch_left x (memory c.answer_commit-o.new.image c.answer_commit-o.new.map c.answer_commit-o.new.places c.answer_commit-o.new.numbers c.answer_commit-o.new.used) c.answer_commit-o.new.answers) c.answered.ensures
-    ∙ making_stops _ _ _ _ _ _ _ c.loop-i.i _ _ c.loop-i.left c.loop-i.skipped _ _ _ c.loop-i.invariant.7 c.loop-i-test.true _ _ c.answer_commit-o.ensures.0 _ c.answer_commit-o.ensures.1 (c.loop-i.left - c.stores-left.result) _ (omega arith)
+pub returns-then-number-ne0-clause-value : goal.returns-then-number-ne0-clause-value
+returns-then-number-ne0-clause-value c =
+    let left = within_left _ _ _ _ _ _ _ c.loop-i.i _ _ _ _ _ _ _ c.loop-i.invariant.2 c.loop-i-test.true _ _ c.answer_commit-o.ensures.value.0 _ c.answer_commit-o.ensures.value.1 in
+    ap (λ x. batch_left x (held c.answer_commit-o.new.m) c.answer_commit-o.new.answers) c.answered.ensures
+    ∙ making_stops _ _ _ _ _ _ _ c.loop-i.i _ _ c.loop-i.left c.loop-i.skipped _ _ _ c.loop-i.invariant.2 c.loop-i-test.true _ _ c.answer_commit-o.ensures.value.0 _ c.answer_commit-o.ensures.value.1 (c.loop-i.left - c.stores-left.result) _ (omega arith)
     (ap (λ (x : ℕ). c.loop-i.skipped + x) c.skipped-skipped.ensures) (λ e. c.if-number-ne0.true (c.number.ensures ∙ e)) (c.loop-i.i + 1) _ refl (omega arith)
 
 pub loop-i-preserved : goal.loop-i-preserved
 loop-i-preserved c =
-    let left = within_left _ _ _ _ _ _ _ c.loop-i.i _ _ _ _ _ _ _ c.loop-i.invariant.7 c.loop-i-test.true _ _ c.answer_commit-o.ensures.0 _ c.answer_commit-o.ensures.1 in
+    let left = within_left _ _ _ _ _ _ _ c.loop-i.i _ _ _ _ _ _ _ c.loop-i.invariant.2 c.loop-i-test.true _ _ c.answer_commit-o.ensures.value.0 _ c.answer_commit-o.ensures.value.1 in
     let ok = sym c.number.ensures ∙ c.if-number-ne0.false in
-    let kept = lent_keeps _ _ _ _ _ _ _ _ c.loop-i.invariant.6 _ c.answer_commit-o.ensures.0 ok in (
-      c.answer_commit-o.auto.image ∙ c.loop-i.invariant.0,
-      c.answer_commit-o.auto.map ∙ c.loop-i.invariant.1,
-      c.answer_commit-o.auto.places ∙ c.loop-i.invariant.2,
-      c.answer_commit-o.auto.numbers ∙ c.loop-i.invariant.3,
-      c.answer_commit-o.auto.used ∙ c.loop-i.invariant.4,
-      c.answer_commit-o.auto.answers ∙ c.loop-i.invariant.5,
-      (λ b. (c.type_inv.map b).fits),
-      making_more _ _ _ _ _ _ _ c.loop-i.i _ _ c.loop-i.left c.loop-i.skipped _ _ _ c.loop-i.invariant.7 c.loop-i-test.true _ _ c.answer_commit-o.ensures.0 _ c.answer_commit-o.ensures.1 (c.loop-i.left - c.stores-left.result) _ (omega arith)
+    let kept = lent_keeps _ _ _ _ _ _ _ _ c.entries_fit.ensures _ c.answer_commit-o.ensures.value.0 ok in (
+      record { image = c.answer_commit-o.ensures.lent.image ∙ c.loop-i.invariant.0.image; map = c.answer_commit-o.ensures.lent.map ∙ c.loop-i.invariant.0.map; places = c.answer_commit-o.ensures.lent.places ∙ c.loop-i.invariant.0.places; numbers = c.answer_commit-o.ensures.lent.numbers ∙ c.loop-i.invariant.0.numbers; used = c.answer_commit-o.ensures.lent.used ∙ c.loop-i.invariant.0.used },
+      c.answer_commit-o.auto.answers ∙ c.loop-i.invariant.1,
+      making_more _ _ _ _ _ _ _ c.loop-i.i _ _ c.loop-i.left c.loop-i.skipped _ _ _ c.loop-i.invariant.2 c.loop-i-test.true _ _ c.answer_commit-o.ensures.value.0 _ c.answer_commit-o.ensures.value.1 (c.loop-i.left - c.stores-left.result) _ (omega arith)
           (ap (λ (x : ℕ). c.loop-i.skipped + x) c.skipped-skipped.ensures) ok (λ e. kept.agree) _ _ refl refl,
     )
 
-pub shape_of-image : goal.shape_of-image
-shape_of-image c =
-    c.loop-i.invariant.0
-
-pub shape_of-map : goal.shape_of-map
-shape_of-map c =
-    c.loop-i.invariant.1
-
-pub shape_of-places : goal.shape_of-places
-shape_of-places c =
-    c.loop-i.invariant.2
-
-pub shape_of-numbers : goal.shape_of-numbers
-shape_of-numbers c =
-    c.loop-i.invariant.3
-
-pub shape_of-used : goal.shape_of-used
-shape_of-used c =
-    c.loop-i.invariant.4
-
 pub shape_of-answers : goal.shape_of-answers
 shape_of-answers c =
-    c.loop-i.invariant.5
+    c.loop-i.invariant.1
 
-pub returns : goal.returns
-returns c =
-    ap (λ x. batch_left x (memory c.loop-i.image c.loop-i.map c.loop-i.places c.loop-i.numbers c.loop-i.used) c.loop-i.answers) c.answered-2.ensures
-    ∙ making_ends _ _ _ _ _ _ _ c.loop-i.i _ _ c.loop-i.left c.loop-i.skipped _ _ _ c.loop-i.invariant.7 c.loop-i-test.false _ _ (omega arith) (omega arith)
+pub returns-clause-value : goal.returns-clause-value
+returns-clause-value c =
+    ap (λ x. batch_left x (held c.loop-i.m) c.loop-i.answers) c.answered-2.ensures
+    ∙ making_ends _ _ _ _ _ _ _ c.loop-i.i _ _ c.loop-i.left c.loop-i.skipped _ _ _ c.loop-i.invariant.2 c.loop-i-test.false _ _ (omega arith) (omega arith)

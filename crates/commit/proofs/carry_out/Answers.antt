@@ -1,6 +1,7 @@
 -- The stores end in a cut or are whole; the tables follow.
-use mathlib.Core.Path.{refl, sym, ◌∙◌}
+use mathlib.Core.Path.{refl, sym, ◌∙◌, ap}
 use native.Mathlib.Omega.{arith}
+use Rattle.lending.specs.declared.Lengths.{Lengths}
 use Rattle.laws.proofs.Sizes.{fits}
 use Rattle.power.proofs.Runs.{left_enough}
 use Rattle.commit.proofs.CommitLaws.{carried_cut, carried_whole}
@@ -45,16 +46,16 @@ finish-requires c = record {
   settling = c.requires.settling;
 }
 
-pub returns-in-None : goal.returns-in-None
-returns-in-None c =
-    carried_cut c.args.s c.args.allowance c.args.image.now c.args.map.now c.args.places.now c.args.numbers.now c.args.used.now _ c.args.blocks.now
+pub returns-in-None-clause-value : goal.returns-in-None-clause-value
+returns-in-None-clause-value c =
+    carried_cut c.args.s c.args.allowance c.args.m.now.image.now c.args.m.now.map.now c.args.m.now.places.now c.args.m.now.numbers.now c.args.m.now.used.now _ c.args.blocks.now
     c.args.bytes.now c.args.news.now c.args.taken.now c.args.branches.now c.args.written.now c.args.count c.args.members c.args.skipped c.store-power.auto.image
     c.store-power.ensures.1 _ c.cut.result refl c.cut.ensures
     (sym c.in-None.is ∙ c.store-power.ensures.0)
 
-pub returns-in-Some : goal.returns-in-Some
-returns-in-Some c =
-    carried_whole c.args.s c.args.allowance c.args.image.now c.args.map.now c.args.places.now c.args.numbers.now c.args.used.now _ c.args.blocks.now
+pub returns-in-Some-clause-value : goal.returns-in-Some-clause-value
+returns-in-Some-clause-value c =
+    rw c.finish.ensures.image (carried_whole c.args.s c.args.allowance c.args.m.now.image.now c.args.m.now.map.now c.args.m.now.places.now c.args.m.now.numbers.now c.args.m.now.used.now _ c.args.blocks.now
     c.args.bytes.now c.args.news.now c.args.taken.now c.args.branches.now c.args.written.now c.args.count c.args.members c.args.skipped c.store-power.auto.image
-    c.store-power.ensures.1 _ _ _ _ c.finish.result _ c.finish.auto.map c.finish.auto.places c.finish.auto.numbers c.finish.auto.used
-    c.requires.settling c.requires.members_value c.requires.le_members (sym c.in-Some.is ∙ c.store-power.ensures.0) c.finish.ensures
+    c.store-power.ensures.1 _ _ _ _ c.finish.result _ (ap (λ (x : Lengths). x.map) c.finish.ensures.lengths) (ap (λ (x : Lengths). x.places) c.finish.ensures.lengths) (ap (λ (x : Lengths). x.numbers) c.finish.ensures.lengths) (ap (λ (x : Lengths). x.used) c.finish.ensures.lengths)
+    c.requires.settling c.requires.members_value c.requires.le_members (sym c.in-Some.is ∙ c.store-power.ensures.0) c.finish.ensures.value)

@@ -2,7 +2,7 @@
 use mathlib.Core.Path.{refl, sym, ◌∙◌}
 use native.Mathlib.Omega.{arith}
 use lib.Seq.{length-take-le}
-use Rattle.volume.specs.Tables.{memory}
+use Rattle.lending.specs.Lending.{held}
 use Rattle.verdict.proofs.CommitChecks.{passed}
 use Rattle.commit.proofs.CommitPlan.{few_blocks, some_members, total_few, ts_word, ts_enough, ts_all, settling, members_counted, commit_done}
 use Rattle.commit.proofs.commit.Goals as goal
@@ -73,8 +73,8 @@ carry_out-requires c =
       bytes_len = c.requires.bytes_len;
     }
 
-pub returns : goal.returns
-returns c =
-    c.carry_out.ensures
+pub returns-clause-value : goal.returns-clause-value
+returns-clause-value c =
+    c.carry_out.ensures.value
     ∙ commit_done _ _ _ _ _ _ _ _ _ c.requires.value c.requires.fact _ _ _ _ _ _ _ _ c.plan-planned.ensures refl _ _ c.entries_for.ensures
-    (memory c.args.image.now c.args.map.now c.args.places.now c.args.numbers.now c.args.used.now)
+    (held c.args.m.now)

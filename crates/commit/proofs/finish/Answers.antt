@@ -12,6 +12,6 @@ pub overflow_add-number : goal.overflow_add-number
 overflow_add-number c =
     omega arith
 
-pub returns : goal.returns
-returns c =
-    (refl, tail_is c.args.s _ _ _ _ c.committed.ensures c.last_of-tail.ensures, c.settle.ensures)
+pub returns-clause-value : goal.returns-clause-value
+returns-clause-value c =
+    (refl, tail_is c.args.s _ _ _ _ c.committed.ensures c.last_of-tail.ensures, c.settle.ensures.value)

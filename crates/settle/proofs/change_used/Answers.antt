@@ -13,6 +13,6 @@ pub use_places-requires : goal.use_places-requires
 use_places-requires c =
     bits_kept _ _ _ _ (c.free_places.auto.used ∙ c.free_blocks.auto.used) c.requires.by_index_4
 
-pub returns : goal.returns
-returns c =
+pub returns-clause-used : goal.returns-clause-used
+returns-clause-used c =
     used_steps _ _ _ _ _ _ _ _ _ _ _ _ c.free_blocks.ensures c.free_places.ensures c.use_places.ensures

@@ -7,6 +7,6 @@ use Rattle.write.proofs.drop.Goals as goal
 pub drop_commit-requires : goal.drop_commit-requires
 drop_commit-requires c z = absurd (true≢false (sym z))
 
-pub returns : goal.returns
-returns c =
-    drop_single _ _ _ _ _ _ c.drop_commit.ensures
+pub returns-clause-value : goal.returns-clause-value
+returns-clause-value c =
+    drop_single _ _ _ _ _ _ c.drop_commit.ensures.value

@@ -7,15 +7,15 @@ use Rattle.write.proofs.drop_commit.Goals as goal
 
 pub commit-requires : goal.commit-requires
 commit-requires c = record {
-  value = drop_passed _ _ _ _ _ _ _ _ 0 _ (sym c.in-Ok.is ∙ c.commit_verdict-verdict.ensures);
+  value = drop_passed _ _ _ _ _ _ _ _ 0 _ (sym c.in-Ok.is ∙ c.lent_verdict-verdict.ensures);
   fact = inl refl;
   bytes_len = refl;
 }
 
-pub returns-in-Err : goal.returns-in-Err
-returns-in-Err c =
-    drop_refused _ _ _ _ _ _ _ _ _ _ _ (sym c.in-Err.is ∙ c.commit_verdict-verdict.ensures)
+pub returns-in-Err-clause-value : goal.returns-in-Err-clause-value
+returns-in-Err-clause-value c =
+    drop_refused _ _ _ _ _ _ _ _ _ _ _ (sym c.in-Err.is ∙ c.lent_verdict-verdict.ensures)
 
-pub returns-in-Ok : goal.returns-in-Ok
-returns-in-Ok c =
-    drop_done _ _ _ _ _ _ _ _ _ _ [] _ (sym c.in-Ok.is ∙ c.commit_verdict-verdict.ensures) c.commit.ensures
+pub returns-in-Ok-clause-value : goal.returns-in-Ok-clause-value
+returns-in-Ok-clause-value c =
+    drop_done _ _ _ _ _ _ _ _ _ _ [] _ (sym c.in-Ok.is ∙ c.lent_verdict-verdict.ensures) c.commit.ensures.value

@@ -4,4 +4,4 @@ use Rattle.write.proofs.write_verdict.Goals as goal
 
 pub returns : goal.returns
 returns c =
-    fit_judged _ _ _ _ _ _ _ _ c.commit_verdict.ensures c.bytes_fit-fit.ensures
+    fit_judged _ _ _ _ _ _ _ _ c.lent_verdict.ensures c.bytes_fit-fit.ensures
