@@ -113,7 +113,7 @@ fn answered(s: State, commits: usize, stores: u32, skipped: u32) -> BatchOutcome
     }
 }
 
-// The entries are words, as the type of a slice says: of one that is lent in a struct the check is not told, so this call tells it.
+// Says of entries that are lent in a struct what their type says: each is a word of 32 bits. It does nothing.
 fn entries_fit(map: &[u32])
     ensures { (b : ℕ) → at map.now b < 2 ^ 32 }
 {}

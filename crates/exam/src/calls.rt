@@ -151,11 +151,7 @@ fn perform(
             let done = storing_calls::perform(
                 storing(call),
                 s,
-                m.image,
-                m.map,
-                m.places,
-                m.numbers,
-                m.used,
+                m,
                 size.settings(drive),
                 r.first,
                 blocks,

@@ -12,8 +12,8 @@ use lending::Memory;
 use line_reader::Reader;
 use std::io::{Print, Read};
 
-// The arrays come from the caller: of one that is lent as a slice where it is made the check would count the elements.
-// The lines of a paper, one after the other. Nothing says that a paper ends, so they are counted up to a number that no run reaches.
+// The lines of a paper, one after the other. Nothing says that a paper ends, so they are counted up to a number that no run reaches. The
+// arrays come from the caller: of one that is lent as a slice where it is made the check would count the elements.
 fn answer_lines(
     rt: &impl Print,
     input: &mut impl Read,

@@ -1,6 +1,8 @@
 // The calls that may store, by name: programs choose one here, and pass on what it is lent.
 #![tactic(auto)]
 
+ghost use Rattle.lending.specs.Lending.{SameLent};
+
 use geometry::Settings;
 use lending::{Memory, Tables};
 use state::{Outcome, State};
@@ -18,68 +20,33 @@ pub enum Storing {
 pub fn perform(
     call: Storing,
     s: State,
-    image: &mut [u8],
-    map: &mut [u32],
-    places: &mut [u32],
-    numbers: &mut [u32],
-    used: &mut [u8],
+    m: &mut Memory<'_>,
     settings: Settings,
     head: u32,
     blocks: &[u32],
     bytes: &[u8],
     stores: u32,
-) -> Outcome {
+) -> Outcome
+    ensures { SameLent m.new m.old }
+{
     match call {
-        Storing::Format => {
-            let mut m = Memory {
-                image,
+        Storing::Format => format::format(s, m, settings, stores),
+        Storing::Write => write::write(s, m, head, blocks, bytes, stores),
+        Storing::Drop => write::drop(s, m, head, blocks, stores),
+        Storing::Park => {
+            let image = &mut *m.image;
+            let map = &mut *m.map;
+            let places = &mut *m.places;
+            let numbers = &mut *m.numbers;
+            let used = &mut *m.used;
+            let tables = Tables {
                 map,
                 places,
                 numbers,
                 used,
             };
-            format::format(s, &mut m, settings, stores)
+            park::park(s, image, &tables, stores)
         }
-        Storing::Write => {
-            let mut m = Memory {
-                image,
-                map,
-                places,
-                numbers,
-                used,
-            };
-            write::write(s, &mut m, head, blocks, bytes, stores)
-        }
-        Storing::Drop => {
-            let mut m = Memory {
-                image,
-                map,
-                places,
-                numbers,
-                used,
-            };
-            write::drop(s, &mut m, head, blocks, stores)
-        }
-        Storing::Park => park::park(
-            s,
-            image,
-            &Tables {
-                map,
-                places,
-                numbers,
-                used,
-            },
-            stores,
-        ),
-        Storing::Recover => {
-            let mut m = Memory {
-                image,
-                map,
-                places,
-                numbers,
-                used,
-            };
-            recover::recover(s, &mut m, settings, stores)
-        }
+        Storing::Recover => recover::recover(s, m, settings, stores),
     }
 }

@@ -34,11 +34,7 @@ fn call(b: &[u32; board::SIZE], m: &mut Memory<'_>, blocks: &[u32], bytes: &mut 
         other => storing_calls::perform(
             storing(other),
             s,
-            m.image,
-            m.map,
-            m.places,
-            m.numbers,
-            m.used,
+            m,
             trial_lent::settings_of(b),
             cells::get(b, board::HEAD),
             blocks,

@@ -15,7 +15,7 @@ use answer::{Answer, Refusal};
 use lending::Memory;
 use state::{Outcome, State};
 
-// The refusals of a commit of so many data sectors; fit says whether its bytes are those of the named blocks.
+// The refusals of a commit of so many data sectors; fit says that it was lent the bytes that it needs, a drop none.
 fn lent_verdict(
     s: State,
     m: &Memory<'_>,
