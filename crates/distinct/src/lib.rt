@@ -88,7 +88,8 @@ fn link(xs: &[u32], heads: &mut [u32], next: &mut [u16])
     }
 }
 
-// Whether the numbers of group g are all different. Earlier groups left lower stamps, so the table is not cleared between groups.
+// Whether the numbers of group g are all different. Earlier groups left lower stamps, so the table is not cleared between groups. A chain is
+// followed to its end: no index is counted.
 fn chain_distinct(xs: &[u32], next: &[u16], stamps: &mut [u16], head: u32, g: u16) -> bool
     requires g_lt_groups { g < groups }
     requires xs_in_bounds { length xs.now ≤ length next.now }

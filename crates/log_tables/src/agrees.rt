@@ -44,7 +44,8 @@ fn mark_used(g: Geometry, map: &[u32], places: &[u32], used: &mut [u8]) -> bool
     soundness::once_with_room(g, count, free)
 }
 
-// Marks the sectors that the tables name in the used map, and says whether the tables are then sound.
+// Marks the sectors that the tables name in the used map, and says whether the tables are then sound. They go one by one, since the used map
+// alone is filled: as one value the others would need clauses that they stay.
 pub fn log_agrees(
     g: Geometry,
     map: &[u32],

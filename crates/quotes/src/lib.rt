@@ -5,7 +5,8 @@ use answer::{Cost, Refusal};
 use geometry::Geometry;
 
 // The refusal of the commit; or what it would cost, the sectors that it would take, in the order of its stores, the branches that its
-// first member would list, and whether it would fold. There are as many sectors as stores; what is past the counts is zeros.
+// first member would list, and whether it would fold, which goes with any of them. There are as many sectors as stores; what is past the
+// counts is zeros.
 #[derive(Clone, Copy)]
 pub struct Quote {
     pub verdict: Result<(), Refusal>,

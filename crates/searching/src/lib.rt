@@ -48,7 +48,8 @@ fn used_run(used: &[u8], n: u32, k: u32, steps: u32) -> u32
     1
 }
 
-// Along one track, of size sectors from first on: upwards from start and around, to a free sector or over so many positions.
+// Along one track, of size sectors from first on: upwards from start and around, to a free sector or over so many positions. A turn skips
+// a run of any length, so no index is counted.
 pub fn search_track(used: &[u8], first: u32, size: u32, start: u32, steps: u32) -> Reached
     requires first_le_start { first ≤ start }
     requires start_bound { start < first + size }
@@ -69,7 +70,8 @@ pub fn search_track(used: &[u8], first: u32, size: u32, start: u32, steps: u32) 
 }
 
 // The lowest free sector at a position, whatever its track, and how many tracks come before it; the same past the last track, where
-// none is free. The first so many tracks are known to have none.
+// none is free. The first so many tracks are known to have none. Two numbers go up together, until the test ends it: a range of tracks would
+// be no plainer.
 fn lowest_at(used: &[u8], n: u32, size: u32, position: u32, known: u32) -> Reached
     requires position_lt_size { position < size }
     requires size_le_most_sectors { size ≤ most_sectors }

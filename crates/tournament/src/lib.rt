@@ -32,7 +32,8 @@ fn play(tree: &mut [u64], k: usize)
     tree[k] = tree[2 * k].max(tree[2 * k + 1]);
 }
 
-// Plays the matches of entry q anew, up to place 1. The winner so far is kept at hand: it need not be read again.
+// Plays the matches of entry q anew, up to place 1: the index is halved, not counted. The winner so far is kept at hand: it need not be
+// read again.
 fn replay(tree: &mut [u64], n: usize, q: usize)
     requires tree_len { length tree.old ≡ tree_length }
     requires n_le_most_pieces { n ≤ most_pieces }
@@ -127,7 +128,7 @@ fn strike_first(tree: &mut [u64], n: usize)
     change(tree, n, q, 0);
 }
 
-// Strikes out every entry whose key is not below the bound.
+// Strikes out every entry whose key is not below the bound. How many they are is not known before.
 pub fn keep_below(tree: &mut [u64], n: usize, bound: u32)
     requires tree_len { length tree.old ≡ tree_length }
     requires n_le_most_pieces { n ≤ most_pieces }
