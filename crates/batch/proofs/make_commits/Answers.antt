@@ -74,7 +74,13 @@ loop-i-preserved c =
     let left = within_left _ _ _ _ _ _ _ c.loop-i.i _ _ _ _ _ _ _ c.loop-i.invariant.2 c.loop-i-test.true _ _ c.answer_commit-o.ensures.value.0 _ c.answer_commit-o.ensures.value.1 in
     let ok = sym c.number.ensures ∙ c.if-number-ne0.false in
     let kept = lent_keeps _ _ _ _ _ _ _ _ c.entries_fit.ensures _ c.answer_commit-o.ensures.value.0 ok in (
-      record { image = c.answer_commit-o.ensures.lent.image ∙ c.loop-i.invariant.0.image; map = c.answer_commit-o.ensures.lent.map ∙ c.loop-i.invariant.0.map; places = c.answer_commit-o.ensures.lent.places ∙ c.loop-i.invariant.0.places; numbers = c.answer_commit-o.ensures.lent.numbers ∙ c.loop-i.invariant.0.numbers; used = c.answer_commit-o.ensures.lent.used ∙ c.loop-i.invariant.0.used },
+      record {
+        image = c.answer_commit-o.ensures.lent.image ∙ c.loop-i.invariant.0.image;
+        map = c.answer_commit-o.ensures.lent.map ∙ c.loop-i.invariant.0.map;
+        places = c.answer_commit-o.ensures.lent.places ∙ c.loop-i.invariant.0.places;
+        numbers = c.answer_commit-o.ensures.lent.numbers ∙ c.loop-i.invariant.0.numbers;
+        used = c.answer_commit-o.ensures.lent.used ∙ c.loop-i.invariant.0.used;
+      },
       c.answer_commit-o.auto.answers ∙ c.loop-i.invariant.1,
       making_more _ _ _ _ _ _ _ c.loop-i.i _ _ c.loop-i.left c.loop-i.skipped _ _ _ c.loop-i.invariant.2 c.loop-i-test.true _ _ c.answer_commit-o.ensures.value.0 _ c.answer_commit-o.ensures.value.1 (c.loop-i.left - c.stores-left.result) _ (omega arith)
           (ap (λ (x : ℕ). c.loop-i.skipped + x) c.skipped-skipped.ensures) ok (λ e. kept.agree) _ _ refl refl,

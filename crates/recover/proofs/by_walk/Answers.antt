@@ -39,15 +39,20 @@ by_scan-requires c = record {
 
 pub returns-then-not-walk_tables-clause-value : goal.returns-then-not-walk_tables-clause-value
 returns-then-not-walk_tables-clause-value c =
-    scan_found_lem _ _ _ _ _ _ _ _ _ _ _ _ _ c.walk_tables.ensures.image (ap (λ (x : Lengths). x.map) c.walk_tables.ensures.lengths) (ap (λ (x : Lengths). x.places) c.walk_tables.ensures.lengths) (ap (λ (x : Lengths). x.numbers) c.walk_tables.ensures.lengths) (ap (λ (x : Lengths). x.used) c.walk_tables.ensures.lengths) _
+    scan_found_lem _ _ _ _ _ _ _ _ _ _ _ _ _ c.walk_tables.ensures.image (ap (λ (x : Lengths). x.map) c.walk_tables.ensures.lengths)
+    (ap (λ (x : Lengths). x.places) c.walk_tables.ensures.lengths) (ap (λ (x : Lengths). x.numbers) c.walk_tables.ensures.lengths)
+    (ap (λ (x : Lengths). x.used) c.walk_tables.ensures.lengths) _
     (found_incomplete _ _ c.args.tail.sector c.args.tail.number c.requires.number_value c.walk_tables.result c.walk_tables.ensures.value.0 (ap not c.if-not-walk_tables.true)) c.by_scan.ensures.value
 
 pub count_branches-read-requires : goal.count_branches-read-requires
-count_branches-read-requires c = let rest = count_ready _ _ (ap (λ (x : Lengths). x.image) c.walk_tables.ensures.lengths ∙ c.requires.image_len) _ _ _ _ _ (left_here _ _ _ c.walk_tables.ensures.image _ _ _ _ _ (c.walk_tables.ensures.value.1 (not-false c.walk_tables.result (ap not c.if-not-walk_tables.false)))) c.requires.g_value in record {
-  places_len_bound = rest.0;
-  by_index = rest.1.0;
-  by_index_2 = rest.1.1;
-}
+count_branches-read-requires c =
+    let rest =
+    count_ready _ _ (ap (λ (x : Lengths). x.image) c.walk_tables.ensures.lengths ∙ c.requires.image_len) _ _ _ _ _ (left_here _ _ _ c.walk_tables.ensures.image _ _ _ _ _ (c.walk_tables.ensures.value.1 (not-false c.walk_tables.result (ap not c.if-not-walk_tables.false))))
+    c.requires.g_value in record {
+      places_len_bound = rest.0;
+      by_index = rest.1.0;
+      by_index_2 = rest.1.1;
+    }
 
 pub after_walk-requires : goal.after_walk-requires
 after_walk-requires c =
@@ -58,6 +63,9 @@ after_walk-requires c =
 pub returns-clause-value : goal.returns-clause-value
 returns-clause-value c =
     let left = c.walk_tables.ensures.value.1 (not-false c.walk_tables.result (ap not c.if-not-walk_tables.false)) in
-    walk_found _ _ _ _ _ _ _ _ _ c.walk_tables.new.m.map.now c.walk_tables.new.m.places.now c.walk_tables.new.m.numbers.now c.walk_tables.new.m.used.now c.walk_tables.ensures.image (ap (λ (x : Lengths). x.map) c.walk_tables.ensures.lengths) (ap (λ (x : Lengths). x.places) c.walk_tables.ensures.lengths) (ap (λ (x : Lengths). x.numbers) c.walk_tables.ensures.lengths) (ap (λ (x : Lengths). x.used) c.walk_tables.ensures.lengths) _ _ _ _
+    walk_found _ _ _ _ _ _ _ _ _ c.walk_tables.new.m.map.now c.walk_tables.new.m.places.now c.walk_tables.new.m.numbers.now c.walk_tables.new.m.used.now
+    c.walk_tables.ensures.image (ap (λ (x : Lengths). x.map) c.walk_tables.ensures.lengths) (ap (λ (x : Lengths). x.places) c.walk_tables.ensures.lengths)
+    (ap (λ (x : Lengths). x.numbers) c.walk_tables.ensures.lengths) (ap (λ (x : Lengths). x.used) c.walk_tables.ensures.lengths)
+    _ _ _ _
     (found_log _ _ c.requires.image_len _ _ _ _ _ left _ c.requires.number_value c.walk_tables.result c.walk_tables.ensures.value.0 (ap not c.if-not-walk_tables.false)
     c.count_branches-read.result (c.count_branches-read.ensures.0 ∙ ap (λ (v : List ℕ). branch_word_count (sector_at v) (at c.walk_tables.new.m.places.now) (length c.walk_tables.new.m.places.now)) c.walk_tables.ensures.image)) c.after_walk.ensures.value

@@ -8,5 +8,12 @@ use Rattle.capi.proofs.calls.vlog_drop.Goals as goal
 
 pub returns : goal.returns
 returns c =
-    call_lent c.drop-o.new.m _ _ _ _ _ (c.image-1.given.1.1 (sym c.drop-o.ensures.lent.image), c.map-1.given.1.1 (sym c.drop-o.ensures.lent.map), c.places-1.given.1.1 (sym c.drop-o.ensures.lent.places), c.numbers-1.given.1.1 (sym c.drop-o.ensures.lent.numbers), c.used-1.given.1.1 (sym c.drop-o.ensures.lent.used)) c.args.c _ c.drop-o.result c.result_of.result c.state_of-s.ensures c.result_of.ensures
+    call_lent c.drop-o.new.m _ _ _ _ _ (
+      c.image-1.given.1.1 (sym c.drop-o.ensures.lent.image),
+      c.map-1.given.1.1 (sym c.drop-o.ensures.lent.map),
+      c.places-1.given.1.1 (sym c.drop-o.ensures.lent.places),
+      c.numbers-1.given.1.1 (sym c.drop-o.ensures.lent.numbers),
+      c.used-1.given.1.1 (sym c.drop-o.ensures.lent.used),
+    )
+    c.args.c _ c.drop-o.result c.result_of.result c.state_of-s.ensures c.result_of.ensures
     (λ (s : State). drop_of s (memory c.args.image.now c.args.map.now c.args.places.now c.args.numbers.now c.args.used.now) c.args.head c.args.blocks.now c.args.allowance) c.drop-o.ensures.value
