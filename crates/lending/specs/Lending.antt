@@ -6,6 +6,7 @@ use Rattle.volume.specs.Tables.{Tables, Memory, tables_of, memory}
 use Rattle.lending.specs.declared.Tables as lent_tables
 use Rattle.lending.specs.declared.Memory as lent_memory
 use Rattle.lending.specs.declared.Lengths as lent_lengths
+use Rattle.lending.specs.declared.TablesMut.{TablesMut}
 
 -- The tables that are looked at.
 abbrev pub tables_in : lent_tables.Tables → Tables
@@ -48,6 +49,24 @@ pub record Sized (g : Geometry) (t : lent_tables.Tables) : Type 0 where
 -- The same slices are still lent: what a call leaves in them reaches the caller.
 pub record SameLent (after before : lent_memory.Memory) : Type 0 where
   pub image : after.image.ghost_name ≡ before.image.ghost_name
+  pub map : after.map.ghost_name ≡ before.map.ghost_name
+  pub places : after.places.ghost_name ≡ before.places.ghost_name
+  pub numbers : after.numbers.ghost_name ≡ before.numbers.ghost_name
+  pub used : after.used.ghost_name ≡ before.used.ghost_name
+
+-- The tables that are filled in.
+abbrev pub tables_filled : TablesMut → Tables
+tables_filled t = tables_of t.map.now t.places.now t.numbers.now t.used.now
+
+-- They are as long as before.
+pub record SameLengths (after before : TablesMut) : Type 0 where
+  pub map : length after.map.now ≡ length before.map.now
+  pub places : length after.places.now ≡ length before.places.now
+  pub numbers : length after.numbers.now ≡ length before.numbers.now
+  pub used : length after.used.now ≡ length before.used.now
+
+-- The same slices are still lent: what is found in them reaches the caller.
+pub record SameTables (after before : TablesMut) : Type 0 where
   pub map : after.map.ghost_name ≡ before.map.ghost_name
   pub places : after.places.ghost_name ≡ before.places.ghost_name
   pub numbers : after.numbers.ghost_name ≡ before.numbers.ghost_name

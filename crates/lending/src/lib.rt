@@ -78,3 +78,12 @@ impl<'a> Memory<'a> {
         }
     }
 }
+
+// The tables to change, without an image: what fills them in looks at an image or at none.
+#[derive(Drop)]
+pub struct TablesMut<'a> {
+    pub map: &'a mut [u32],
+    pub places: &'a mut [u32],
+    pub numbers: &'a mut [u32],
+    pub used: &'a mut [u8],
+}

@@ -6,8 +6,8 @@ use Rattle.state.specs.declared.tail.Tail.{Tail}
 use Rattle.layout.specs.MapSector.{View}
 use Rattle.geometry.specs.declared.Geometry.{Geometry}
 use Rattle.geometry.specs.Geometry.{pieces_for, used_bytes}
-use Rattle.scan.specs.declared.TablesMut.{TablesMut}
-use Rattle.volume.specs.Tables.{Tables, tables_of}
+use Rattle.lending.specs.declared.TablesMut.{TablesMut}
+use Rattle.volume.specs.Tables.{Tables}
 use Rattle.volume.specs.Recover.{Finding, found, missing, scan_stores, is_uncommitted}
 
 -- What a scan found, given the tables that it left.
@@ -21,20 +21,9 @@ unfoldable pub ScanAbove : Result Tail Loss → View → (ℕ → Bool) → Type
 ScanAbove (Ok tail) view bits = bits ≡ is_uncommitted view tail.number
 ScanAbove (Err loss) view bits = bits ≡ bits
 
--- The tables that are filled in.
-abbrev pub tables_filled : TablesMut → Tables
-tables_filled t = tables_of t.map.now t.places.now t.numbers.now t.used.now
-
--- They have the lengths of a volume.
+-- The tables that are filled in have the lengths of a volume.
 pub record Sized (g : Geometry) (t : TablesMut) : Type 0 where
   pub map_len : length t.map.now ≡ g.l
   pub places_len : length t.places.now ≡ pieces_for g.l
   pub numbers_len : length t.numbers.now ≡ pieces_for g.l
   pub used_len : length t.used.now ≡ used_bytes g.n
-
--- The same slices are still lent: what is found in them reaches the caller.
-pub record SameTables (after before : TablesMut) : Type 0 where
-  pub map : after.map.ghost_name ≡ before.map.ghost_name
-  pub places : after.places.ghost_name ≡ before.places.ghost_name
-  pub numbers : after.numbers.ghost_name ≡ before.numbers.ghost_name
-  pub used : after.used.ghost_name ≡ before.used.ghost_name

@@ -7,7 +7,8 @@ ghost use Rattle.volume.specs.Tables.{sector_at, bit_at};
 ghost use Rattle.volume.specs.Recover.{newest_closing, closed_up_to, scanned_log, scan_damaged, scan_finding, image_view};
 ghost use Rattle.signed.specs.Signed.{Listed};
 ghost use Rattle.log_tables.specs.LogTables.{live_places, live_numbers, map_from};
-ghost use Rattle.scan.specs.Scanned.{scan_found, ScanAbove, tables_filled, Sized, SameTables};
+ghost use Rattle.lending.specs.Lending.{tables_filled, SameTables};
+ghost use Rattle.scan.specs.Scanned.{scan_found, ScanAbove, Sized};
 
 use answer::Loss;
 use geometry::Geometry;
@@ -15,19 +16,13 @@ use log_tables::{agrees, fill_map, live};
 use signed::Signed;
 use state::tail::Tail;
 
+// The tables of the volume, to fill in from an image that is only looked at.
+pub use lending::TablesMut;
+
 // The sectors of a medium volume, and of the largest one, as lengths.
 const MEDIUM: usize = Geometry::MEDIUM as usize;
 
 const LARGE: usize = Geometry::MOST_SECTORS as usize;
-
-// The tables of the volume, to fill in from an image that is only looked at.
-#[derive(Drop)]
-pub struct TablesMut<'a> {
-    pub map: &'a mut [u32],
-    pub places: &'a mut [u32],
-    pub numbers: &'a mut [u32],
-    pub used: &'a mut [u8],
-}
 
 // The live sectors of the pieces up to number c, and the map that they hold.
 fn scan_live(
