@@ -8,29 +8,28 @@ use mathlib.Core.Bool.{Bool, true, false, ◌||◌}
 use mathlib.Core.List.{List, ◌++◌}
 use native.Mathlib.Numerals.{add-one}
 use native.Mathlib.Omega.{arith}
-use lib.ListN.{length, get_or, set, take, drop, replicate, length-replicate, get_or-replicate, get_or-eq_default, get_or-append}
+use lib.ListN.{length, get_or, set, take, drop, replicate, length-replicate, get_or-replicate, get_or-append}
 use lib.Seq.{get_or-set_same, get_or-set_other, get_or-append-add, get_or-drop, length-take-le}
 use lib.Dec.{eqb, ltb}
 use borrow.Author.Tests.{eq-eqb, ne_eqb, lt-ltb, le-ltb}
+use Rattle.laws.proofs.Filling.{zeros_get}
 use Rattle.geometry.specs.Geometry.{piece_of}
 use Rattle.layout.specs.Bounded.{at, any_below, count_below, updated}
 use Rattle.volume.specs.Commit.{touches}
 use Rattle.laws.proofs.Bounded.{bool?, lt?, eq?, count_hit, count_miss}
 use Rattle.pieces.specs.Arrays.{flagged}
 
-falses_get : (n k : ℕ) → get_or (replicate n false) k false ≡ false
-falses_get n k = ⊎_elim (λ (h : k < n). get_or-replicate n k false false h) (λ (h : n ≤ k). get_or-eq_default (replicate n false) false {n = k} (omega (arith, length-replicate {A = Bool}))) (lt? k n)
-
-pub none_flagged : (flags : List Bool) (n : ℕ) → flags ≡ replicate n false → flagged flags ≡ (λ _. false)
+pub none_flagged : (flags : List ℕ) (n : ℕ) → flags ≡ replicate n 0 → flagged flags ≡ (λ _. false)
 unfolding flagged
-none_flagged flags n e = ap flagged e ∙ fun_ext (falses_get n)
+none_flagged flags n e = ap flagged e ∙ fun_ext (λ q. ap (λ (x : ℕ). eqb x 1) (zeros_get n q))
 
-pub flag_set : (flags : List Bool) (p : ℕ) → p < length flags → flagged (set flags p true) ≡ updated (flagged flags) p true
+pub flag_set : (flags : List ℕ) (p : ℕ) → p < length flags → flagged (set flags p 1) ≡ updated (flagged flags) p true
 unfolding flagged
 flag_set flags p h =
     fun_ext (λ q.
-    ⊎_elim (λ (e : q ≡ p). rw (e, get_or-set_same flags p true false h, eq-eqb p p refl) refl)
-    (λ (d : q ≡ p → ⊥). rw (get_or-set_other flags p q true false d, ne_eqb q p d) refl)
+    ⊎_elim (λ (e : q ≡ p).
+    ap (λ (x : ℕ). eqb (get_or (set flags p 1) x 0) 1) e ∙ ap (λ (x : ℕ). eqb x 1) (get_or-set_same flags p 1 0 h) ∙ rw (eq-eqb q p e) refl)
+    (λ (d : q ≡ p → ⊥). ap (λ (x : ℕ). eqb x 1) (get_or-set_other flags p q 1 0 d) ∙ rw (ne_eqb q p d) refl)
     (eq? q p))
 
 or_true : (a : Bool) → true ≡ (a || true)
@@ -45,12 +44,12 @@ or_false false = refl
 abbrev pub touched_by : List ℕ → ℕ → ℕ → Bool
 touched_by blocks i q = any_below (λ j. eqb (piece_of (at blocks j)) q) i
 
-pub touched_none : (flags : List Bool) (blocks : List ℕ) (n : ℕ) → flags ≡ replicate n false → flagged flags ≡ touched_by blocks 0
+pub touched_none : (flags blocks : List ℕ) (n : ℕ) → flags ≡ replicate n 0 → flagged flags ≡ touched_by blocks 0
 unfolding any_below
 touched_none flags blocks n e = none_flagged flags n e
 
-pub touched_more : (flags : List Bool) (blocks : List ℕ) (i p : ℕ) → p ≡ piece_of (at blocks i) → p < length flags → flagged flags ≡ touched_by blocks i
-    → flagged (set flags p true) ≡ touched_by blocks (i + 1)
+pub touched_more : (flags blocks : List ℕ) (i p : ℕ) → p ≡ piece_of (at blocks i) → p < length flags → flagged flags ≡ touched_by blocks i
+    → flagged (set flags p 1) ≡ touched_by blocks (i + 1)
 unfolding any_below
 touched_more flags blocks i p e h f =
     flag_set flags p h ∙ ap (λ (bits : ℕ → Bool). updated bits p true) f
@@ -59,32 +58,35 @@ touched_more flags blocks i p e h f =
     (λ (z : q ≡ p → ⊥). rw (ne_eqb q p z, ne_eqb (piece_of (at blocks i)) q (λ (y : piece_of (at blocks i) ≡ q). z (sym y ∙ sym e))) (or_false (touched_by blocks i q)))
     (eq? q p)))
 
-pub touched_all : (flags : List Bool) (blocks : List ℕ) (i : ℕ) → i ≡ length blocks → flagged flags ≡ touched_by blocks i → flagged flags ≡ touches blocks
+pub touched_all : (flags blocks : List ℕ) (i : ℕ) → i ≡ length blocks → flagged flags ≡ touched_by blocks i → flagged flags ≡ touches blocks
 unfolding touches
 touched_all flags blocks i e f = f ∙ ap {B = ℕ → Bool} (λ (x : ℕ). λ q. touched_by blocks x q) e
 
 -- Every flag below a bound.
-pub flagged_below : (flags front : List Bool) (n : ℕ) → n ≤ length flags → front ≡ replicate (length (take n flags)) true
+pub flagged_below : (flags front : List ℕ) (n : ℕ) → n ≤ length flags → front ≡ replicate (length (take n flags)) 1
     → flagged (front ++ drop n flags) ≡ (λ q. ltb q n || flagged flags q)
 unfolding flagged
 flagged_below flags front n h f =
-    let e : front ≡ replicate n true = f ∙ ap (λ (k : ℕ). replicate k true) (length-take-le n flags h) in
-    let len : length front ≡ n = ap length e ∙ length-replicate n true in
+    let e : front ≡ replicate n 1 = f ∙ ap (λ (k : ℕ). replicate k 1) (length-take-le n flags h) in
+    let len : length front ≡ n = ap length e ∙ length-replicate n 1 in
     fun_ext (λ q.
-    ⊎_elim (λ (k : q < n). rw (lt-ltb q n k) (get_or-append front (drop n flags) false q (omega arith) ∙ ap (λ (xs : List Bool). get_or xs q false) e ∙ get_or-replicate n q true false k))
+    ⊎_elim (λ (k : q < n).
+    rw (lt-ltb q n k)
+    (ap (λ (x : ℕ). eqb x 1) (get_or-append front (drop n flags) 0 q (omega arith) ∙ ap (λ (xs : List ℕ). get_or xs q 0) e ∙ get_or-replicate n q 1 0 k)))
     (λ (k : n ≤ q).
     rw (le-ltb q n k)
-    (ap (λ (i : ℕ). get_or (front ++ drop n flags) i false) (let i : q ≡ length front + (q - n) = omega arith in i)
-    ∙ get_or-append-add front (drop n flags) (q - n) false ∙ get_or-drop n flags (q - n) false
-    ∙ ap (λ (i : ℕ). get_or flags i false) (let i : n + (q - n) ≡ q = omega arith in i)))
+    (ap (λ (x : ℕ). eqb x 1)
+    (ap (λ (i : ℕ). get_or (front ++ drop n flags) i 0) (let i : q ≡ length front + (q - n) = omega arith in i)
+    ∙ get_or-append-add front (drop n flags) (q - n) 0 ∙ get_or-drop n flags (q - n) 0
+    ∙ ap (λ (i : ℕ). get_or flags i 0) (let i : n + (q - n) ≡ q = omega arith in i))))
     (lt? q n))
 
 -- Counted.
-pub flags_counted : (flags : List Bool) (n : ℕ) → n ≤ length flags → count_by (λ f. f) (take n flags) ≡ count_below (flagged flags) n
+pub flags_counted : (flags : List ℕ) (n : ℕ) → n ≤ length flags → count_by (λ f. eqb f 1) (take n flags) ≡ count_below (flagged flags) n
 unfolding flagged count_below
 flags_counted flags zero h = refl
 flags_counted flags (suc n) h =
     rw (← add-one n)
-    (⊎_elim (λ (e : get_or flags n false ≡ true). count_by_more_yes (λ f. f) flags n false (omega arith) e ∙ add-one _ ∙ ap suc (flags_counted flags n (omega arith)) ∙ sym (count_hit (flagged flags) n e))
-    (λ (e : get_or flags n false ≡ false). count_by_more_no (λ f. f) flags n false (omega arith) e ∙ flags_counted flags n (omega arith) ∙ sym (count_miss (flagged flags) n e))
-    (bool? (get_or flags n false)))
+    (⊎_elim (λ (e : eqb (at flags n) 1 ≡ true). count_by_more_yes (λ f. eqb f 1) flags n 0 (omega arith) e ∙ add-one _ ∙ ap suc (flags_counted flags n (omega arith)) ∙ sym (count_hit (flagged flags) n e))
+    (λ (e : eqb (at flags n) 1 ≡ false). count_by_more_no (λ f. eqb f 1) flags n 0 (omega arith) e ∙ flags_counted flags n (omega arith) ∙ sym (count_miss (flagged flags) n e))
+    (bool? (eqb (at flags n) 1)))

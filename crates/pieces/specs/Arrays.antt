@@ -1,5 +1,5 @@
 -- A commit as the arrays of the code hold it: flags of pieces, the plan, the change, and what is known of the live sectors.
-use Rattle.std.specs.Prelude.{ℕ, ◌+◌, ◌≤◌, ◌<◌, ◌^◌, ◌≡◌, Bool, true, false, not, ◌&&◌, List, [], length, get_or, take, eqb}
+use Rattle.std.specs.Prelude.{ℕ, ◌+◌, ◌≤◌, ◌<◌, ◌^◌, ◌≡◌, Bool, true, false, not, ◌&&◌, List, [], length, take, eqb}
 use Rattle.geometry.specs.declared.Geometry.{Geometry}
 use Rattle.geometry.specs.Geometry.{pieces_for, piece_of, branch_room}
 use Rattle.layout.specs.Bounded.{at, any_below, count_below, tabled}
@@ -11,12 +11,12 @@ use Rattle.volume.specs.Store.{Store}
 use Rattle.volume.specs.Commit.{Change, Plan}
 use Rattle.power.specs.Power.{made}
 
--- A piece's flag; past the end none is set.
-unfoldable pub flagged : List Bool → ℕ → Bool
-flagged flags q = get_or flags q false
+-- A piece is flagged by 1.
+unfoldable pub flagged : List ℕ → ℕ → Bool
+flagged flags q = eqb (at flags q) 1
 
 -- The pieces that are not flagged.
-unfoldable pub unflagged : ℕ → List Bool → ℕ → Bool
+unfoldable pub unflagged : ℕ → List ℕ → ℕ → Bool
 unflagged pieces flags = tabled false pieces (λ q. not (flagged flags q))
 
 -- Each live place is a sector from 1 to N - 1 that is signed with its piece.
@@ -28,7 +28,7 @@ pub record Live (g : Geometry) (image : ℕ → List ℕ) (place : ℕ → ℕ) 
 
 -- The plan: the first member's branches, the flags of the pieces written, the counts, the sectors taken, and how many sectors
 -- were skipped for those of them that are stored. Whether it folds is not asked any more.
-abbrev pub plan_of : List ℕ → List Bool → ℕ → ℕ → List ℕ → ℕ → Plan
+abbrev pub plan_of : List ℕ → List ℕ → ℕ → ℕ → List ℕ → ℕ → Plan
 plan_of branches written members data_sectors places skipped =
     record {
       fold = false;
@@ -56,7 +56,7 @@ without bits test sector n k = bits k && not (any_below (λ i. test i && eqb k (
 -- What the stores and the change of the tables rely on: the named blocks are below L and ascend, and their pieces are
 -- flagged; each data sector's block gets an entry that names it, and each other block is emptied; as many sectors are taken
 -- as are written, and they are below N; the flags past P are clear; and the numbers suffice.
-pub record Settling (g : Geometry) (number : ℕ) (blocks entries taken : List ℕ) (data_sectors : ℕ) (written : List Bool) : Type 0 where
+pub record Settling (g : Geometry) (number : ℕ) (blocks entries taken : List ℕ) (data_sectors : ℕ) (written : List ℕ) : Type 0 where
   pub inside : (i : ℕ) → i < length blocks → at blocks i < g.l
   pub ascending : (i j : ℕ) → i < j → j < length blocks → at blocks i < at blocks j
   pub touched : (i : ℕ) → i < length blocks → flagged written (piece_of (at blocks i)) ≡ true
@@ -72,7 +72,7 @@ pub record Settling (g : Geometry) (number : ℕ) (blocks entries taken : List �
   pub numbers : number + count_below (flagged written) (pieces_for g.l) < 2 ^ 32
 
 -- The plan, as it stands in the arrays; so many stores are allowed.
-pub record Planning (plan : Plan) (count members : ℕ) (branches : List ℕ) (written : List Bool) (data_sectors : ℕ) (taken : List ℕ) (skipped allowance : ℕ) : Type 0 where
+pub record Planning (plan : Plan) (count members : ℕ) (branches written : List ℕ) (data_sectors : ℕ) (taken : List ℕ) (skipped allowance : ℕ) : Type 0 where
   pub members_are : members ≡ plan.members
   pub branches_are : take count branches ≡ plan.branches
   pub few : count ≤ branch_room
