@@ -7,7 +7,7 @@ use mathlib.Core.List.{List, [], ◌∷◌, ◌++◌, append_assoc, append-nil}
 use native.Mathlib.Nat.{not-suc-le-zero}
 use native.Mathlib.Numerals.{add-one}
 use native.Mathlib.Omega.{arith}
-use lib.ListN.{length, get_or, set, take, drop, replicate, get_or-eq_default}
+use lib.ListN.{length, set, take, drop, replicate, get_or-eq_default}
 use lib.Seq.{set_split, take-append-add, take_at, take_all, take-suc, get_or-take, length-take-le}
 use lib.Dec.{eqb, ltb, leb}
 use borrow.Author.Tests.{eq-eqb, ne_eqb, lt-ltb, le-ltb, leb-true}
@@ -29,7 +29,7 @@ use Rattle.map_sector.proofs.Branches.{branch_room_lem}
 use Rattle.listing.specs.Listing.{NoneOlder, Taken}
 
 -- The key of a candidate.
-module _ (nu : List ℕ) (touched : List Bool) (bound : ℕ) where
+module _ (nu touched : List ℕ) (bound : ℕ) where
   abbrev pub key : ℕ → ℕ
   key = older_key (tables_of [] [] nu []) (unflagged (length nu) touched) bound
 
@@ -41,17 +41,17 @@ module _ (nu : List ℕ) (touched : List Bool) (bound : ℕ) where
   unfolding older_key
   key_is q h = ap (λ (b : Bool). cond (b && ltb (at nu q) bound) (at nu q) 0) (remains q h)
 
-  pub key_touched : (q : ℕ) → q < length nu → get_or touched q false ≡ true → 0 ≡ key q
+  pub key_touched : (q : ℕ) → q < length nu → at touched q ≡ 1 → 0 ≡ key q
   unfolding flagged
-  key_touched q h e = sym (key_is q h ∙ rw e refl)
+  key_touched q h e = sym (key_is q h ∙ rw (eq-eqb (at touched q) 1 e) refl)
 
-  pub key_older : (q : ℕ) → q < length nu → get_or touched q false ≡ false → at nu q < bound → at nu q ≡ key q
+  pub key_older : (q : ℕ) → q < length nu → (at touched q ≡ 1 → ⊥) → at nu q < bound → at nu q ≡ key q
   unfolding flagged
-  key_older q h d e = sym (key_is q h ∙ rw (d, lt-ltb (at nu q) bound e) refl)
+  key_older q h d e = sym (key_is q h ∙ rw (ne_eqb (at touched q) 1 d, lt-ltb (at nu q) bound e) refl)
 
-  pub key_newer : (q : ℕ) → q < length nu → get_or touched q false ≡ false → bound ≤ at nu q → 0 ≡ key q
+  pub key_newer : (q : ℕ) → q < length nu → (at touched q ≡ 1 → ⊥) → bound ≤ at nu q → 0 ≡ key q
   unfolding flagged
-  key_newer q h d e = sym (key_is q h ∙ rw (d, le-ltb (at nu q) bound e) refl)
+  key_newer q h d e = sym (key_is q h ∙ rw (ne_eqb (at touched q) 1 d, le-ltb (at nu q) bound e) refl)
 
   -- A candidate is older than the bound; with its number as the bound those below it are left.
   key_under : (q : ℕ) → (key q ≡ 0 → ⊥) → key q < bound
@@ -64,7 +64,7 @@ module _ (nu : List ℕ) (touched : List Bool) (bound : ℕ) where
       either true (inr h) d = absurd (d (rw (le-ltb (at nu q) bound h) refl))
       either false h d = absurd (d refl)
 
-pub key_below : (nu : List ℕ) (touched : List Bool) (bound bound' : ℕ) → bound' ≤ bound → below bound' (key nu touched bound) ≡ key nu touched bound'
+pub key_below : (nu touched : List ℕ) (bound bound' : ℕ) → bound' ≤ bound → below bound' (key nu touched bound) ≡ key nu touched bound'
 unfolding older_key below
 key_below nu touched bound bound' h = fun_ext (λ q. either q (unflagged (length nu) touched q) (lt? (at nu q) bound) (lt? (at nu q) bound'))
   where
@@ -82,7 +82,7 @@ key_below nu touched bound bound' h = fun_ext (λ q. either q (unflagged (length
     either q false k m = zero_out (ltb 0 bound')
 
 -- The candidates in a tournament.
-module _ (nu : List ℕ) (touched : List Bool) (bound : ℕ) (tree : List ℕ) (s : Keyed (length nu) (key nu touched bound) tree) where
+module _ (nu touched : List ℕ) (bound : ℕ) (tree : List ℕ) (s : Keyed (length nu) (key nu touched bound) tree) where
   pub newest_first_lem : (r : ℕ) → 0 < length nu → r ≡ best (key_at (length nu) tree) (length nu) → r ≡ best (key nu touched bound) (length nu)
   newest_first_lem r h e = e ∙ keyed_first (length nu) (key nu touched bound) tree s h
 
@@ -102,7 +102,7 @@ list_more bs count place h =
     ∙ take-append-add (take count bs) (place ∷ drop (suc count) bs) 1
 
 -- What one branch reaches.
-module _ (reached : List Bool) (pl nu : List ℕ) (p b bound : ℕ) (only : (q : ℕ) → at pl q ≡ b → (q ≡ p) × (q < length pl)) where
+module _ (reached pl nu : List ℕ) (p b bound : ℕ) (only : (q : ℕ) → at pl q ≡ b → (q ≡ p) × (q < length pl)) where
   abbrev then : ℕ → Bool
   then q = flagged reached q || (eqb (at pl q) b && ltb (at nu q) bound)
 
@@ -131,7 +131,7 @@ module _ (reached : List Bool) (pl nu : List ℕ) (p b bound : ℕ) (only : (q :
       rw (eq-eqb (at pl q) b e, le-ltb (at nu q) bound (subst (λ (x : ℕ). bound ≤ at nu x) (sym w.0) h)) (same (flagged reached q)))
       (λ (f : at pl q ≡ b → ⊥). away q f) (eq? (at pl q) b))
 
-  pub reach_one : at pl p ≡ b → at nu p < bound → p < length reached → flagged (set reached p true) ≡ then
+  pub reach_one : at pl p ≡ b → at nu p < bound → p < length reached → flagged (set reached p 1) ≡ then
   reach_one e h k =
       flag_set reached p k
       ∙ fun_ext (λ q.
@@ -290,7 +290,7 @@ module _ (pieces : ℕ) (t : Tables) (view : View) (remaining : ℕ → Bool) wh
       either false x xs = refl
 
 -- The whole listing: what is listed so far, and what is listed from here on.
-module _ (g : Geometry) (image : ℕ → List ℕ) (pl nu : List ℕ) (touched : List Bool) (number : ℕ) where
+module _ (g : Geometry) (image : ℕ → List ℕ) (pl nu touched : List ℕ) (number : ℕ) where
   abbrev pub listed_from : ℕ → ℕ → (ℕ → Bool) → List ℕ
   listed_from steps bound reached =
       listing (length nu) (tables_of [] pl nu []) (view_of g image) (unflagged (length nu) touched) steps bound reached
@@ -302,7 +302,7 @@ module _ (g : Geometry) (image : ℕ → List ℕ) (pl nu : List ℕ) (touched :
   unfolding older_key
   any_places bound = refl
 
-  pub listing_starts : (flags : List Bool) (branches : List ℕ) (size : ℕ) → flags ≡ replicate size false → Listing (take 0 branches) (length nu - 0) (number + 1) (flagged flags)
+  pub listing_starts : (flags branches : List ℕ) (size : ℕ) → flags ≡ replicate size 0 → Listing (take 0 branches) (length nu - 0) (number + 1) (flagged flags)
   unfolding Listing
   listing_starts flags branches size e = rw (add-one, none_flagged flags size e, let z : length nu - 0 ≡ length nu = omega arith in z) refl
 
@@ -368,7 +368,7 @@ only_there g image pl n b p live len low e q f =
     (sym (live.piece q (omega arith)) ∙ ap (λ (x : ℕ). at (words_of (image x)) 4) f ∙ sym e, h))
     (λ (h : length pl ≤ q). let z = get_or-eq_default pl 0 {n = q} h in absurd (omega arith)) (lt? q (length pl))
 
-pub reach_there : (reached : List Bool) (pl nu : List ℕ) (b b' bound : ℕ) (f : ℕ → Bool) → b ≡ b'
+pub reach_there : (reached pl nu : List ℕ) (b b' bound : ℕ) (f : ℕ → Bool) → b ≡ b'
     → f ≡ (λ q. flagged reached q || (eqb (at pl q) b && ltb (at nu q) bound)) → f ≡ (λ q. flagged reached q || (eqb (at pl q) b' && ltb (at nu q) bound))
 reach_there reached pl nu b b' bound f e r = subst (λ (x : ℕ). f ≡ (λ q. flagged reached q || (eqb (at pl q) x && ltb (at nu q) bound))) e r
 
@@ -416,7 +416,7 @@ module _ (g : Geometry) (im s : List ℕ) (place : ℕ) (len : length im ≡ 512
       (there, omega arith, omega arith)
 
 -- The newest candidate is taken: the older ones are left, or there is none.
-module _ (nu : List ℕ) (touched : List Bool) (bound : ℕ) (tree : List ℕ) (s : Keyed (length nu) (key nu touched bound) tree) (some : 0 < length nu) (q number : ℕ)
+module _ (nu touched : List ℕ) (bound : ℕ) (tree : List ℕ) (s : Keyed (length nu) (key nu touched bound) tree) (some : 0 < length nu) (q number : ℕ)
     (first : (q ≡ best (key_at (length nu) tree) (length nu)) × (q < length nu)) (is : number ≡ key nu touched bound q) where
   pub taken_one : (tree' : List ℕ) → (number ≡ 0 → ⊥) → Keyed (length nu) (below number (key_at (length nu) tree)) tree' → Taken nu touched bound tree' q number
   taken_one tree' d k =
@@ -432,15 +432,15 @@ module _ (nu : List ℕ) (touched : List Bool) (bound : ℕ) (tree : List ℕ) (
   taken_none z = ap (key nu touched bound) (sym (newest_first_lem nu touched bound tree s q some first.0)) ∙ sym is ∙ z
 
 -- One step: the newest candidate is listed unless it is reached, and all of its branches are reached.
-pub listing_next : (g : Geometry) (image : ℕ → List ℕ) (pl nu : List ℕ) (touched : List Bool) (number : ℕ) (done done' : List ℕ) (i bound bound' q : ℕ)
-    (tree : List ℕ) (reached reached' : List Bool) → Live g image (at pl) (length nu)
+pub listing_next : (g : Geometry) (image : ℕ → List ℕ) (pl nu touched : List ℕ) (number : ℕ) (done done' : List ℕ) (i bound bound' q : ℕ)
+    (tree reached reached' : List ℕ) → Live g image (at pl) (length nu)
     → Listing g image pl nu touched number done (length nu - i) bound (flagged reached) → i < length nu → Taken nu touched bound tree q bound'
-    → done' ≡ done ++ cond (get_or reached q false) [] (at pl q ∷ [])
+    → done' ≡ done ++ cond (eqb (at reached q) 1) [] (at pl q ∷ [])
     → flagged reached' ≡ (λ r. flagged reached r || (elem (at pl r) (take (at (words_of (image (at pl q))) 6) (branch_words (words_of (image (at pl q))))) && ltb (at nu r) bound'))
     → Listing g image pl nu touched number done' (length nu - (i + 1)) bound' (flagged reached')
 unfolding flagged
 listing_next g image pl nu touched number done done' i bound bound' q tree reached reached' live s h t e r =
     subst (λ (k : ℕ). Listing g image pl nu touched number done' k bound' (flagged reached')) (let k : length nu - i - 1 ≡ length nu - (i + 1) = omega arith in k)
-    (listing_more g image pl nu touched number done done' (length nu - i) bound bound' q (at pl q) (flagged reached) (flagged reached') (get_or reached q false) s
+    (listing_more g image pl nu touched number done done' (length nu - i) bound bound' q (at pl q) (flagged reached) (flagged reached') (eqb (at reached q) 1) s
     (omega arith) t.newest t.key t.some refl refl e
     (reached_all g (image (at pl q)) (flagged reached) (flagged reached') pl nu bound' (live.signed q t.inside) r))

@@ -17,13 +17,13 @@ ghost use Rattle.listing.specs.Listing.{NoneOlder, Taken};
 use geometry::Geometry;
 
 // The number of piece q where it is a candidate: untouched and older than bound; otherwise 0, the tournament's key for none.
-fn older_key(numbers: &[u32], touched: &[bool], bound: u32, q: usize) -> u32
+fn older_key(numbers: &[u32], touched: &[u8], bound: u32, q: usize) -> u32
     requires q_in_bounds { q < length numbers.now }
     requires numbers_in_bounds { length numbers.now ≤ length touched.now }
     ensures { result ≡ older_key (tables_of [] [] numbers.now []) (unflagged (length numbers.now) touched.now) bound q }
 {
     let number = numbers[q];
-    if !touched[q] && number < bound {
+    if touched[q] != 1 && number < bound {
         number
     } else {
         0
@@ -31,7 +31,7 @@ fn older_key(numbers: &[u32], touched: &[bool], bound: u32, q: usize) -> u32
 }
 
 // Enters every piece with its key, so that the newest candidate is the first of the tournament.
-fn enter_all(tree: &mut [u64], numbers: &[u32], touched: &[bool], bound: u32)
+fn enter_all(tree: &mut [u64], numbers: &[u32], touched: &[u8], bound: u32)
     requires tree_len { length tree.old ≡ tree_length }
     requires numbers_len_bound { length numbers.now ≤ most_pieces }
     requires numbers_in_bounds { length numbers.now ≤ length touched.now }
@@ -61,7 +61,7 @@ fn list_place(branches: &mut [u32], count: usize, place: u32, known: bool) -> us
 }
 
 // A branch to sector b, which says piece p: the live sector there is reached, if it is older than bound.
-fn reach(reached: &mut [bool], places: &[u32], numbers: &[u32], p: u32, b: u32, bound: u32)
+fn reach(reached: &mut [u8], places: &[u32], numbers: &[u32], p: u32, b: u32, bound: u32)
     requires places_len { length places.now ≡ length numbers.now }
     requires places_in_bounds { length places.now ≤ length reached.old }
     requires by_index { (q : ℕ) → at places.now q ≡ b → (q ≡ p) × (q < length places.now) }
@@ -69,7 +69,7 @@ fn reach(reached: &mut [bool], places: &[u32], numbers: &[u32], p: u32, b: u32, 
 {
     let q = p as usize;
     if q < places.len() && places[q] == b && numbers[q] < bound {
-        reached[q] = true;
+        reached[q] = 1;
     }
 }
 
@@ -81,7 +81,7 @@ struct Newest {
 }
 
 // Takes the newest candidate, if one is left. The older ones stay in the tournament.
-fn take_newest(tree: &mut [u64], numbers: &[u32], touched: &[bool], bound: u32) -> Option<Newest>
+fn take_newest(tree: &mut [u64], numbers: &[u32], touched: &[u8], bound: u32) -> Option<Newest>
     requires tree_len { length tree.old ≡ tree_length }
     requires numbers_len_bound { length numbers.now ≤ most_pieces }
     requires numbers_in_bounds { length numbers.now ≤ length touched.now }
@@ -130,7 +130,7 @@ fn piece_at(image: &[u8], g: Geometry, place: u32) -> u32
 
 // What branch i of a signed sector reaches.
 fn reach_branch(
-    reached: &mut [bool],
+    reached: &mut [u8],
     image: &[u8],
     g: Geometry,
     places: &[u32],
@@ -154,7 +154,7 @@ fn reach_branch(
 
 // What all branches of a signed sector reach.
 fn reach_branches(
-    reached: &mut [bool],
+    reached: &mut [u8],
     image: &[u8],
     g: Geometry,
     places: &[u32],
@@ -181,7 +181,7 @@ fn list_newest(
     g: Geometry,
     places: &[u32],
     numbers: &[u32],
-    touched: &[bool],
+    touched: &[u8],
     number: u32,
     tree: &mut [u64],
     branches: &mut [u32],
@@ -197,7 +197,7 @@ fn list_newest(
     requires keyed { Keyed (length numbers.now) (older_key (tables_of [] [] numbers.now []) (unflagged (length numbers.now) touched.now) (number + 1)) tree.old }
     ensures { take result branches.new ≡ take folding_branches (listing (length numbers.now) (tables_of [] places.now numbers.now []) (view_of g (sector_at image.now)) (unflagged (length numbers.now) touched.now) (length numbers.now) (suc number) (λ _. false)) × (result ≤ folding_branches) }
 {
-    let mut reached = [false; Geometry::MOST_PIECES];
+    let mut reached = [0u8; Geometry::MOST_PIECES];
     let mut count = 0;
     let mut bound = number + 1;
     for _step in 0..numbers.len() {
@@ -208,7 +208,7 @@ fn list_newest(
             break;
         };
         let place = places[next.piece];
-        count = list_place(branches, count, place, reached[next.piece]);
+        count = list_place(branches, count, place, reached[next.piece] == 1);
         bound = next.number;
         reach_branches(&mut reached, image, g, places, numbers, place, bound);
     }
@@ -222,7 +222,7 @@ pub fn list_branches(
     g: Geometry,
     places: &[u32],
     numbers: &[u32],
-    touched: &[bool],
+    touched: &[u8],
     number: u32,
     branches: &mut [u32],
 ) -> usize
