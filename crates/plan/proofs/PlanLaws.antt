@@ -81,7 +81,7 @@ touches_past blocks l q inside h =
     either : (a b : ℕ) → a < b → eqb a b ≡ false
     either a b k = ⊎_elim (λ (e : eqb a b ≡ true). let z = eqb-true a b e in absurd (omega arith)) (λ (e : eqb a b ≡ false). e) (bool? (eqb a b))
 
-module _ (s : State) (pl nu us blocks : List ℕ) (view : View) (head count : ℕ) (touched written : List Bool) (bs taken : List ℕ) (listed first members pieces : ℕ)
+module _ (s : State) (pl nu us blocks : List ℕ) (view : View) (head count : ℕ) (touched written bs taken : List ℕ) (listed first members pieces : ℕ)
     (inside : (i : ℕ) → i < length blocks → at blocks i < s.geometry.l) (pieces-is : pieces ≡ pieces_for s.geometry.l)
     (lens : length nu ≡ pieces_for s.geometry.l) (untouched : Untouched s pl nu view blocks touched bs listed)
     (first-is : first ≡ cond (ltb 24 listed) 0 listed)
@@ -154,16 +154,16 @@ pub counted_few : (f : ℕ → Bool) (pieces members most : ℕ) → members ≡
 counted_few f pieces members most e m = let h = count_le f pieces in omega arith
 
 -- The flags are as many as pieces there can be, and blocks below L have one.
-pub flags_room : (n : ℕ) (written : List Bool) → written ≡ replicate 256 false → n ≡ length written → n ≡ 256
-flags_room n written w e = e ∙ ap length w ∙ length-replicate 256 false
+pub flags_room : (n : ℕ) (written : List ℕ) → written ≡ replicate 256 0 → n ≡ length written → n ≡ 256
+flags_room n written w e = e ∙ ap length w ∙ length-replicate {A = ℕ} 256 0
 
-pub touchable : (g : Geometry) (written : List Bool) (blocks : List ℕ) → geometry_fits g ≡ true → ((i : ℕ) → i < length blocks → at blocks i < g.l)
-    → written ≡ replicate 256 false
-    → (written ≡ replicate (length written) false) × ((i : ℕ) → i < length blocks → piece_of (at blocks i) < length written)
+pub touchable : (g : Geometry) (written blocks : List ℕ) → geometry_fits g ≡ true → ((i : ℕ) → i < length blocks → at blocks i < g.l)
+    → written ≡ replicate 256 0
+    → (written ≡ replicate (length written) 0) × ((i : ℕ) → i < length blocks → piece_of (at blocks i) < length written)
 touchable g written blocks f inside w =
     let most = (fits g f).most in
     let len = flags_room (length written) written w refl in
-    (w ∙ ap (λ (x : ℕ). replicate x false) (sym len), λ i h. let z = inside i h in let q : piece_of (at blocks i) < length written = omega arith in q)
+    (w ∙ ap (λ (x : ℕ). replicate x 0) (sym len), λ i h. let z = inside i h in let q : piece_of (at blocks i) < length written = omega arith in q)
 
 pub live_for : (g : Geometry) (image : ℕ → List ℕ) (place : ℕ → ℕ) (n m : ℕ) → m ≡ n → Live g image place n → Live g image place m
 live_for g image place n m e live = subst (Live g image place) (sym e) live

@@ -1,5 +1,5 @@
 -- The pieces of the named blocks, flagged, and the branches to the others.
-use Rattle.std.specs.Prelude.{ℕ, suc, ◌≤◌, ◌≡◌, Bool, false, List, [], length, take}
+use Rattle.std.specs.Prelude.{ℕ, suc, ◌≤◌, ◌≡◌, false, List, [], length, take}
 use Rattle.state.specs.declared.State.{State}
 use Rattle.geometry.specs.Geometry.{folding_branches, most_pieces}
 use Rattle.layout.specs.MapSector.{View}
@@ -8,7 +8,7 @@ use Rattle.volume.specs.Commit.{touches, listing}
 use Rattle.pieces.specs.Arrays.{flagged, unflagged}
 
 -- The flags say which pieces are touched; the first of the branches to the others are listed, at most 25.
-pub record Untouched (s : State) (pl nu : List ℕ) (view : View) (blocks : List ℕ) (touched : List Bool) (branches : List ℕ) (listed : ℕ) : Type 0 where
+pub record Untouched (s : State) (pl nu : List ℕ) (view : View) (blocks touched branches : List ℕ) (listed : ℕ) : Type 0 where
   pub touching : flagged touched ≡ touches blocks
   pub flags : length touched ≡ most_pieces
   pub room : length branches ≡ folding_branches

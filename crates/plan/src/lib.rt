@@ -42,7 +42,7 @@ fn copy_used(used: &[u8], marks: &mut [u8])
 }
 
 // With more branches listed than there is room for, every piece is written and the first member has none.
-fn fold(written: &mut [bool], pieces: u32, listed: usize) -> usize
+fn fold(written: &mut [u8], pieces: u32, listed: usize) -> usize
     requires { pieces ≤ length written.old }
     ensures { (result ≡ cond (ltb branch_room listed) 0 listed) × (flagged written.new ≡ cond (ltb branch_room listed) (λ q. ltb q pieces || flagged written.old q) (flagged written.old)) }
 {
@@ -169,7 +169,7 @@ fn list_untouched(
     places: &[u32],
     numbers: &[u32],
     blocks: &[u32],
-    written: &mut [bool],
+    written: &mut [u8],
     branches: &mut [u32],
 ) -> usize
     requires geometry_value { geometry_fits s.geometry ≡ true }
@@ -179,7 +179,7 @@ fn list_untouched(
     requires number_le_greatest { s.number ≤ base.greatest }
     requires by_index { (i : ℕ) → i < length blocks.now → at blocks.now i < s.geometry.l }
     requires live { Live s.geometry (sector_at image.now) (at places.now) (pieces_for s.geometry.l) }
-    requires written_value { written.old ≡ replicate most_pieces false }
+    requires written_value { written.old ≡ replicate most_pieces 0 }
     requires branches_len { length branches.old ≡ folding_branches }
     ensures { Untouched s places.now numbers.now (view_of s.geometry (sector_at image.now)) blocks.now written.new branches.new result }
 {
@@ -190,7 +190,7 @@ fn list_untouched(
 }
 
 // Counts the members, once it is known how many branches are listed.
-fn count_members(written: &mut [bool], pieces: u32, listed: usize) -> Sizes
+fn count_members(written: &mut [u8], pieces: u32, listed: usize) -> Sizes
     requires pieces_le_most_pieces { pieces ≤ most_pieces }
     requires pieces_in_bounds { pieces ≤ length written.old }
     ensures { (result.branches ≡ cond (ltb branch_room listed) 0 listed) × (flagged written.new ≡ cond (ltb branch_room listed) (λ q. ltb q pieces || flagged written.old q) (flagged written.old)) × (result.members ≡ count_below (flagged written.new) pieces) × (result.members ≤ most_pieces) }
@@ -212,7 +212,7 @@ pub fn plan(
     head: u32,
     blocks: &[u32],
     count: u32,
-    written: &mut [bool],
+    written: &mut [u8],
     branches: &mut [u32],
     taken: &mut [u32],
     allowance: u32,
@@ -228,7 +228,7 @@ pub fn plan(
     requires count_le_commit_blocks { count ≤ commit_blocks }
     requires by_index { (i : ℕ) → i < length blocks.now → at blocks.now i < s.geometry.l }
     requires live { Live s.geometry (sector_at image.now) (at places.now) (pieces_for s.geometry.l) }
-    requires written_value { written.old ≡ replicate most_pieces false }
+    requires written_value { written.old ≡ replicate most_pieces 0 }
     requires branches_len { length branches.old ≡ folding_branches }
     requires taken_len { length taken.old ≡ commit_sectors }
     ensures { Planning (planned base s (tables_of [] places.now numbers.now used.now) (view_of s.geometry (sector_at image.now)) head (change_of blocks.now [] count)) result.branches result.members branches.new written.new count taken.new result.skipped allowance }
