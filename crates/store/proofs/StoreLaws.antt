@@ -7,9 +7,9 @@ use mathlib.Core.List.{List, [], ◌∷◌, ◌++◌}
 use native.Mathlib.Nat.{not-suc-le-zero}
 use native.Mathlib.Numerals.{add-one}
 use native.Mathlib.Omega.{arith}
-use lib.ListN.{length, get_or, take}
+use lib.ListN.{length, take}
 use lib.Dec.{eqb}
-use borrow.Author.Tests.{eq-eqb}
+use borrow.Author.Tests.{eq-eqb, ne_eqb}
 use Rattle.state.specs.declared.State.{State}
 use Rattle.geometry.specs.Geometry.{pieces_for, piece_of}
 use Rattle.layout.specs.Bounded.{at, always, is_zero, count_below, updated, updates}
@@ -62,7 +62,7 @@ pub few_listed : (branches listed : List ℕ) (first : Bool) (last : ℕ) → le
 few_listed branches listed true last h e = subst (λ (xs : List ℕ). length xs ≤ 24) (sym e) h
 few_listed branches listed false last h e = subst (λ (xs : List ℕ). length xs ≤ 24) (sym e) (omega arith)
 
-module _ (s : State) (map blocks news taken branches : List ℕ) (written : List Bool) (count members : ℕ) where
+module _ (s : State) (map blocks news taken branches written : List ℕ) (count members : ℕ) where
   abbrev pub stores : ℕ → Store
   stores = member_store s (tables_of map [] [] []) (plan_of branches written members count taken 0) (change_of blocks news count)
 
@@ -94,22 +94,22 @@ module _ (s : State) (map blocks news taken branches : List ℕ) (written : List
       })))
       e
 
-pub is_flagged : (written : List Bool) (p : ℕ) → get_or written p false ≡ true → flagged written p ≡ true
+pub is_flagged : (written : List ℕ) (p : ℕ) → at written p ≡ 1 → flagged written p ≡ true
 unfolding flagged
-is_flagged written p e = e
+is_flagged written p e = eq-eqb (at written p) 1 e
 
-pub not_flagged : (written : List Bool) (p : ℕ) → get_or written p false ≡ false → flagged written p ≡ false
+pub not_flagged : (written : List ℕ) (p : ℕ) → (at written p ≡ 1 → ⊥) → flagged written p ≡ false
 unfolding flagged
-not_flagged written p e = e
+not_flagged written p d = ne_eqb (at written p) 1 d
 
-pub rank_starts : (written : List Bool) → 0 ≡ count_below (flagged written) 0
+pub rank_starts : (written : List ℕ) → 0 ≡ count_below (flagged written) 0
 unfolding count_below
 rank_starts written = refl
 
-pub rank_skips : (written : List Bool) (p j : ℕ) → flagged written p ≡ false → j ≡ count_below (flagged written) p → j ≡ count_below (flagged written) (p + 1)
+pub rank_skips : (written : List ℕ) (p j : ℕ) → flagged written p ≡ false → j ≡ count_below (flagged written) p → j ≡ count_below (flagged written) (p + 1)
 rank_skips written p j d e = e ∙ sym (count_miss (flagged written) p d) ∙ ap (count_below (flagged written)) (sym (add-one p))
 
-pub rank_grows : (written : List Bool) (p j : ℕ) → flagged written p ≡ true → j ≡ count_below (flagged written) p → j + 1 ≡ count_below (flagged written) (p + 1)
+pub rank_grows : (written : List ℕ) (p j : ℕ) → flagged written p ≡ true → j ≡ count_below (flagged written) p → j + 1 ≡ count_below (flagged written) (p + 1)
 rank_grows written p j e f =
     add-one j ∙ ap suc f ∙ sym (count_hit (flagged written) p e) ∙ ap (count_below (flagged written)) (sym (add-one p))
 
@@ -117,7 +117,7 @@ rank_grows written p j e f =
 pub cursor_starts : (blocks : List ℕ) → ((i j : ℕ) → i < j → j < length blocks → at blocks i < at blocks j) → Cursor blocks 0 0
 cursor_starts blocks up = record { ascending = up; most = omega arith; behind = λ i h. absurd (not-suc-le-zero h); ahead = λ i h b. omega arith }
 
-pub cursor_skips : (blocks : List ℕ) (written : List Bool) (p from : ℕ) → ((i : ℕ) → i < length blocks → flagged written (piece_of (at blocks i)) ≡ true)
+pub cursor_skips : (blocks written : List ℕ) (p from : ℕ) → ((i : ℕ) → i < length blocks → flagged written (piece_of (at blocks i)) ≡ true)
     → flagged written p ≡ false → Cursor blocks p from → Cursor blocks (p + 1) from
 cursor_skips blocks written p from touched d c =
     record {
@@ -133,7 +133,7 @@ cursor_skips blocks written p from touched d c =
     }
 
 -- Data, then members.
-module _ (s : State) (map blocks bytes news taken branches : List ℕ) (written : List Bool) (count members allowance : ℕ) (before : ℕ → List ℕ) where
+module _ (s : State) (map blocks bytes news taken branches written : List ℕ) (count members allowance : ℕ) (before : ℕ → List ℕ) where
   abbrev datas : List Store
   datas = stores_below always (block_store taken bytes) count
 

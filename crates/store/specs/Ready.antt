@@ -1,5 +1,5 @@
 -- What stands before a commit's first store, and stays as it is while the stores are made.
-use Rattle.std.specs.Prelude.{ℕ, ◌+◌, ◌≤◌, ◌<◌, ◌^◌, ◌≡◌, Bool, true, List, length}
+use Rattle.std.specs.Prelude.{ℕ, ◌+◌, ◌≤◌, ◌<◌, ◌^◌, ◌≡◌, true, List, length}
 use Rattle.state.specs.declared.State.{State}
 use Rattle.geometry.specs.Geometry.{branch_room, pieces_for, piece_of, most_pieces}
 use Rattle.layout.specs.Bounded.{at, count_below}
@@ -7,7 +7,7 @@ use Rattle.pieces.specs.Arrays.{flagged}
 
 -- The named blocks are below L and ascend, their pieces are flagged, and each has its entry; as many sectors are taken as are
 -- stored, and they are below N; the first member's branches fit; each member's piece is flagged; and the numbers suffice.
-pub record Ready (s : State) (map blocks entries taken : List ℕ) (data_sectors : ℕ) (branches : List ℕ) (written : List Bool) (members : ℕ) : Type 0 where
+pub record Ready (s : State) (map blocks entries taken : List ℕ) (data_sectors : ℕ) (branches written : List ℕ) (members : ℕ) : Type 0 where
   pub whole : length map ≡ s.geometry.l
   pub enough : length blocks ≤ length entries
   pub ascending : (i j : ℕ) → i < j → j < length blocks → at blocks i < at blocks j

@@ -102,7 +102,7 @@ fn store_members(
     taken: &[u32],
     count: u32,
     branches: &[u32],
-    written: &[bool],
+    written: &[u8],
     members: u32,
     allowance: u32,
 ) -> Option<u32>
@@ -114,7 +114,7 @@ fn store_members(
     let mut j = 0;
     let mut from = 0;
     for p in 0..Geometry::pieces_for(s.geometry.l) {
-        if !written[p as usize] {
+        if written[p as usize] != 1 {
             continue;
         }
         left = left.checked_sub(1)?;
@@ -137,7 +137,7 @@ pub fn store(
     taken: &[u32],
     count: u32,
     branches: &[u32],
-    written: &[bool],
+    written: &[u8],
     members: u32,
     allowance: u32,
 ) -> Option<u32>

@@ -15,9 +15,9 @@ pub loop-p-init : goal.loop-p-init
 loop-p-init c =
     (rank_starts _, cursor_starts _ c.requires.ready.ascending, storing_starts _ _ _ _)
 
-pub loop-p-preserved-then-not-written-p : goal.loop-p-preserved-then-not-written-p
-loop-p-preserved-then-not-written-p c =
-    let not = not_flagged c.args.written.now c.loop-p.p c.if-not-written-p.true in (
+pub loop-p-preserved-then-written-p-ne1 : goal.loop-p-preserved-then-written-p-ne1
+loop-p-preserved-then-written-p-ne1 c =
+    let not = not_flagged c.args.written.now c.loop-p.p c.if-written-p-ne1.true in (
       rank_skips _ c.loop-p.p c.loop-p.j not c.loop-p.invariant.0,
       cursor_skips _ _ c.loop-p.p c.loop-p.from c.requires.ready.touched not c.loop-p.invariant.1,
       rw add-one (storing_skips _ _ _ _ c.loop-p.p c.loop-p.left (sector_at c.loop-p.image) not c.loop-p.invariant.2),
@@ -28,7 +28,7 @@ returns-in_err-left c =
     let none : c.loop-p.left ≡ 0 = omega (arith, c.in_err-left.ensures) in
     let r = storing_fails (flagged c.args.written.now) (stores c.args.s c.args.map.now c.args.blocks.now c.args.news.now c.args.taken.now
     c.args.branches.now c.args.written.now c.args.count c.args.members) (sector_at c.args.image.now) c.args.allowance c.loop-p.p (pieces_for c.args.s.geometry.l)
-    (sector_at c.loop-p.image) (omega arith) (is_flagged c.args.written.now c.loop-p.p c.if-not-written-p.false)
+    (sector_at c.loop-p.image) (omega arith) (is_flagged c.args.written.now c.loop-p.p c.if-written-p-ne1.false)
     (subst
     (λ (x : ℕ). Storing (flagged c.args.written.now) (stores c.args.s c.args.map.now c.args.blocks.now c.args.news.now c.args.taken.now c.args.branches.now c.args.written.now c.args.count c.args.members) (sector_at c.args.image.now) c.args.allowance c.loop-p.p x (sector_at c.loop-p.image))
     none c.loop-p.invariant.2) in
@@ -36,7 +36,7 @@ returns-in_err-left c =
 
 pub store_member-from-requires : goal.store_member-from-requires
 store_member-from-requires c =
-    let b = count_before (flagged c.args.written.now) c.loop-p.p (pieces_for c.args.s.geometry.l) (omega arith) (is_flagged c.args.written.now c.loop-p.p c.if-not-written-p.false) in record {
+    let b = count_before (flagged c.args.written.now) c.loop-p.p (pieces_for c.args.s.geometry.l) (omega arith) (is_flagged c.args.written.now c.loop-p.p c.if-written-p-ne1.false) in record {
       image_len = omega arith;
       map_len = c.requires.ready.whole;
       blocks_in_bounds = c.requires.ready.enough;
@@ -53,7 +53,7 @@ store_member-from-requires c =
 pub loop-p-preserved : goal.loop-p-preserved
 loop-p-preserved c =
     let some : 1 ≤ c.loop-p.left = c.in_ok-left.ensures.0 in
-    let here = is_flagged c.args.written.now c.loop-p.p c.if-not-written-p.false in (
+    let here = is_flagged c.args.written.now c.loop-p.p c.if-written-p-ne1.false in (
       rank_grows c.args.written.now c.loop-p.p c.loop-p.j here c.loop-p.invariant.0,
       c.store_member-from.ensures.0,
       rw (add-one, c.in_ok-left.ensures.1)
