@@ -27,7 +27,7 @@ alike true b f g = sym (f refl)
 alike false true f g = g refl
 alike false false f g = refl
 
-module _ (g : Geometry) (tail number : ℕ) (mp pl nu us blocks news taken : List ℕ) (written : List Bool) (count : ℕ)
+module _ (g : Geometry) (tail number : ℕ) (mp pl nu us blocks news taken written : List ℕ) (count : ℕ)
     (some : 1 ≤ g.n) (size : length us ≡ used_bytes g.n)
     (s : Sound g (tables_of mp pl nu us) tail number) (gg : Settling g number blocks news taken count written) where
   abbrev entry' : ℕ → ℕ
@@ -259,7 +259,7 @@ pub taken_bit : (n size : ℕ) (taken : List ℕ) → size ≡ used_bytes n → 
 taken_bit n size taken e below i h = let z = below i h in omega arith
 
 -- The tables, from their parts.
-pub settled_tables : (s : State) (mp pl nu us blocks news taken : List ℕ) (written : List Bool) (count : ℕ) (entry place number : ℕ → ℕ) (bits : ℕ → Bool)
+pub settled_tables : (s : State) (mp pl nu us blocks news taken written : List ℕ) (count : ℕ) (entry place number : ℕ → ℕ) (bits : ℕ → Bool)
     → entry ≡ updates (at mp) (at blocks) (at news) (length blocks)
     → place ≡ (λ p. cond (flagged written p) (at taken (count + count_below (flagged written) p)) (at pl p))
     → number ≡ (λ p. cond (flagged written p) (suc (s.number + count_below (flagged written) p)) (at nu p))
@@ -287,7 +287,7 @@ settled_tables s mp pl nu us blocks news taken written count entry place number 
     }) h
 
 -- What each step asks for.
-pub used_needs : (g : Geometry) (tail number : ℕ) (mp pl nu us blocks news taken : List ℕ) (written : List Bool) (count : ℕ) → geometry_fits g ≡ true → length mp ≡ g.l
+pub used_needs : (g : Geometry) (tail number : ℕ) (mp pl nu us blocks news taken written : List ℕ) (count : ℕ) → geometry_fits g ≡ true → length mp ≡ g.l
     → length pl ≡ pieces_for g.l → length us ≡ used_bytes g.n → consistent g (tables_of mp pl nu us) tail number ≡ true
     → Settling g number blocks news taken count written
     → ((i : ℕ) → i < length blocks → at blocks i < length mp)
@@ -305,7 +305,7 @@ used_needs g tail number mp pl nu us blocks news taken written count f e p u k s
       ),
     )
 
-module _ (g : Geometry) (number : ℕ) (blocks news taken : List ℕ) (written : List Bool) (count : ℕ) (s : Settling g number blocks news taken count written) where
+module _ (g : Geometry) (number : ℕ) (blocks news taken written : List ℕ) (count : ℕ) (s : Settling g number blocks news taken count written) where
   pub map_needs : (n : ℕ) → n ≡ g.l → (length blocks ≤ length news) × ((i : ℕ) → i < length blocks → at blocks i < n)
   map_needs n e = (s.enough, λ i h. subst (λ (x : ℕ). at blocks i < x) (sym e) (s.inside i h))
 
@@ -322,7 +322,7 @@ module _ (g : Geometry) (number : ℕ) (blocks news taken : List ℕ) (written :
       (e ∙ sym h, (omega arith, (λ p k. s.past p (omega arith), (omega arith, omega arith))))
 
 -- All of it: the tables that the steps leave.
-pub settled : (s : State) (mp pl nu us blocks news taken : List ℕ) (written : List Bool) (count : ℕ) → geometry_fits s.geometry ≡ true
+pub settled : (s : State) (mp pl nu us blocks news taken written : List ℕ) (count : ℕ) → geometry_fits s.geometry ≡ true
     → length pl ≡ pieces_for s.geometry.l → length us ≡ used_bytes s.geometry.n
     → consistent s.geometry (tables_of mp pl nu us) s.tail s.number ≡ true
     → Settling s.geometry s.number blocks news taken count written → (entry place number : ℕ → ℕ) (bits : ℕ → Bool)

@@ -5,12 +5,12 @@ ghost use Rattle.std.specs.Prelude.{◌≡◌, true, false, cond, not, ◌&&◌,
 ghost use Rattle.geometry.specs.Geometry.{pieces_for, used_bytes, geometry_fits};
 ghost use Rattle.layout.specs.Bounded.{at, any_below, count_below, updates};
 ghost use Rattle.layout.specs.Entry.{is_empty, sector_of};
-ghost use Rattle.volume.specs.Tables.{bit_at, tables_of, consistent};
+ghost use Rattle.volume.specs.Tables.{bit_at, consistent};
 ghost use Rattle.volume.specs.Commit.{committed_tables};
-ghost use Rattle.lending.specs.Lending.{lengths_held, SameLent};
+ghost use Rattle.lending.specs.Lending.{tables_filled, SameTables, SameLengths};
 ghost use Rattle.pieces.specs.Arrays.{flagged, without, plan_of, change_of, Settling};
 
-use lending::Memory;
+use lending::TablesMut;
 use state::State;
 
 // Frees the sector of an entry, if it has one: 0 is the image's word for none.
@@ -36,13 +36,13 @@ fn free_blocks(used: &mut [u8], map: &[u32], blocks: &[u32])
 }
 
 // Frees the places of the pieces that were written.
-fn free_places(used: &mut [u8], places: &[u32], written: &[bool])
+fn free_places(used: &mut [u8], places: &[u32], written: &[u8])
     requires places_in_bounds { length places.now ≤ length written.now }
     requires by_index { (p : ℕ) → p < length places.now → at places.now p < 8 * length used.old }
     ensures { bit_at used.new ≡ without (bit_at used.old) (flagged written.now) (at places.now) (length places.now) }
 {
     for (q, place) in places.iter().enumerate() {
-        if !written[q] {
+        if written[q] != 1 {
             continue;
         }
         bits::clear_bit(used, *place as usize);
@@ -60,23 +60,22 @@ fn use_places(used: &mut [u8], taken: &[u32])
 }
 
 // Frees what the commit supersedes, and then marks what it took: a sector may be both.
-fn change_used(m: &mut Memory<'_>, blocks: &[u32], taken: &[u32], written: &[bool])
-    requires by_index { (i : ℕ) → i < length blocks.now → at blocks.now i < length m.old.map.now }
-    requires by_index_2 { (b : ℕ) → b < length m.old.map.now → is_empty (at m.old.map.now b) ≡ false → sector_of (at m.old.map.now b) < 8 * length m.old.used.now }
-    requires places_in_bounds { length m.old.places.now ≤ length written.now }
-    requires by_index_3 { (p : ℕ) → p < length m.old.places.now → at m.old.places.now p < 8 * length m.old.used.now }
-    requires by_index_4 { (i : ℕ) → i < length taken.now → at taken.now i < 8 * length m.old.used.now }
-    ensures lent { SameLent m.new m.old }
-    ensures image { m.new.image.now ≡ m.old.image.now }
-    ensures map { m.new.map.now ≡ m.old.map.now }
-    ensures places { m.new.places.now ≡ m.old.places.now }
-    ensures numbers { m.new.numbers.now ≡ m.old.numbers.now }
-    ensures used_len { length m.new.used.now ≡ length m.old.used.now }
-    ensures used { bit_at m.new.used.now ≡ (λ k. without (without (bit_at m.old.used.now) (λ i. not (is_empty (at m.old.map.now (at blocks.now i)))) (λ i. sector_of (at m.old.map.now (at blocks.now i))) (length blocks.now)) (flagged written.now) (at m.old.places.now) (length m.old.places.now) k || any_below (λ i. eqb k (at taken.now i)) (length taken.now)) }
+fn change_used(t: &mut TablesMut<'_>, blocks: &[u32], taken: &[u32], written: &[u8])
+    requires by_index { (i : ℕ) → i < length blocks.now → at blocks.now i < length t.old.map.now }
+    requires by_index_2 { (b : ℕ) → b < length t.old.map.now → is_empty (at t.old.map.now b) ≡ false → sector_of (at t.old.map.now b) < 8 * length t.old.used.now }
+    requires places_in_bounds { length t.old.places.now ≤ length written.now }
+    requires by_index_3 { (p : ℕ) → p < length t.old.places.now → at t.old.places.now p < 8 * length t.old.used.now }
+    requires by_index_4 { (i : ℕ) → i < length taken.now → at taken.now i < 8 * length t.old.used.now }
+    ensures lent { SameTables t.new t.old }
+    ensures map { t.new.map.now ≡ t.old.map.now }
+    ensures places { t.new.places.now ≡ t.old.places.now }
+    ensures numbers { t.new.numbers.now ≡ t.old.numbers.now }
+    ensures used_len { length t.new.used.now ≡ length t.old.used.now }
+    ensures used { bit_at t.new.used.now ≡ (λ k. without (without (bit_at t.old.used.now) (λ i. not (is_empty (at t.old.map.now (at blocks.now i)))) (λ i. sector_of (at t.old.map.now (at blocks.now i))) (length blocks.now)) (flagged written.now) (at t.old.places.now) (length t.old.places.now) k || any_below (λ i. eqb k (at taken.now i)) (length taken.now)) }
 {
-    let map = &mut *m.map;
-    let places = &mut *m.places;
-    let used = &mut *m.used;
+    let map = &mut *t.map;
+    let places = &mut *t.places;
+    let used = &mut *t.used;
     free_blocks(used, map, blocks);
     free_places(used, places, written);
     use_places(used, taken);
@@ -97,7 +96,7 @@ fn change_map(map: &mut [u32], blocks: &[u32], news: &[u32])
 fn change_live(
     places: &mut [u32],
     numbers: &mut [u32],
-    written: &[bool],
+    written: &[u8],
     taken: &[u32],
     count: usize,
     number: u32,
@@ -112,7 +111,7 @@ fn change_live(
     let mut next = number;
     let mut k = count;
     for p in 0..places.len() {
-        if !written[p] {
+        if written[p] != 1 {
             continue;
         }
         next += 1;
@@ -125,26 +124,25 @@ fn change_live(
 // All tables, after a whole commit.
 pub fn settle(
     s: State,
-    m: &mut Memory<'_>,
+    t: &mut TablesMut<'_>,
     blocks: &[u32],
     news: &[u32],
     taken: &[u32],
     count: usize,
-    written: &[bool],
+    written: &[u8],
 )
     requires geometry_value { geometry_fits s.geometry ≡ true }
-    requires map_len { length m.old.map.now ≡ s.geometry.l }
-    requires places_len { length m.old.places.now ≡ pieces_for s.geometry.l }
-    requires numbers_len { length m.old.numbers.now ≡ pieces_for s.geometry.l }
-    requires used_len { length m.old.used.now ≡ used_bytes s.geometry.n }
-    requires number_value { consistent s.geometry (tables_of m.old.map.now m.old.places.now m.old.numbers.now m.old.used.now) s.tail s.number ≡ true }
+    requires map_len { length t.old.map.now ≡ s.geometry.l }
+    requires places_len { length t.old.places.now ≡ pieces_for s.geometry.l }
+    requires numbers_len { length t.old.numbers.now ≡ pieces_for s.geometry.l }
+    requires used_len { length t.old.used.now ≡ used_bytes s.geometry.n }
+    requires number_value { consistent s.geometry (tables_filled t.old) s.tail s.number ≡ true }
     requires settling { Settling s.geometry s.number blocks.now news.now taken.now count written.now }
-    ensures lent { SameLent m.new m.old }
-    ensures image { m.new.image.now ≡ m.old.image.now }
-    ensures lengths { lengths_held m.new ≡ lengths_held m.old }
-    ensures value { tables_of m.new.map.now m.new.places.now m.new.numbers.now m.new.used.now ≡ committed_tables s (tables_of m.old.map.now m.old.places.now m.old.numbers.now m.old.used.now) (plan_of [] written.now 0 count taken.now 0) (change_of blocks.now news.now count) }
+    ensures lent { SameTables t.new t.old }
+    ensures lengths { SameLengths t.new t.old }
+    ensures value { tables_filled t.new ≡ committed_tables s (tables_filled t.old) (plan_of [] written.now 0 count taken.now 0) (change_of blocks.now news.now count) }
 {
-    change_used(m, blocks, taken, written);
-    change_map(m.map, blocks, news);
-    change_live(m.places, m.numbers, written, taken, count, s.number);
+    change_used(t, blocks, taken, written);
+    change_map(t.map, blocks, news);
+    change_live(t.places, t.numbers, written, taken, count, s.number);
 }

@@ -19,9 +19,9 @@ loop-p-init c =
       live_none (flagged c.args.written.now) (λ q. suc (c.args.number + count_below (flagged c.args.written.now) q)) (at c.args.numbers.now),
     )
 
-pub loop-p-preserved-then-not-written-p : goal.loop-p-preserved-then-not-written-p
-loop-p-preserved-then-not-written-p c =
-    let f = not_flagged c.args.written.now c.loop-p.p c.if-not-written-p.true in
+pub loop-p-preserved-then-written-p-ne1 : goal.loop-p-preserved-then-written-p-ne1
+loop-p-preserved-then-written-p-ne1 c =
+    let f = not_flagged c.args.written.now c.loop-p.p c.if-written-p-ne1.true in
     let r = rank_skips c.args.written.now c.loop-p.p _ f refl in (
       omega arith,
       omega arith,
@@ -31,19 +31,19 @@ loop-p-preserved-then-not-written-p c =
 
 pub overflow_add-next : goal.overflow_add-next
 overflow_add-next c =
-    let f = is_flagged c.args.written.now _ c.if-not-written-p.false in
+    let f = is_flagged c.args.written.now _ c.if-written-p-ne1.false in
     let b = count_before (flagged c.args.written.now) _ (length c.args.places.now) (omega arith) f in
     omega arith
 
 pub bounds-taken-k : goal.bounds-taken-k
 bounds-taken-k c =
-    let f = is_flagged c.args.written.now _ c.if-not-written-p.false in
+    let f = is_flagged c.args.written.now _ c.if-written-p-ne1.false in
     let b = count_before (flagged c.args.written.now) _ (length c.args.places.now) (omega arith) f in
     omega arith
 
 pub loop-p-preserved : goal.loop-p-preserved
 loop-p-preserved c =
-    let f = is_flagged c.args.written.now c.loop-p.p c.if-not-written-p.false in
+    let f = is_flagged c.args.written.now c.loop-p.p c.if-written-p-ne1.false in
     let r = rank_grows c.args.written.now c.loop-p.p (count_below (flagged c.args.written.now) c.loop-p.p) f refl in
     let v1 : ℕ → ℕ = (λ q. at c.args.taken.now (c.args.count + count_below (flagged c.args.written.now) q)) in
     let v2 : ℕ → ℕ = (λ q. suc (c.args.number + count_below (flagged c.args.written.now) q)) in (

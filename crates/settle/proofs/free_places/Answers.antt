@@ -14,9 +14,9 @@ use Rattle.settle.proofs.free_places.Goals as goal
 pub loop-q-init : goal.loop-q-init
 loop-q-init c = without_none _ _ _
 
-pub loop-q-preserved-then-not-written-q : goal.loop-q-preserved-then-not-written-q
-loop-q-preserved-then-not-written-q c =
-    without_miss _ _ _ c.loop-q.q (bit_at c.loop-q.used) (not_flagged _ c.loop-q.q c.if-not-written-q.true) c.loop-q.invariant
+pub loop-q-preserved-then-written-q-ne1 : goal.loop-q-preserved-then-written-q-ne1
+loop-q-preserved-then-written-q-ne1 c =
+    without_miss _ _ _ c.loop-q.q (bit_at c.loop-q.used) (not_flagged _ c.loop-q.q c.if-written-q-ne1.true) c.loop-q.invariant
 
 pub clear_bit-requires : goal.clear_bit-requires
 clear_bit-requires c =
@@ -25,7 +25,7 @@ clear_bit-requires c =
 
 pub loop-q-preserved : goal.loop-q-preserved
 loop-q-preserved c =
-    without_hit _ _ _ c.loop-q.q (bit_at c.loop-q.used) _ (is_flagged _ c.loop-q.q c.if-not-written-q.false) c.loop-q.invariant c.clear_bit.ensures
+    without_hit _ _ _ c.loop-q.q (bit_at c.loop-q.used) _ (is_flagged _ c.loop-q.q c.if-written-q-ne1.false) c.loop-q.invariant c.clear_bit.ensures
 
 pub returns : goal.returns
 returns c =

@@ -5,7 +5,7 @@ use Rattle.settle.proofs.UsedLaws.{used_needs, map_needs, live_needs, settled}
 use Rattle.settle.proofs.settle.Goals as goal
 
 pub change_used-requires : goal.change_used-requires
-change_used-requires c = let whole = used_needs _ _ _ c.args.m.now.map.now c.args.m.now.places.now c.args.m.now.numbers.now c.args.m.now.used.now _ _ _ _ _ c.requires.geometry_value c.requires.map_len c.requires.places_len c.requires.used_len c.requires.number_value c.requires.settling in record {
+change_used-requires c = let whole = used_needs _ _ _ c.args.t.now.map.now c.args.t.now.places.now c.args.t.now.numbers.now c.args.t.now.used.now _ _ _ _ _ c.requires.geometry_value c.requires.map_len c.requires.places_len c.requires.used_len c.requires.number_value c.requires.settling in record {
   by_index = whole.0;
   by_index_2 = whole.1.0;
   places_in_bounds = whole.1.1.0;
@@ -30,6 +30,6 @@ change_live-requires c = let whole = live_needs _ _ _ _ _ _ _ c.requires.settlin
 
 pub returns-clause-value : goal.returns-clause-value
 returns-clause-value c =
-    settled c.args.s c.args.m.now.map.now c.args.m.now.places.now c.args.m.now.numbers.now c.args.m.now.used.now _ _ _ _ _
+    settled c.args.s c.args.t.now.map.now c.args.t.now.places.now c.args.t.now.numbers.now c.args.t.now.used.now _ _ _ _ _
     c.requires.geometry_value c.requires.places_len c.requires.used_len c.requires.number_value c.requires.settling _ _ _ _
     (rw c.change_used.ensures.map at c.change_map.ensures) (rw c.change_used.ensures.places at c.change_live.ensures.0) (rw c.change_used.ensures.numbers at c.change_live.ensures.1) c.change_used.ensures.used
