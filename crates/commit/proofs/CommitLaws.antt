@@ -25,7 +25,7 @@ use Rattle.pieces.specs.Arrays.{flagged, plan_of, change_of, block_store, Settli
 use Rattle.commit.specs.Commit.{change_with}
 use Rattle.power.proofs.Performing.{memory_left, call_cut, call_whole}
 
-module _ (s : State) (allowance : ℕ) (im mp pl nu us im' : List ℕ) (blocks bytes news taken branches : List ℕ) (written : List Bool) (count members skipped : ℕ)
+module _ (s : State) (allowance : ℕ) (im mp pl nu us im' : List ℕ) (blocks bytes news taken branches written : List ℕ) (count members skipped : ℕ)
     (e1 : length im' ≡ length im) where
   abbrev action : Action
   action = plan_action s (tables_of mp pl nu us) (plan_of branches written members count taken skipped) (change_with blocks bytes news count)
@@ -68,7 +68,7 @@ module _ (s : State) (allowance : ℕ) (im mp pl nu us im' : List ℕ) (blocks b
         (memory_left im mp pl nu us im' mp' pl' nu' us' (sector_at im') action.tables e1 e2 e3 e4 e5 refl w.2)
 
 -- The last sector taken is the last member's.
-pub some_taken : (g : Geometry) (number : ℕ) (blocks news taken : List ℕ) (written : List Bool) (count members : ℕ) → Settling g number blocks news taken count written
+pub some_taken : (g : Geometry) (number : ℕ) (blocks news taken written : List ℕ) (count members : ℕ) → Settling g number blocks news taken count written
     → members ≡ count_below (flagged written) (pieces_for g.l) → 1 ≤ members → 1 ≤ length taken
 some_taken g number blocks news taken written count members s m one = let all = s.taken_all in omega arith
 

@@ -104,7 +104,7 @@ module _ (s : State) (im mp pl nu us : List ℕ) (head : ℕ) (blocks : List ℕ
       let least = fit.least in
       (sound s.geometry (tables_of mp pl nu us) s.tail s.number p.sound_tables).used 0 (omega arith)
 
-  module _ (first members : ℕ) (bs : List ℕ) (written : List Bool) (taken ts : List ℕ) (skipped allowance : ℕ)
+  module _ (first members : ℕ) (bs written taken ts : List ℕ) (skipped allowance : ℕ)
       (g : Planning the_plan first members bs written count taken skipped allowance) (slice : ts ≡ take (count + members) taken) where
     pub some_members : 1 ≤ members
     some_members = let e = g.members_are in let h = members_some in omega arith

@@ -18,7 +18,7 @@ ghost use Rattle.commit.specs.Commit.{change_with, change_by};
 
 use answer::{Answer, Cost};
 use geometry::Geometry;
-use lending::Memory;
+use lending::{Memory, TablesMut};
 use state::{Outcome, State};
 
 // The last member's sector is the new tail.
@@ -37,7 +37,7 @@ fn finish(
     news: &[u32],
     taken: &[u32],
     count: u32,
-    written: &[bool],
+    written: &[u8],
     members: u32,
     stores: u32,
     skipped: u32,
@@ -56,7 +56,13 @@ fn finish(
     ensures lengths { lengths_held m.new ≡ lengths_held m.old }
     ensures value { (result.answer ≡ Accepted (record { stores = stores; skipped = skipped })) × (result.state ≡ committed_state s (at taken.now (length taken.now - 1)) (s.number + members)) × (tables_of m.new.map.now m.new.places.now m.new.numbers.now m.new.used.now ≡ committed_tables s (tables_of m.old.map.now m.old.places.now m.old.numbers.now m.old.used.now) (plan_of [] written.now 0 count taken.now 0) (change_of blocks.now news.now count)) }
 {
-    settle::settle(s, m, blocks, news, taken, count as usize, written);
+    let mut t = TablesMut {
+        map: &mut *m.map,
+        places: &mut *m.places,
+        numbers: &mut *m.numbers,
+        used: &mut *m.used,
+    };
+    settle::settle(s, &mut t, blocks, news, taken, count as usize, written);
     let tail = last_of(taken);
     let number = s.number + members;
     Outcome {
@@ -75,7 +81,7 @@ fn carry_out(
     taken: &[u32],
     count: u32,
     branches: &[u32],
-    written: &[bool],
+    written: &[u8],
     members: u32,
     skipped: u32,
     allowance: u32,
@@ -139,7 +145,7 @@ pub fn commit(
     ensures lent { SameLent m.new m.old }
     ensures value { after result (held m.new) ≡ performed allowance (commit_action base s (tables_of m.old.map.now m.old.places.now m.old.numbers.now m.old.used.now) (view_of s.geometry (sector_at m.old.image.now)) head (change_by blocks.now bytes.now count)) (held m.old) }
 {
-    let mut written = [false; Geometry::MOST_PIECES];
+    let mut written = [0u8; Geometry::MOST_PIECES];
     let mut branches = [0u32; Geometry::FOLDING_BRANCHES];
     let mut taken = [0u32; Geometry::COMMIT_SECTORS];
     let mut news = [0u32; Geometry::COMMIT_BLOCKS];

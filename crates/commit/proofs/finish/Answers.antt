@@ -1,6 +1,7 @@
 -- The tables are settled, and the tail is the last sector taken.
 use mathlib.Core.Path.{refl}
 use native.Mathlib.Omega.{arith}
+use Rattle.std.proofs.Common.{rules}
 use Rattle.commit.proofs.CommitLaws.{some_taken, tail_is}
 use Rattle.commit.proofs.finish.Goals as goal
 
@@ -14,4 +15,4 @@ overflow_add-number c =
 
 pub returns-clause-value : goal.returns-clause-value
 returns-clause-value c =
-    (refl, tail_is c.args.s _ _ _ _ c.committed.ensures c.last_of-tail.ensures, c.settle.ensures.value)
+    (refl, tail_is c.args.s _ _ _ _ c.committed.ensures c.last_of-tail.ensures, search rules)
