@@ -2,7 +2,7 @@
 // no table is touched.
 #![tactic(auto)]
 
-ghost use Rattle.std.specs.Prelude.{◌≡◌, true, false, cond, ◌||◌, [], ℕ, ◌+◌, ◌*◌, ◌≤◌, ◌<◌, length, take, replicate, ltb};
+ghost use Rattle.std.specs.Prelude.{◌≡◌, true, cond, ◌||◌, [], ℕ, ◌+◌, ◌*◌, ◌≤◌, ◌<◌, length, take, replicate, ltb};
 ghost use Rattle.geometry.specs.Geometry.{sector_bytes, pieces_for, most_sectors, used_bytes, geometry_fits, drive_fits, branch_room, folding_branches, most_pieces, commit_blocks, commit_sectors};
 ghost use Rattle.layout.specs.Bounded.{at, list_from, count_below};
 ghost use Rattle.volume.specs.Tables.{bit_at, sector_at, tables_of};
