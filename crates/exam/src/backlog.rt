@@ -1,5 +1,6 @@
 // A backlog: its lines are gathered up to its end, and then its commits are made in one call.
-ghost use Rattle.lending.specs.Lending.{SameLent};
+ghost use Rattle.std.specs.Prelude.{◌≡◌};
+ghost use Rattle.lending.specs.Lending.{lengths_held, SameLent};
 ghost use Rattle.line_reader.specs.Reader.{Placed};
 
 use crate::desk::Desk;
@@ -26,6 +27,42 @@ pub struct Turn {
 }
 
 // Lends the parts that belong to the volume, and what was gathered.
+fn lend_parts(
+    s: State,
+    g: Gathered,
+    image: &mut [u8],
+    map: &mut [u32],
+    places: &mut [u32],
+    numbers: &mut [u32],
+    used: &mut [u8],
+    words: &[u32],
+    blocks: &[u32],
+    bytes: &[u8],
+    stores: u32,
+    answers: &mut [u32],
+) -> BatchOutcome {
+    let size = s.geometry;
+    let pieces = Geometry::pieces_for(size.l) as usize;
+    let commits = g.commits as usize;
+    let mut part = Memory {
+        image: calls::first(image, calls::bytes_of(size.n)),
+        map: calls::first(map, size.l as usize),
+        places: calls::first(places, pieces),
+        numbers: calls::first(numbers, pieces),
+        used: calls::first(used, size.used_bytes() as usize),
+    };
+    batch::batch(
+        s,
+        &mut part,
+        tokens::part(words, 0, COMMIT_WORDS * commits),
+        tokens::part(blocks, 0, g.blocks),
+        tokens::part(bytes, 0, g.bytes),
+        stores,
+        calls::first(answers, ANSWER_WORDS * commits),
+    )
+}
+
+// The call on the volume in all that the program holds.
 fn lend(
     s: State,
     g: Gathered,
@@ -37,25 +74,15 @@ fn lend(
     answers: &mut [u32],
 ) -> BatchOutcome
     ensures lent { SameLent m.new m.old }
+    ensures lengths { lengths_held m.new ≡ lengths_held m.old }
 {
-    let size = s.geometry;
-    let pieces = Geometry::pieces_for(size.l) as usize;
-    let commits = g.commits as usize;
-    let mut part = Memory {
-        image: calls::first(m.image, calls::bytes_of(size.n)),
-        map: calls::first(m.map, size.l as usize),
-        places: calls::first(m.places, pieces),
-        numbers: calls::first(m.numbers, pieces),
-        used: calls::first(m.used, size.used_bytes() as usize),
-    };
-    batch::batch(
-        s,
-        &mut part,
-        tokens::part(words, 0, COMMIT_WORDS * commits),
-        tokens::part(blocks, 0, g.blocks),
-        tokens::part(bytes, 0, g.bytes),
-        stores,
-        calls::first(answers, ANSWER_WORDS * commits),
+    let image = &mut *m.image;
+    let map = &mut *m.map;
+    let places = &mut *m.places;
+    let numbers = &mut *m.numbers;
+    let used = &mut *m.used;
+    lend_parts(
+        s, g, image, map, places, numbers, used, words, blocks, bytes, stores, answers,
     )
 }
 
@@ -102,6 +129,7 @@ fn make(
     stores: u32,
 ) -> Desk
     ensures lent { SameLent m.new m.old }
+    ensures lengths { lengths_held m.new ≡ lengths_held m.old }
 {
     let mut answers = [0u32; ANSWERS];
     let before = desk.state;
@@ -126,6 +154,7 @@ fn answer_commits(
     requires { Placed reader }
     ensures placed { Placed result.reader }
     ensures lent { SameLent m.new m.old }
+    ensures lengths { lengths_held m.new ≡ lengths_held m.old }
 {
     let mut words = [0u32; gather::WORDS];
     let mut blocks = [0u32; gather::BLOCKS];
@@ -162,6 +191,7 @@ fn answer_backlog(
     requires { Placed reader }
     ensures placed { Placed result.reader }
     ensures lent { SameLent m.new m.old }
+    ensures lengths { lengths_held m.new ≡ lengths_held m.old }
 {
     match desk.backlog {
         None => Turn { desk, reader },
@@ -181,6 +211,7 @@ pub fn answer_turn(
     requires { Placed reader }
     ensures placed { Placed result.reader }
     ensures lent { SameLent m.new m.old }
+    ensures lengths { lengths_held m.new ≡ lengths_held m.old }
 {
     let here = desk::answer_next(rt, desk, window, reader, m);
     answer_backlog(rt, input, here, window, reader.passed(), m)

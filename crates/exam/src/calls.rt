@@ -1,11 +1,11 @@
 // The calls on the volume, and their answers.
-ghost use Rattle.std.specs.Prelude.{◌≤◌, ◌*◌};
+ghost use Rattle.std.specs.Prelude.{◌≡◌, ◌≤◌, ◌*◌};
 ghost use Rattle.geometry.specs.Geometry.{sector_bytes};
-ghost use Rattle.lending.specs.Lending.{SameLent};
+ghost use Rattle.lending.specs.Lending.{lengths_held, SameLent};
 
 use answer::Answer;
 use geometry::{Drive, Geometry};
-use lending::Memory;
+use lending::{Memory, Tables};
 use paper::request::{Call, Request};
 use paper::{request, tokens};
 use state::{Outcome, State};
@@ -46,9 +46,16 @@ fn say_read(rt: &impl Print, s: State, m: &Memory<'_>, block: u32) -> Outcome {
 }
 
 // Whether a block is not all zeros. Its line is said where that is asked for: the count goes before the lines, so they are gone through twice.
-fn is_shown(rt: &impl Print, s: State, m: &Memory<'_>, block: u32, aloud: bool) -> bool {
+fn is_shown(
+    rt: &impl Print,
+    s: State,
+    image: &[u8],
+    t: &Tables<'_>,
+    block: u32,
+    aloud: bool,
+) -> bool {
     let mut out = [0u8; Geometry::SECTOR];
-    read::read(s, m.image(), &m.tables(), block, &mut out);
+    read::read(s, image, t, block, &mut out);
     if blocks::is_blank(&out) {
         return false;
     }
@@ -61,11 +68,13 @@ fn is_shown(rt: &impl Print, s: State, m: &Memory<'_>, block: u32, aloud: bool) 
     true
 }
 
-// How many blocks are not all zeros.
+// How many blocks are not all zeros. What is lent is taken apart before the loop, so that each turn reads its own block alone.
 fn show_blocks(rt: &impl Print, s: State, m: &Memory<'_>, aloud: bool) -> u32 {
+    let image = m.image();
+    let t = m.tables();
     let mut count = 0u32;
     for b in 0..s.geometry.l {
-        if is_shown(rt, s, m, b, aloud) {
+        if is_shown(rt, s, image, &t, b, aloud) {
             count += 1;
         }
     }
@@ -186,7 +195,45 @@ fn bytes_part(bytes: &[u8], count: usize) -> &[u8] {
     }
 }
 
-// Lends the parts that belong to a volume of this size: of an image or a map that is out of range, nothing.
+// Lends the parts that belong to a volume of this size: of an image or a map that is out of range, nothing. The slices come one by one,
+// since of each the language says that it keeps its length.
+fn lend_parts(
+    rt: &impl Print,
+    call: Call,
+    r: Request,
+    s: State,
+    size: Geometry,
+    drive: Drive,
+    image: &mut [u8],
+    map: &mut [u32],
+    places: &mut [u32],
+    numbers: &mut [u32],
+    used: &mut [u8],
+    blocks: &[u32],
+    bytes: &[u8],
+) -> Outcome {
+    let pieces = Geometry::pieces_for(size.l) as usize;
+    let mut part = Memory {
+        image: first(image, bytes_of(size.n)),
+        map: first(map, size.l as usize),
+        places: first(places, pieces),
+        numbers: first(numbers, pieces),
+        used: first(used, size.used_bytes() as usize),
+    };
+    perform(
+        rt,
+        call,
+        r,
+        s,
+        size,
+        drive,
+        &mut part,
+        tokens::part(blocks, 0, r.count),
+        bytes_part(bytes, r.count),
+    )
+}
+
+// A call on the volume in all that the program holds.
 pub fn lend(
     rt: &impl Print,
     call: Call,
@@ -199,24 +246,14 @@ pub fn lend(
     bytes: &[u8],
 ) -> Outcome
     ensures lent { SameLent m.new m.old }
+    ensures lengths { lengths_held m.new ≡ lengths_held m.old }
 {
-    let pieces = Geometry::pieces_for(size.l) as usize;
-    let mut part = Memory {
-        image: first(&mut *m.image, bytes_of(size.n)),
-        map: first(&mut *m.map, size.l as usize),
-        places: first(&mut *m.places, pieces),
-        numbers: first(&mut *m.numbers, pieces),
-        used: first(&mut *m.used, size.used_bytes() as usize),
-    };
-    perform(
-        rt,
-        call,
-        r,
-        s,
-        size,
-        drive,
-        &mut part,
-        tokens::part(blocks, 0, r.count),
-        bytes_part(bytes, r.count),
+    let image = &mut *m.image;
+    let map = &mut *m.map;
+    let places = &mut *m.places;
+    let numbers = &mut *m.numbers;
+    let used = &mut *m.used;
+    lend_parts(
+        rt, call, r, s, size, drive, image, map, places, numbers, used, blocks, bytes,
     )
 }

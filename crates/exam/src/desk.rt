@@ -1,5 +1,6 @@
 // The desk: it takes a line apart, lends the volume's parts to the call, and keeps the state.
-ghost use Rattle.lending.specs.Lending.{SameLent};
+ghost use Rattle.std.specs.Prelude.{◌≡◌};
+ghost use Rattle.lending.specs.Lending.{lengths_held, SameLent};
 ghost use Rattle.line_reader.specs.Reader.{Placed};
 
 use crate::given::Given;
@@ -187,6 +188,7 @@ fn answer_request(
     bytes: &[u8],
 ) -> Desk
     ensures lent { SameLent m.new m.old }
+    ensures lengths { lengths_held m.new ≡ lengths_held m.old }
 {
     let drive = given.drive;
     let left = calls::lend(rt, call, r, desk.state, given.size, drive, m, blocks, bytes);
@@ -208,6 +210,7 @@ fn answer_read(
     bytes: &mut [u8; LINE_BYTES],
 ) -> Desk
     ensures lent { SameLent m.new m.old }
+    ensures lengths { lengths_held m.new ≡ lengths_held m.old }
 {
     let found = request::request_of(line, call, blocks, bytes);
     let Some((r, given)) = understood(rt, desk, call, line, found) else {
@@ -219,6 +222,7 @@ fn answer_read(
 // A line that asks for a call.
 fn answer_call(rt: &impl Print, desk: Desk, call: Call, line: &[u8], m: &mut Memory<'_>) -> Desk
     ensures lent { SameLent m.new m.old }
+    ensures lengths { lengths_held m.new ≡ lengths_held m.old }
 {
     let mut blocks = [0u32; request::MOST];
     let mut bytes = [0u8; LINE_BYTES];
@@ -237,6 +241,7 @@ fn begin_backlog(rt: &impl Print, desk: Desk, line: &[u8]) -> Desk {
 // A line of the paper.
 fn answer_line(rt: &impl Print, desk: Desk, line: &[u8], m: &mut Memory<'_>) -> Desk
     ensures lent { SameLent m.new m.old }
+    ensures lengths { lengths_held m.new ≡ lengths_held m.old }
 {
     match request::call_of(line) {
         None => desk,
@@ -263,6 +268,7 @@ pub fn answer_next(
 ) -> Desk
     requires { Placed reader }
     ensures lent { SameLent m.new m.old }
+    ensures lengths { lengths_held m.new ≡ lengths_held m.old }
 {
     let here = desk.moved();
     match reader.standing(window) {

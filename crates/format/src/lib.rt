@@ -38,14 +38,14 @@ fn make(m: &mut Memory<'_>, settings: Settings, allowance: u32) -> Outcome
     let power = store_all(m.image, g, pieces, allowance);
     match power {
         None => {
-            lent::zero_tables(m);
+            lent::zero_held(m);
             Outcome {
                 answer: Answer::power_failed(allowance),
                 state: State::lost(g, settings.drive),
             }
         }
         Some(left) => {
-            lent::fresh_tables(m, g.l, pieces);
+            lent::fresh_held(m, g.l, pieces);
             let stores = allowance - left;
             Outcome {
                 answer: Answer::accepted(stores),

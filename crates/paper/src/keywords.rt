@@ -30,13 +30,20 @@ fn value_start(word: &[u8]) -> usize {
 
 // The keyword that a word begins with.
 pub fn keyword_of(word: &[u8]) -> Option<Keyword> {
-    match tokens::part(word, 0, value_start(word)) {
-        b"stores=" => Some(Keyword::Stores),
-        b"track=" => Some(Keyword::Track),
-        b"tracks=" => Some(Keyword::Tracks),
-        b"switch=" => Some(Keyword::Switch),
-        _ => None,
+    // By its first bytes: a word may be as long as a line.
+    if word.starts_with(b"stores=") {
+        return Some(Keyword::Stores);
     }
+    if word.starts_with(b"track=") {
+        return Some(Keyword::Track);
+    }
+    if word.starts_with(b"tracks=") {
+        return Some(Keyword::Tracks);
+    }
+    if word.starts_with(b"switch=") {
+        return Some(Keyword::Switch);
+    }
+    None
 }
 
 // The number of a keyword.

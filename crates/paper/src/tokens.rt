@@ -53,8 +53,10 @@ pub fn is_word(word: &[u8], name: &[u8]) -> bool {
 
 // A number with one more decimal digit.
 fn extended(value: u32, b: u8) -> Option<u32> {
-    let digit = char::from(b).to_digit(10)?;
-    value.checked_mul(10)?.checked_add(digit)
+    match b {
+        b'0'..=b'9' => u32::try_from(u64::from(value) * 10 + u64::from(b - b'0')).ok(),
+        _ => None,
+    }
 }
 
 // The decimal number that a word spells, where it is at most 4,294,967,295. (The library's `parse` also takes a sign.)

@@ -1,11 +1,24 @@
 -- States and results in plain numbers, by the tests that the code makes.
 use Prim.Native.Nat.{ℕ}
-use mathlib.Core.Path.{◌≡◌, ap, ◌∙◌}
+use mathlib.Core.Path.{◌≡◌, refl, sym, ap, ◌∙◌}
+use mathlib.Core.Bool.{Bool, true, false}
+use Rattle.state.specs.declared.State.{State}
 use Rattle.state.specs.declared.Outcome.{Outcome}
 use Rattle.state.specs.declared.BatchOutcome.{BatchOutcome}
-use Rattle.answer.specs.Answer.{verdict_number, number_of, cost_of, way_of, reads_of}
+use Rattle.answer.specs.declared.Answer.{Answer}
+use Rattle.answer.specs.Answer.{is_refusal, verdict_number, number_of, cost_of, way_of, reads_of}
 use Rattle.plain.specs.declared.CState.{CState}
-use Rattle.plain.specs.Plain.{plain_in, state_left, joined, result_of, phase_left, batch_joined, batch_result_of}
+use Rattle.plain.specs.Plain.{plain_of, plain_in, state_left, joined, result_of, phase_left, batch_joined, batch_result_of}
+
+-- A refusal keeps the state that came.
+module _ (c : CState) (answer : Answer) (s : State) (b : Bool) (f : b ≡ is_refusal answer) where
+  pub left_kept : b ≡ true → c ≡ state_left c answer s
+  unfolding state_left
+  left_kept e = rw (sym f ∙ e) refl
+
+  pub left_other : (r : CState) → r ≡ plain_of s → b ≡ false → r ≡ state_left c answer s
+  unfolding state_left
+  left_other r q e = rw (sym f ∙ e) q
 
 pub result_is : (c : CState) (o : Outcome) (answer stores skipped way read : ℕ) (left : CState)
     → answer ≡ number_of o.answer → stores ≡ (cost_of o.answer).stores → skipped ≡ (cost_of o.answer).skipped

@@ -70,7 +70,9 @@ fn fill(s: State, image: &[u8], t: &Tables<'_>, block: u32, out: &mut [u8])
     blocks::restore_block(out, entry, images::sector(image, k));
 }
 
-// Fills out with a block: an accepted read changes only those 512 bytes.
+// Fills out with a block: an accepted read changes only those 512 bytes. Inlined, so that a caller that reads one block after another
+// makes the checks of the state and the lengths once.
+#[inline(always)]
 pub fn read(s: State, image: &[u8], t: &Tables<'_>, block: u32, out: &mut [u8]) -> Outcome
     ensures { read_left result (seen image.now t.now) out.new ≡ read_of s (seen image.now t.now) block out.old }
 {

@@ -1,20 +1,22 @@
 // The recover call: the log is found again by a walk from the tail that was parked, or by a scan of all sectors.
 #![tactic(auto)]
 
-ghost use Rattle.std.specs.Prelude.{◌≡◌, true, ◌*◌, ◌/◌, Some, length, Ok};
+ghost use Rattle.std.specs.Prelude.{◌≡◌, true, ◌*◌, ◌/◌, ◌≤◌, Some, length, Ok};
 ghost use Rattle.geometry.specs.Geometry.{sector_bytes, pieces_for, used_bytes, geometry_of, geometry_fits};
 ghost use Rattle.layout.specs.ParkRecord.{parked_in};
-ghost use Rattle.lending.specs.Lending.{held, SameLent};
+ghost use Rattle.lending.specs.Lending.{held, lengths_held, SameLent};
 ghost use Rattle.volume.specs.Tables.{sector_at};
 ghost use Rattle.volume.specs.Refusals.{judged};
 ghost use Rattle.volume.specs.Store.{after};
 ghost use Rattle.volume.specs.Format.{size_checks};
-ghost use Rattle.volume.specs.Recover.{finding_of, scan_finding, recovered, image_view, recover_of};
+ghost use Rattle.volume.specs.Recover.{finding_of, scan_finding, recovered, image_view, recover_of, walked_log, walk_complete};
+ghost use Rattle.signed.specs.Signed.{signed_at};
+ghost use Rattle.walk.specs.Walking.{Left};
 ghost use Rattle.walk_start.specs.Starting.{start_of};
 
 use answer::Answer;
 use geometry::{Drive, Geometry, Settings};
-use lending::Memory;
+use lending::{Memory, TablesMut};
 use state::tail::Tail;
 use state::{Outcome, State};
 
@@ -51,6 +53,31 @@ fn by_scan(m: &mut Memory<'_>, g: Geometry, drive: Drive, allowance: u32) -> Out
     recover_by_scan::by_scan::<LARGE, LARGE_BYTES>(m, g, drive, allowance)
 }
 
+// The walk into the tables that are lent. The image is only looked at.
+fn walk_held(m: &mut Memory<'_>, g: Geometry, tail: Tail) -> bool
+    requires g_value { geometry_fits g ≡ true }
+    requires image_len { length m.old.image.now ≡ sector_bytes * g.n }
+    requires le_tail { 1 ≤ tail.sector }
+    requires tail_value { signed_at g (sector_at m.old.image.now) tail.sector ≡ true }
+    requires map_len { length m.old.map.now ≡ g.l }
+    requires places_len { length m.old.places.now ≡ pieces_for g.l }
+    requires numbers_len { length m.old.numbers.now ≡ pieces_for g.l }
+    requires used_len { length m.old.used.now ≡ used_bytes g.n }
+    ensures lent { SameLent m.new m.old }
+    ensures image { m.new.image.now ≡ m.old.image.now }
+    ensures lengths { lengths_held m.new ≡ lengths_held m.old }
+    ensures value { (result ≡ walk_complete g (walked_log g.l (image_view g (sector_at m.old.image.now)) (record { number = tail.number; tail = tail.sector }))) × (result ≡ true → Left g (sector_at m.old.image.now) tail.sector m.new.map.now m.new.places.now m.new.numbers.now m.new.used.now) }
+{
+    let image = &mut *m.image;
+    let mut t = TablesMut {
+        map: &mut *m.map,
+        places: &mut *m.places,
+        numbers: &mut *m.numbers,
+        used: &mut *m.used,
+    };
+    walk::walk_tables(image, g, tail.sector, tail.number, &mut t)
+}
+
 // By a walk from the tail that was parked, or by a scan where the walk does not answer.
 fn by_walk(m: &mut Memory<'_>, g: Geometry, drive: Drive, tail: Tail, allowance: u32) -> Outcome
     requires g_value { geometry_fits g ≡ true }
@@ -63,7 +90,7 @@ fn by_walk(m: &mut Memory<'_>, g: Geometry, drive: Drive, tail: Tail, allowance:
     ensures lent { SameLent m.new m.old }
     ensures value { after result (held m.new) ≡ recovered g drive allowance (held m.old) (finding_of g (image_view g (sector_at m.old.image.now)) (sector_at m.old.image.now 0)) }
 {
-    if !walk::walk_tables(m, g, tail.sector, tail.number) {
+    if !walk_held(m, g, tail) {
         return by_scan(m, g, drive, allowance);
     }
     let image = &mut *m.image;

@@ -71,7 +71,7 @@ pub fn by_scan<const N: usize, const BYTES: usize>(
     let mut above = [0u8; BYTES];
     match scan_held::<N>(m, g, &mut above) {
         Err(loss) => {
-            lent::zero_tables(m);
+            lent::zero_held(m);
             Outcome {
                 answer: Answer::Lost(loss),
                 state: State::lost(g, drive),

@@ -124,10 +124,11 @@ pub fn is_consistent(
     number: u32,
 ) -> bool {
     let p = board::pieces(l);
+    if !entries_in_range(b, t, n, l) || !places_in_range(b, t, n, p) {
+        return false;
+    }
     tally(b, t, l);
-    entries_in_range(b, t, n, l)
-        && places_in_range(b, t, n, p)
-        && used_agrees(b, t, n)
+    used_agrees(b, t, n)
         && spare_zero(b, t, n)
         && free_count(b, t, n) >= p as usize
         && numbers_fit(b, t, p)

@@ -25,7 +25,7 @@ fn give_up(m: &mut Memory<'_>, g: Geometry, drive: Drive, allowance: u32) -> Out
     ensures lengths { lengths_held m.new ≡ lengths_held m.old }
     ensures value { (result.answer ≡ PowerFailed (stores_alone allowance)) × (result.state ≡ lost_state g drive) × (tables_held m.new ≡ zero_tables) }
 {
-    lent::zero_tables(m);
+    lent::zero_held(m);
     Outcome {
         answer: Answer::power_failed(allowance),
         state: State::lost(g, drive),

@@ -1,7 +1,8 @@
 // The calls that may store, by name: programs choose one here, and pass on what it is lent.
 #![tactic(auto)]
 
-ghost use Rattle.lending.specs.Lending.{SameLent};
+ghost use Rattle.std.specs.Prelude.{◌≡◌};
+ghost use Rattle.lending.specs.Lending.{lengths_held, SameLent};
 
 use geometry::Settings;
 use lending::{Memory, Tables};
@@ -27,7 +28,8 @@ pub fn perform(
     bytes: &[u8],
     stores: u32,
 ) -> Outcome
-    ensures { SameLent m.new m.old }
+    ensures lent { SameLent m.new m.old }
+    ensures lengths { lengths_held m.new ≡ lengths_held m.old }
 {
     match call {
         Storing::Format => format::format(s, m, settings, stores),

@@ -5,7 +5,7 @@ ghost use Rattle.std.specs.Prelude.{◌≡◌, true, not, ℕ, ◌+◌, ◌*◌,
 ghost use Rattle.geometry.specs.Geometry.{sector_bytes, pieces_for, used_bytes, geometry_fits, entries_per_piece, branch_room, most_pieces};
 ghost use Rattle.layout.specs.Bounded.{at, all_below, list_from, is_zero};
 ghost use Rattle.layout.specs.Word.{words_of};
-ghost use Rattle.lending.specs.Lending.{lengths_held, SameLent};
+ghost use Rattle.lending.specs.Lending.{SameLengths, SameTables};
 ghost use Rattle.volume.specs.Tables.{sector_at};
 ghost use Rattle.volume.specs.Recover.{image_view, walked_log, walk_complete};
 ghost use Rattle.signed.specs.Signed.{signed_at};
@@ -13,7 +13,7 @@ ghost use Rattle.log_tables.specs.LogTables.{map_from};
 ghost use Rattle.walk.specs.Walking.{Left, branch_word_count};
 
 use geometry::Geometry;
-use lending::Memory;
+use lending::TablesMut;
 use log_tables::{agrees, fill_map};
 
 // Whether every piece is done.
@@ -47,25 +47,23 @@ fn walk_fill(image: &[u8], places: &[u32], map: &mut [u32], numbers: &mut [u32])
 }
 
 // Whether a walk from the tail takes a sector for every piece, and the tables are sound. They then stand in what was lent.
-pub fn walk_tables(m: &mut Memory<'_>, g: Geometry, tail: u32, number: u32) -> bool
+pub fn walk_tables(image: &[u8], g: Geometry, tail: u32, number: u32, t: &mut TablesMut<'_>) -> bool
     requires g_value { geometry_fits g ≡ true }
-    requires image_len { length m.old.image.now ≡ sector_bytes * g.n }
+    requires image_len { length image.now ≡ sector_bytes * g.n }
     requires le_tail { 1 ≤ tail }
-    requires tail_value { signed_at g (sector_at m.old.image.now) tail ≡ true }
-    requires map_len { length m.old.map.now ≡ g.l }
-    requires places_len { length m.old.places.now ≡ pieces_for g.l }
-    requires numbers_len { length m.old.numbers.now ≡ pieces_for g.l }
-    requires used_len { length m.old.used.now ≡ used_bytes g.n }
-    ensures lent { SameLent m.new m.old }
-    ensures image { m.new.image.now ≡ m.old.image.now }
-    ensures lengths { lengths_held m.new ≡ lengths_held m.old }
-    ensures value { (result ≡ walk_complete g (walked_log g.l (image_view g (sector_at m.old.image.now)) (record { number = number; tail = tail }))) × (result ≡ true → Left g (sector_at m.old.image.now) tail m.new.map.now m.new.places.now m.new.numbers.now m.new.used.now) }
+    requires tail_value { signed_at g (sector_at image.now) tail ≡ true }
+    requires map_len { length t.old.map.now ≡ g.l }
+    requires places_len { length t.old.places.now ≡ pieces_for g.l }
+    requires numbers_len { length t.old.numbers.now ≡ pieces_for g.l }
+    requires used_len { length t.old.used.now ≡ used_bytes g.n }
+    ensures lent { SameTables t.new t.old }
+    ensures lengths { SameLengths t.new t.old }
+    ensures value { (result ≡ walk_complete g (walked_log g.l (image_view g (sector_at image.now)) (record { number = number; tail = tail }))) × (result ≡ true → Left g (sector_at image.now) tail t.new.map.now t.new.places.now t.new.numbers.now t.new.used.now) }
 {
-    let image = &mut *m.image;
-    let map = &mut *m.map;
-    let places = &mut *m.places;
-    let numbers = &mut *m.numbers;
-    let used = &mut *m.used;
+    let map = &mut *t.map;
+    let places = &mut *t.places;
+    let numbers = &mut *t.numbers;
+    let used = &mut *t.used;
     places.fill(0);
     walk_steps::walk_from(places, image, g, tail);
     if !all_taken(places) {

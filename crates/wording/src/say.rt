@@ -108,9 +108,11 @@ pub fn say_refusal(rt: &impl Print, call: Call, answer: Answer) {
 }
 
 fn say_way(rt: &impl Print, answer: Answer) {
-    match answer {
-        Answer::Walked { .. } => say(rt, b"; walk"),
-        _ => say(rt, b"; scan"),
+    // By the number that `way` promises, so that the word is held by its clause.
+    if answer.way() == 1 {
+        say(rt, b"; walk");
+    } else {
+        say(rt, b"; scan");
     }
     say_count(rt, b"; sectors read ", answer.sectors_read());
 }

@@ -23,8 +23,8 @@ store_all-power-requires c =
       image_len = s.image;
     }
 
-pub fresh_tables-requires : goal.fresh_tables-requires
-fresh_tables-requires c =
+pub fresh_held-requires : goal.fresh_held-requires
+fresh_held-requires c =
     let s = volume_passed _ _ _ _ _ _ c.volume-g.result c.volume-g.ensures c.requires in record {
       pieces_value = c.pieces_for-pieces.ensures;
       pieces_le_most_pieces = omega arith;
@@ -41,17 +41,17 @@ overflow_sub-stores c =
 pub returns-in-None-clause-value : goal.returns-in-None-clause-value
 returns-in-None-clause-value c =
     format_cut_lem _ c.volume-g.result _ _ _ _ _ _ _ _ _
-    _ _ (ap (λ (x : Lengths). x.image) c.zero_tables.ensures.lengths ∙ c.store_all-power.auto.image) (ap (λ (x : Lengths). x.map) c.zero_tables.ensures.lengths)
-    (ap (λ (x : Lengths). x.places) c.zero_tables.ensures.lengths) (ap (λ (x : Lengths). x.numbers) c.zero_tables.ensures.lengths)
-    (ap (λ (x : Lengths). x.used) c.zero_tables.ensures.lengths) (ap sector_at c.zero_tables.ensures.image ∙ c.store_all-power.ensures.1)
+    _ _ (ap (λ (x : Lengths). x.image) c.zero_held.ensures.lengths ∙ c.store_all-power.auto.image) (ap (λ (x : Lengths). x.map) c.zero_held.ensures.lengths)
+    (ap (λ (x : Lengths). x.places) c.zero_held.ensures.lengths) (ap (λ (x : Lengths). x.numbers) c.zero_held.ensures.lengths)
+    (ap (λ (x : Lengths). x.used) c.zero_held.ensures.lengths) (ap sector_at c.zero_held.ensures.image ∙ c.store_all-power.ensures.1)
     c.volume-g.ensures c.power_failed.result c.lost.result c.power_failed.ensures c.lost.ensures
-    (sym c.in-None.is ∙ c.store_all-power.ensures.0) c.zero_tables.ensures.tables
+    (sym c.in-None.is ∙ c.store_all-power.ensures.0) c.zero_held.ensures.tables
 
 pub returns-in-Some-clause-value : goal.returns-in-Some-clause-value
 returns-in-Some-clause-value c =
     format_whole _ c.volume-g.result _ _ _ _ _ _ _ _
-    _ _ _ (ap (λ (x : Lengths). x.image) c.fresh_tables.ensures.lengths ∙ c.store_all-power.auto.image) (ap (λ (x : Lengths). x.map) c.fresh_tables.ensures.lengths)
-    (ap (λ (x : Lengths). x.places) c.fresh_tables.ensures.lengths) (ap (λ (x : Lengths). x.numbers) c.fresh_tables.ensures.lengths)
-    (ap (λ (x : Lengths). x.used) c.fresh_tables.ensures.lengths) (ap sector_at c.fresh_tables.ensures.image ∙ c.store_all-power.ensures.1)
+    _ _ _ (ap (λ (x : Lengths). x.image) c.fresh_held.ensures.lengths ∙ c.store_all-power.auto.image) (ap (λ (x : Lengths). x.map) c.fresh_held.ensures.lengths)
+    (ap (λ (x : Lengths). x.places) c.fresh_held.ensures.lengths) (ap (λ (x : Lengths). x.numbers) c.fresh_held.ensures.lengths)
+    (ap (λ (x : Lengths). x.used) c.fresh_held.ensures.lengths) (ap sector_at c.fresh_held.ensures.image ∙ c.store_all-power.ensures.1)
     c.volume-g.ensures c.accepted.result c.running.result c.pieces_for-pieces.result _ c.pieces_for-pieces.ensures c.accepted.ensures
-    c.running.ensures (sym c.in-Some.is ∙ c.store_all-power.ensures.0) c.fresh_tables.ensures.tables
+    c.running.ensures (sym c.in-Some.is ∙ c.store_all-power.ensures.0) c.fresh_held.ensures.tables

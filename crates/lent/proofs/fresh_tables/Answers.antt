@@ -15,6 +15,6 @@ mark_first-requires c = record {
 
 pub returns-clause-tables : goal.returns-clause-tables
 returns-clause-tables c =
-    fresh_tables c.args.l _ _ _ _ (length c.args.m.now.map.now) c.args.pieces c.requires.pieces_value (c.fill.ensures.after (λ y e. e))
+    fresh_tables c.args.l _ _ _ _ (length c.args.t.now.map.now) c.args.pieces c.requires.pieces_value (c.fill.ensures.after (λ y e. e))
     (c.count_up.ensures ∙ ap (λ (x : ℕ). list_from suc 0 x) c.requires.places_len) (c.count_up-2.ensures ∙ ap (λ (x : ℕ). list_from suc 0 x) c.requires.numbers_len)
     c.mark_first.ensures

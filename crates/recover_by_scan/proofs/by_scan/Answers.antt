@@ -43,10 +43,10 @@ pub returns-in-Err-clause-value : goal.returns-in-Err-clause-value
 returns-in-Err-clause-value g c =
     scan_missing _ _ _ _ _ _ _ _ c.scan_held.new.m.map.now c.scan_held.new.m.places.now c.scan_held.new.m.numbers.now c.scan_held.new.m.used.now
     (ap (λ (x : Lengths). x.map) c.scan_held.ensures.lengths) (ap (λ (x : Lengths). x.places) c.scan_held.ensures.lengths) (ap (λ (x : Lengths). x.numbers) c.scan_held.ensures.lengths) (ap (λ (x : Lengths). x.used) c.scan_held.ensures.lengths)
-    c.scan_held.result c.scan_held.ensures.value.0 _ _ _ _ _ (c.zero_tables.ensures.image ∙ c.scan_held.ensures.image) (ap (λ (x : Lengths). x.map) c.zero_tables.ensures.lengths)
-    (ap (λ (x : Lengths). x.places) c.zero_tables.ensures.lengths) (ap (λ (x : Lengths). x.numbers) c.zero_tables.ensures.lengths)
-    (ap (λ (x : Lengths). x.used) c.zero_tables.ensures.lengths)
-    _ c.in-Err.is c.lost.result c.lost.ensures c.zero_tables.ensures.tables
+    c.scan_held.result c.scan_held.ensures.value.0 _ _ _ _ _ (c.zero_held.ensures.image ∙ c.scan_held.ensures.image) (ap (λ (x : Lengths). x.map) c.zero_held.ensures.lengths)
+    (ap (λ (x : Lengths). x.places) c.zero_held.ensures.lengths) (ap (λ (x : Lengths). x.numbers) c.zero_held.ensures.lengths)
+    (ap (λ (x : Lengths). x.used) c.zero_held.ensures.lengths)
+    _ c.in-Err.is c.lost.result c.lost.ensures c.zero_held.ensures.tables
 
 pub returns-in-Ok-clause-value : goal.returns-in-Ok-clause-value
 returns-in-Ok-clause-value g c =

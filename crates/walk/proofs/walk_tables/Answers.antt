@@ -21,16 +21,16 @@ walk_from-requires c = record {
 pub returns-then-not-all_taken-clause-value : goal.returns-then-not-all_taken-clause-value
 returns-then-not-all_taken-clause-value c =
     let s = sectors_some c.args.g c.requires.g_value in
-    let pos : 0 < c.args.g.n = omega arith in walk_fails c.args.g (sector_at c.args.m.now.image.now) c.args.tail c.args.number pos _ c.walk_from.ensures c.all_taken.result c.all_taken.ensures (ap not c.if-not-all_taken.true) _ _ _
+    let pos : 0 < c.args.g.n = omega arith in walk_fails c.args.g (sector_at c.args.image.now) c.args.tail c.args.number pos _ c.walk_from.ensures c.all_taken.result c.all_taken.ensures (ap not c.if-not-all_taken.true) _ _ _
 
 pub walk_fill-requires : goal.walk_fill-requires
 walk_fill-requires c =
     let s = sectors_some c.args.g c.requires.g_value in
     let pos : 0 < c.args.g.n = omega arith in
-    let k = places_long c.args.g (sector_at c.args.m.now.image.now) c.args.tail c.args.number pos _ c.walk_from.ensures in record {
+    let k = places_long c.args.g (sector_at c.args.image.now) c.args.tail c.args.number pos _ c.walk_from.ensures in record {
       map_len_bound = omega arith;
       numbers_in_bounds = omega arith;
-      by_index = λ j h. let b = place_below c.args.g (sector_at c.args.m.now.image.now) c.args.tail c.args.number pos _ c.walk_from.ensures j (omega arith) in omega arith;
+      by_index = λ j h. let b = place_below c.args.g (sector_at c.args.image.now) c.args.tail c.args.number pos _ c.walk_from.ensures j (omega arith) in omega arith;
     }
 
 pub log_agrees-requires : goal.log_agrees-requires
@@ -39,7 +39,7 @@ log_agrees-requires c =
     let pos : 0 < c.args.g.n = omega arith in record {
       g_value = c.requires.g_value;
       map_len = c.walk_fill.auto.map ∙ c.requires.map_len;
-      places_len = places_long c.args.g (sector_at c.args.m.now.image.now) c.args.tail c.args.number pos _ c.walk_from.ensures;
+      places_len = places_long c.args.g (sector_at c.args.image.now) c.args.tail c.args.number pos _ c.walk_from.ensures;
       numbers_len = c.walk_fill.auto.numbers ∙ c.requires.numbers_len;
       used_len = c.requires.used_len;
     }
@@ -48,5 +48,5 @@ pub returns-clause-value : goal.returns-clause-value
 returns-clause-value c =
     let s = sectors_some c.args.g c.requires.g_value in
     let pos : 0 < c.args.g.n = omega arith in
-    walk_decides c.args.g (sector_at c.args.m.now.image.now) c.args.tail c.args.number pos _ c.walk_from.ensures c.all_taken.result c.all_taken.ensures (ap not c.if-not-all_taken.false) _ _ _ _ c.requires.map_len c.requires.numbers_len c.walk_fill.ensures.0 c.walk_fill.ensures.1
+    walk_decides c.args.g (sector_at c.args.image.now) c.args.tail c.args.number pos _ c.walk_from.ensures c.all_taken.result c.all_taken.ensures (ap not c.if-not-all_taken.false) _ _ _ _ c.requires.map_len c.requires.numbers_len c.walk_fill.ensures.0 c.walk_fill.ensures.1
     _ c.log_agrees.result c.log_agrees.ensures.0 c.log_agrees.ensures.1

@@ -1,0 +1,2 @@
+-- What every storing call keeps of what is lent.
+pub mod Kept
